@@ -1,0 +1,113 @@
+-- Signed numbers in the code: each is read back from its bits, and what two of them give fits twice the width.
+use mathlib.Core.Path.{_≡_, sym, ap, _∙_}
+use mathlib.Core.Bool.{true, false}
+use Prim.Native.Nat.{suc, _<_}
+use native.Mathlib.Omega.{arith}
+use lib.Dec.{eqb, lit<}
+use lib.IntN.{ℤ, pos, negsuc, natAbs, negℤ, ℤ-discrete, _+ℤ_, _-ℤ_, _*ℤ_}
+use lib.Signed.{ltZ, quotZ}
+use mir.Syntax.{Width, w32, w64}
+use mir.Val.{SFits, toZ, ofZ}
+use mir.ValLaws.{toZ-ofZ}
+use borrow.Author.Tests.{ltb-true, ltb-false, lt-leb, le-leb, eq-eqb, ne-eqb}
+use Rattle.values.specs.Value.{top, unit, inRange, equalTo}
+use Rattle.values.specs.Numbers.{clash, abs-neg, abs-add, product-abs, quotient-abs, fits-abs, abs32, abs-zero}
+use Rattle.values.specs.ValueLaws.{same-equal, other-equal}
+
+-- ---- reading back
+
+pub back : (w : Width) {z : ℤ} → SFits w z → toZ w (ofZ w z) ≡ z
+back w {z} h = toZ-ofZ w z h
+
+pub widened : {z : ℤ} → SFits w32 z → SFits w64 z
+widened {z} h = fits-abs w64 z (omega (arith, abs32 h))
+
+-- an i32 may be cast to an i64
+pub cast64 : {z : ℤ} → SFits w32 z → SFits w64 (toZ w32 (ofZ w32 z))
+cast64 h = rw (back w32 h) (widened h)
+
+-- an i32 after a cast to an i64
+abbrev pub Wide : ℤ → ℤ
+Wide z = toZ w64 (ofZ w64 (toZ w32 (ofZ w32 z)))
+
+pub wide : {z : ℤ} → SFits w32 z → Wide z ≡ z
+wide {z} h = ap (λ (y : ℤ). toZ w64 (ofZ w64 y)) (back w32 h) ∙ back w64 (widened h)
+
+-- ---- two i32, worked with as i64
+
+module _ {a b : ℤ} (ha : SFits w32 a) (hb : SFits w32 b) where
+  pub sum-fits : SFits w64 (a +ℤ b)
+  sum-fits = fits-abs w64 _ (omega (arith, abs32 ha, abs32 hb, abs-add a b))
+
+  pub difference-fits : SFits w64 (a -ℤ b)
+  difference-fits = fits-abs w64 _ (omega (arith, abs32 ha, abs32 hb, abs-add a (negℤ b), abs-neg b))
+
+  pub product-fits : SFits w64 (a *ℤ b)
+  product-fits = fits-abs w64 _ (omega (arith, product-abs a b 2147483648 2147483648 (abs32 ha) (abs32 hb)))
+
+  pub product-quotient-fits : (k : ℤ) → SFits w64 (quotZ (a *ℤ b) k)
+  product-quotient-fits k = fits-abs w64 _ (omega (arith, quotient-abs (a *ℤ b) k, product-abs a b 2147483648 2147483648 (abs32 ha) (abs32 hb)))
+
+  -- the same where the product is read back before it is divided
+  pub cut-fits : (k : ℤ) → SFits w64 (quotZ (toZ w64 (ofZ w64 (a *ℤ b))) k)
+  cut-fits k = rw (back w64 product-fits) (product-quotient-fits k)
+
+  -- an operation whose result fits may be done on the widened numbers, and gives what it gives on the numbers
+  pub work-fits : (f : ℤ → ℤ → ℤ) → SFits w64 (f a b) → SFits w64 (f (Wide a) (Wide b))
+  work-fits f h = rw (wide ha, wide hb) h
+
+  pub worked : (f : ℤ → ℤ → ℤ) → SFits w64 (f a b) → toZ w64 (ofZ w64 (f (Wide a) (Wide b))) ≡ f a b
+  worked f h = rw (wide ha, wide hb) (back w64 h)
+
+pub zero-fits : SFits w32 (pos 0)
+zero-fits = record { sfits = lit< tt }
+
+pub unit-fits : SFits w32 (pos unit)
+unit-fits = record { sfits = lit< tt }
+
+-- ---- equality, of the bits
+
+pub same-bits : (w : Width) {a b : ℤ} → SFits w a → SFits w b → ofZ w a ≡ ofZ w b → a ≡ b
+same-bits w ha hb e = sym (back w ha) ∙ ap (toZ w) e ∙ back w hb
+
+pub equal-bits : {a b : ℤ} → SFits w32 a → SFits w32 b → eqb (ofZ w32 a) (ofZ w32 b) ≡ equalTo a b
+equal-bits {a} {b} ha hb = by-equality (ℤ-discrete a b)
+  where
+    by-equality : Dec (a ≡ b) → eqb (ofZ w32 a) (ofZ w32 b) ≡ equalTo a b
+    by-equality (yes e) = eq-eqb _ _ (ap (ofZ w32) e) ∙ sym (same-equal e)
+    by-equality (no f) = ne-eqb _ _ (λ e. f (same-bits w32 ha hb e)) ∙ sym (other-equal a b f)
+
+pub bits-equal : {a b : ℤ} → SFits w32 a → SFits w32 b → ofZ w32 a ≡ ofZ w32 b → equalTo a b ≡ true
+bits-equal ha hb e = same-equal (same-bits w32 ha hb e)
+
+pub bits-other : (a b : ℤ) → (ofZ w32 a ≡ ofZ w32 b → ⊥) → equalTo a b ≡ false
+bits-other a b f = other-equal a b (λ e. f (ap (ofZ w32) e))
+
+-- a divisor, by the test of its bits
+
+pub zero-bits : {b : ℤ} → SFits w32 b → ofZ w32 b ≡ 0 → eqb (natAbs b) 0 ≡ true
+zero-bits {b} h e = eq-eqb (natAbs b) 0 (ap natAbs (same-bits w32 h zero-fits e))
+
+pub nonzero-bits : (b : ℤ) → (ofZ w32 b ≡ 0 → ⊥) → eqb (natAbs b) 0 ≡ false
+nonzero-bits b f = ne-eqb (natAbs b) 0 (λ e. f (ap (ofZ w32) (abs-zero b e)))
+
+pub above-zero : {b : ℤ} → SFits w32 b → (ofZ w32 b ≡ 0 → ⊥) → 0 < ofZ w64 (toZ w32 (ofZ w32 b))
+above-zero {b = pos n} h f = rw (back w32 h) (omega (arith, f))
+above-zero {b = negsuc n} h f = let l : n < 2147483648 = h .sfits in rw (back w32 h) (omega arith)
+
+-- ---- the range, by the two tests of the code
+
+pub too-low : (z : ℤ) → ltZ z (negsuc 999999999) ≡ true → inRange z ≡ false
+unfolding inRange
+too-low (pos n) h = clash (cc)
+too-low (negsuc n) h = lt-leb (suc n) top (omega (arith, ltb-true 999999999 n h))
+
+pub too-high : (z : ℤ) → ltZ (pos 1000000000) z ≡ true → inRange z ≡ false
+unfolding inRange
+too-high (pos n) h = lt-leb _ _ (ltb-true 1000000000 n h)
+too-high (negsuc n) h = clash (cc)
+
+pub between : (z : ℤ) → ltZ z (negsuc 999999999) ≡ false → ltZ (pos 1000000000) z ≡ false → inRange z ≡ true
+unfolding inRange
+between (pos n) h k = le-leb _ _ (ltb-false 1000000000 n k)
+between (negsuc n) h k = le-leb (suc n) top (omega (arith, ltb-false 999999999 n h))
