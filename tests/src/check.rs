@@ -1,0 +1,167 @@
+//! The checks of one line, codes 4 to 10, lowest first. Loading and soundness both use them.
+
+use crate::code::Code;
+use crate::parse;
+use crate::token::{Keyword, Name, Token};
+use crate::tree::{Action, Expression, Line, Variable};
+use std::ops::RangeInclusive;
+
+/// Brackets `(` that may be open at once.
+const DEPTH: usize = 8;
+/// Actions that a line may have.
+const ACTIONS: usize = 8;
+/// The numbers a line may have, and LOCK and UNLOCK may name.
+const LINE_NUMBERS: RangeInclusive<i64> = 1..=255;
+
+/// The tree of a line, or its lowest code of 4 to 10.
+pub fn line(tokens: &[Token]) -> Result<Line, Code> {
+    demand(depth(tokens) <= DEPTH, Code::TooDeep)?;
+    let line = parse::line(tokens).ok_or(Code::NotInGrammar)?;
+    demand(kinds_agree(&line), Code::KindsConfused)?;
+    demand(tokens.iter().all(number_fits) && ranges_kept(&line), Code::NumberOutOfRange)?;
+    demand(places_allowed(&line), Code::PlaceNotAllowed)?;
+    demand(m_allowed(&line), Code::MNotAllowed)?;
+    demand(line.actions.len() <= ACTIONS, Code::TooManyActions)?;
+    Ok(line)
+}
+
+fn demand(holds: bool, code: Code) -> Result<(), Code> {
+    if holds {
+        Ok(())
+    } else {
+        Err(code)
+    }
+}
+
+/// The most brackets `(` open anywhere in the line; a `)` with none open counts nothing.
+fn depth(tokens: &[Token]) -> usize {
+    let mut open: usize = 0;
+    let mut most = 0;
+    for token in tokens {
+        match token {
+            Token::Open => open += 1,
+            Token::Close => open = open.saturating_sub(1),
+            _ => {}
+        }
+        most = most.max(open);
+    }
+    most
+}
+
+#[derive(Clone, Copy, PartialEq, Eq)]
+enum Kind {
+    Number,
+    YesNo,
+}
+
+fn kinds_agree(line: &Line) -> bool {
+    let condition = line.condition.iter().all(|(_, condition)| is(condition, Kind::YesNo));
+    condition && line.actions.iter().filter_map(right_side).all(|side| is(side, Kind::Number))
+}
+
+/// The kind of an expression, None if kinds are confused in it.
+fn kind(expression: &Expression) -> Option<Kind> {
+    let (agrees, given) = match expression {
+        Expression::Number(_) | Expression::Variable(_) => (true, Kind::Number),
+        Expression::Truth(_) => (true, Kind::YesNo),
+        Expression::Bracketed(inner) => return kind(inner),
+        Expression::Negative(inner) => (is(inner, Kind::Number), Kind::Number),
+        Expression::Not(inner) => (is(inner, Kind::YesNo), Kind::YesNo),
+        Expression::Series(first, rest) => {
+            (is(first, Kind::Number) && rest.iter().all(|(_, member)| is(member, Kind::Number)), Kind::Number)
+        }
+        Expression::Compared(left, _, right) => {
+            (is(left, Kind::Number) && is(right, Kind::Number), Kind::YesNo)
+        }
+        Expression::Joined(_, members) => (members.iter().all(|member| is(member, Kind::YesNo)), Kind::YesNo),
+    };
+    agrees.then_some(given)
+}
+
+fn is(expression: &Expression, taken: Kind) -> bool {
+    kind(expression) == Some(taken)
+}
+
+fn number_fits(token: &Token) -> bool {
+    match token {
+        Token::Number(number) => number.fits,
+        _ => true,
+    }
+}
+
+fn ranges_kept(line: &Line) -> bool {
+    let mut kept = LINE_NUMBERS.contains(&line.number);
+    let mut see = |variable: Variable| kept &= index_in_range(variable);
+    if let Some((_, condition)) = &line.condition {
+        condition.each_variable(&mut see);
+    }
+    for action in &line.actions {
+        if let Action::Assign(variable, _) = action {
+            see(*variable);
+        }
+        if let Some(side) = right_side(action) {
+            side.each_variable(&mut see);
+        }
+    }
+    kept && line.actions.iter().all(argument_in_range)
+}
+
+fn index_in_range(variable: Variable) -> bool {
+    match variable.name {
+        Name::In | Name::Out => (1..=16).contains(&variable.index),
+        Name::Ina => (1..=8).contains(&variable.index),
+        Name::Im => true,
+        Name::Marker | Name::Param => (0..=31).contains(&variable.index),
+        Name::R => (0..=163).contains(&variable.index),
+        Name::Timer => (0..=7).contains(&variable.index),
+        Name::Fifo(_) => (0..=4).contains(&variable.index),
+    }
+}
+
+fn argument_in_range(action: &Action) -> bool {
+    match action {
+        Action::M(number) => (0..=99).contains(number),
+        Action::Setal(number) => (65000..=69999).contains(number),
+        Action::Lock(number) | Action::Unlock(number) => LINE_NUMBERS.contains(number),
+        Action::Assign(..) | Action::Move(..) => true,
+    }
+}
+
+/// Nothing read-only is written, and FIFO [0] is read only where it may be.
+fn places_allowed(line: &Line) -> bool {
+    let condition = line.condition.iter().all(|(_, condition)| !reads_removal(condition));
+    condition
+        && line.actions.iter().all(|action| match action {
+            Action::Assign(variable, Expression::Variable(_)) => writable(*variable),
+            Action::Assign(variable, side) => writable(*variable) && !reads_removal(side),
+            Action::Move(_, _, side) => !reads_removal(side),
+            _ => true,
+        })
+}
+
+fn writable(variable: Variable) -> bool {
+    match variable.name {
+        Name::In | Name::Ina | Name::Im => false,
+        Name::Out | Name::Marker | Name::Param | Name::Timer => true,
+        Name::R => variable.index < 100,
+        Name::Fifo(_) => variable.index == 0 || variable.index == 4,
+    }
+}
+
+fn reads_removal(expression: &Expression) -> bool {
+    let mut found = false;
+    expression.each_variable(&mut |variable| found |= variable.is_removal());
+    found
+}
+
+fn m_allowed(line: &Line) -> bool {
+    let has_m = line.actions.iter().any(|action| matches!(action, Action::M(_)));
+    !has_m || matches!(line.keyword(), Some(Keyword::When | Keyword::Every))
+}
+
+fn right_side(action: &Action) -> Option<&Expression> {
+    match action {
+        Action::Assign(_, side) | Action::Move(_, _, side) => Some(side),
+        _ => None,
+    }
+}

@@ -1,0 +1,149 @@
+//! The control as the host sees it: load, beat, lock, unlock, cancel, reset.
+
+use crate::beat::{set_lock, Beat, Inputs, Mode};
+use crate::code::Code;
+use crate::load::{load, Refusal};
+use crate::order;
+use crate::seen::Seen;
+use crate::set::Set;
+use crate::slip::Slip;
+use crate::state::{LineState, State, Timer};
+use crate::token::Scope;
+use crate::value::{in_range, Value};
+
+/// Bytes that the order buffer must have.
+pub const BUFFER: usize = 2048;
+/// Numbers that the host lends to a beat.
+pub const NUMBERS: usize = 14;
+
+#[derive(Clone)]
+pub struct Control {
+    pub set: Set,
+    pub state: State,
+    pub slip: Slip,
+    pub seen: Seen,
+}
+
+/// The answer of a beat; with any code but success there are no orders and no line acted.
+#[derive(Clone, Copy, PartialEq, Eq, Debug)]
+pub struct Answer {
+    pub code: Code,
+    pub orders: usize,
+    pub acted: u32,
+}
+
+impl Control {
+    /// A control with an empty set, at power-on.
+    pub fn new(slip: Slip, seen: Seen) -> Control {
+        Control { set: Set::new(&[], true), state: State::power_on(), slip, seen }
+    }
+
+    /// Loads set text. The state is that of power-on afterwards; on refusal the set is empty.
+    pub fn load(&mut self, text: &[u8]) -> Result<(), Refusal> {
+        self.state = State::power_on();
+        self.set = Set::new(&[], true);
+        self.set = load(text, self.slip)?;
+        Ok(())
+    }
+
+    /// One beat. Orders go to the front of the buffer; with a code nothing changes.
+    pub fn beat(&mut self, mode: Mode, word: u16, numbers: &[i32], buffer: &mut [u8]) -> Answer {
+        self.work_beat(mode, word, numbers, buffer).unwrap_or_else(|code| Answer {
+            code,
+            orders: 0,
+            acted: 0,
+        })
+    }
+
+    fn work_beat(
+        &mut self,
+        mode: Mode,
+        word: u16,
+        numbers: &[i32],
+        buffer: &mut [u8],
+    ) -> Result<Answer, Code> {
+        self.demand_sound()?;
+        if buffer.len() < BUFFER {
+            return Err(Code::BufferTooShort);
+        }
+        if numbers.len() != NUMBERS || !numbers.iter().all(|number| in_range(Value::from(*number))) {
+            return Err(Code::BadNumbers);
+        }
+        let inputs = Inputs { mode, word, numbers };
+        let mut beat = Beat::new(self.set.lines()?, &self.state, &inputs, self.slip, &mut self.seen);
+        let result = beat.work(&self.set);
+        let (state, orders, acted) = (beat.state, beat.orders, beat.acted);
+        if result.is_ok() || self.slip == Slip::WritesKeptAtAlarm {
+            self.state = state;
+        }
+        result?;
+        for (place, order) in buffer.chunks_exact_mut(order::SIZE).zip(&orders) {
+            place.copy_from_slice(&order.bytes());
+        }
+        Ok(Answer { code: Code::Success, orders: orders.len(), acted })
+    }
+
+    pub fn lock(&mut self, number: u8) -> Code {
+        let slip = self.slip;
+        self.on_line(number, |line| set_lock(line, true, slip))
+    }
+
+    pub fn unlock(&mut self, number: u8) -> Code {
+        let slip = self.slip;
+        self.on_line(number, |line| set_lock(line, false, slip))
+    }
+
+    pub fn cancel(&mut self, number: u8) -> Code {
+        self.on_line(number, cancel)
+    }
+
+    /// Cancels ID lines, frees IDS lines, clears markers, parameters and timers.
+    pub fn reset(&mut self) -> Code {
+        if let Err(code) = self.demand_sound() {
+            return code;
+        }
+        for (line, known) in self.set.lines().into_iter().flatten().zip(&mut self.state.lines) {
+            match line.scope {
+                Scope::Id => cancel(known),
+                Scope::Ids => *known = LineState { cancelled: known.cancelled, ..LineState::default() },
+            }
+        }
+        self.state.markers.fill(0);
+        self.state.params.fill(0);
+        self.state.timers.fill(Timer::default());
+        Code::Success
+    }
+
+    /// A host call that names a line.
+    fn on_line(&mut self, number: u8, change: impl FnOnce(&mut LineState)) -> Code {
+        match self.find_line(number) {
+            Ok(rank) => {
+                change(&mut self.state.lines[rank]);
+                Code::Success
+            }
+            Err(code) => code,
+        }
+    }
+
+    /// The rank of a line that is in the set and not cancelled.
+    fn find_line(&self, number: u8) -> Result<usize, Code> {
+        self.demand_sound()?;
+        let rank = self.set.lines()?.iter().position(|line| line.number == i64::from(number));
+        rank.filter(|rank| !self.state.lines[*rank].cancelled).ok_or(Code::NoSuchLine)
+    }
+
+    /// Code 22 unless set and state are sound.
+    fn demand_sound(&self) -> Result<(), Code> {
+        let lines = self.set.lines()?.len();
+        if self.state.is_sound(lines) {
+            Ok(())
+        } else {
+            Err(Code::NotSound)
+        }
+    }
+}
+
+/// Cancelling clears the line's lock and memory.
+fn cancel(line: &mut LineState) {
+    *line = LineState { cancelled: true, ..LineState::default() };
+}

@@ -1,0 +1,113 @@
+//! Counts what the random inputs reach, so that a hole in the generator shows.
+
+use crate::control::Control;
+use crate::generate;
+use crate::report::Report;
+use crate::runner::{work, Form};
+use crate::seen::Seen;
+use crate::slip::Slip;
+use crate::text;
+use std::collections::BTreeMap;
+use std::ops::Range;
+
+const ALARMS: [u8; 5] = [30, 31, 32, 33, 34];
+const HOST_FORMS: [&str; 26] = [
+    "A", "M", "B", "L", "U", "C", "R", "N", "K", "G", "D", "T", "S N", "S I", "S C", "S X", "V O", "V M",
+    "V P", "V R", "V T", "V U", "V F", "V L", "V C", "V E",
+];
+
+/// How often each thing occurred, by name.
+pub struct Coverage {
+    counts: BTreeMap<String, u64>,
+}
+
+impl Coverage {
+    /// What these seeds reach in both forms.
+    pub fn of(seeds: Range<u64>) -> Coverage {
+        let mut coverage = Coverage { counts: expected().into_iter().map(|name| (name, 0)).collect() };
+        for form in Form::BOTH {
+            let mut control = Control::new(Slip::None, Seen::counting());
+            for seed in seeds.clone() {
+                coverage.input(form, &generate::input(form, seed), &mut control);
+            }
+            for (event, count) in control.seen.counts() {
+                *coverage.counts.entry(event.into()).or_default() += count;
+            }
+        }
+        coverage
+    }
+
+    fn note(&mut self, name: String) {
+        *self.counts.entry(name).or_default() += 1;
+    }
+
+    fn input(&mut self, form: Form, input: &[u8], control: &mut Control) {
+        let mut output = Vec::new();
+        work(form, input, control, &mut output).expect("writing to memory");
+        let script: Vec<&[u8]> = text::lines(text::split_at_star(input).1).collect();
+        let output = String::from_utf8_lossy(&output);
+        for line in output.lines() {
+            self.output_line(form, line, &script);
+        }
+        if form == Form::Synrun && !output.starts_with("L ") {
+            self.note("load 0".into());
+        }
+        if form == Form::Host {
+            script.iter().for_each(|line| self.note(format!("host line {}", host_form(line))));
+        }
+    }
+
+    fn output_line(&mut self, form: Form, line: &str, script: &[&[u8]]) {
+        let fields: Vec<&str> = line.split(' ').collect();
+        let place = fields.get(1).and_then(|place| place.parse::<usize>().ok()).unwrap_or(0);
+        match fields[0] {
+            "L" => self.note(format!("load {}", fields[1])),
+            "C" => self.note(format!("{} beat {}", form.name(), fields[2])),
+            "H" => self.note(format!("host call {} {}", host_form(script[place - 1]), fields[2])),
+            "E" | "END" => self.note(format!("{} ends with {}", form.name(), fields[0])),
+            _ => {}
+        }
+    }
+
+    /// Prints every count.
+    pub fn print(&self) {
+        for (name, count) in &self.counts {
+            println!("{count:>10}  {name}");
+        }
+    }
+
+    /// A test for each name: it occurred.
+    pub fn test(&self, report: &mut Report) {
+        report.part();
+        for (name, count) in &self.counts {
+            report.test(*count > 0, || format!("no seed reaches: {name}"));
+        }
+    }
+}
+
+/// The letter of a host line, for V and S with the next one.
+fn host_form(line: &[u8]) -> String {
+    let line = String::from_utf8_lossy(line);
+    let mut fields = line.split(' ');
+    let first = fields.next().unwrap_or("");
+    match (first, fields.next()) {
+        ("V" | "S", Some(second)) => format!("{first} {second}"),
+        _ => first.into(),
+    }
+}
+
+/// Everything that can occur outside the beats.
+fn expected() -> Vec<String> {
+    let mut names: Vec<String> = (0..=12).map(|code| format!("load {code}")).collect();
+    names.extend([0, 21].iter().chain(&ALARMS).map(|code| format!("synrun beat {code}")));
+    names.extend([0, 20, 21, 22].iter().chain(&ALARMS).map(|code| format!("host beat {code}")));
+    for call in ["L", "U", "C"] {
+        names.extend([0, 22, 40].map(|code| format!("host call {call} {code}")));
+    }
+    names.extend([0, 22].map(|code| format!("host call R {code}")));
+    names.extend(HOST_FORMS.iter().map(|form| format!("host line {form}")));
+    for form in Form::BOTH {
+        names.extend(["E", "END"].map(|end| format!("{} ends with {end}", form.name())));
+    }
+    names
+}

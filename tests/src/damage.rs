@@ -1,0 +1,84 @@
+//! Damage: raw values put into state and set, as a host with a bad memory would give them.
+
+use crate::control::Control;
+use crate::host_line::{indices, HostLine, PLACE_LETTERS};
+use crate::set::{plain, scope_token, HEAD};
+use crate::state::State;
+use crate::token::{Number, Token};
+use crate::value::{Value, UNIT};
+
+/// Puts a raw value into set or state. None if the set has no such line or token.
+pub fn damage(control: &mut Control, line: &HostLine) -> Option<()> {
+    match *line {
+        HostLine::Place { letter, index, value } => put(&mut control.state, letter, index, value),
+        HostLine::LineNumber { rank, number } => {
+            let value = number * UNIT;
+            put_token(control, rank, HEAD - 1, Token::Number(Number { value, pointed: false, fits: true }))?;
+        }
+        HostLine::LineScope { rank, ids } => put_token(control, rank, 0, scope_token(ids))?,
+        HostLine::LineCount(lines) => control.set.damage(|_, count| *count = lines),
+        HostLine::SwapLines(first, second) => {
+            let lines = control.set.written().len();
+            if first >= lines || second >= lines {
+                return None;
+            }
+            control.set.damage(|written, _| written.swap(first, second));
+        }
+        HostLine::Token { rank, place, token } => put_token(control, rank, HEAD + place, plain(token))?,
+        _ => return None,
+    }
+    Some(())
+}
+
+fn put_token(control: &mut Control, rank: usize, place: usize, token: Token) -> Option<()> {
+    control.set.written().get(rank)?.get(place)?;
+    control.set.damage(|written, _| written[rank][place] = token);
+    Some(())
+}
+
+fn put(state: &mut State, letter: u8, index: usize, value: i32) {
+    let raw = Value::from(value);
+    let flag = value == 1;
+    match letter {
+        b'O' => state.outputs[index - 1] = raw,
+        b'M' => state.markers[index] = raw,
+        b'P' => state.params[index] = raw,
+        b'R' => state.r[index] = raw,
+        b'T' => state.timers[index].value = raw,
+        b'U' => state.timers[index].running = flag,
+        b'F' => state.fifo_counts[index - 1] = value as usize,
+        b'L' => state.lines[index].locked = flag,
+        b'C' => state.lines[index].cancelled = flag,
+        _ => state.lines[index].memory = flag,
+    }
+}
+
+fn get(state: &State, letter: u8, index: usize) -> Value {
+    match letter {
+        b'O' => state.outputs[index - 1],
+        b'M' => state.markers[index],
+        b'P' => state.params[index],
+        b'R' => state.r[index],
+        b'T' => state.timers[index].value,
+        b'U' => Value::from(state.timers[index].running),
+        b'F' => state.fifo_counts[index - 1] as Value,
+        b'L' => Value::from(state.lines[index].locked),
+        b'C' => Value::from(state.lines[index].cancelled),
+        _ => Value::from(state.lines[index].memory),
+    }
+}
+
+/// Every place of the state that is not 0: letter, index, value.
+pub fn places(state: &State) -> Vec<(char, usize, Value)> {
+    let mut found = Vec::new();
+    for letter in PLACE_LETTERS {
+        let (first, last) = indices(*letter).unwrap_or((1, 0));
+        for index in first as usize..=last as usize {
+            let value = get(state, *letter, index);
+            if value != 0 {
+                found.push((char::from(*letter), index, value));
+            }
+        }
+    }
+    found
+}

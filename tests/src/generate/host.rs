@@ -1,0 +1,200 @@
+//! Random host sessions: beats, host calls, lent lists and buffers, damage, dumps.
+
+use super::beats::{mode, Inputs};
+use super::{random_set, RandomSet};
+use crate::load::TEXT;
+use crate::random::Random;
+
+const BUFFERS: [usize; 8] = [2048, 2048, 2047, 0, 4096, 2049, 2055, 2040];
+const LISTS: [usize; 7] = [14, 14, 14, 13, 15, 0, 32];
+const ILL_FORMED: [&str; 16] = [
+    "", "Q", "L", "L 256", "L -1", "R 1", "B A 0 4097 14", "B A 0 2048 33", "V Q 0 0", "V M 32 0", "V O 0 0",
+    "V L 0 2", "S C 1 1", "T 0 0 #", "N 1000000", "D 0",
+];
+/// Raw values around the edges of soundness.
+const RAW: [i64; 16] = [
+    0, 0, 1000, 1, 500, 2000, -1000, -1, 123_456, 999_999_998, 1_000_000_000, -1_000_000_000, 1_000_000_001,
+    -1_000_000_001, 2_147_483_647, -2_147_483_648,
+];
+const COUNTS: [i64; 8] = [0, 1, 2, 5, 15, 16, 17, 255];
+/// Tokens put in another's place; no keyword, so that no memory changes its meaning.
+const TOKENS: [&str; 26] = [
+    "DO", "TRUE", "NOT", "AND", "OR", "(", ")", "[", "]", "=", "==", "<", "+", "-", "*", "/", "0", "1",
+    "2.0", "0.5", "164", "2000000", "X", "$R", "$AC_FIFO1", "M",
+];
+
+struct Session<'a> {
+    random: &'a mut Random,
+    set: RandomSet,
+    /// The set holds the lines of the generator, so that damage can name places in them.
+    lines_known: bool,
+    inputs: Inputs,
+    script: Vec<String>,
+}
+
+pub fn session(random: &mut Random) -> Vec<u8> {
+    let set = random_set(random, 8);
+    let calls = random.between(3, 40);
+    let lines_known = is_taken(&set);
+    let mut session = Session { random, set, lines_known, inputs: Inputs::default(), script: Vec::new() };
+    for _ in 0..calls {
+        session.step();
+    }
+    session.add("D");
+    let Session { set, script, .. } = session;
+    let mut input = set.text;
+    input.extend(b"*\n");
+    input.extend(script.join("\n").as_bytes());
+    input.push(b'\n');
+    input
+}
+
+/// The set has lines, and they are surely taken when loaded.
+fn is_taken(set: &RandomSet) -> bool {
+    !set.faulty && !set.lines.is_empty() && set.text.len() <= TEXT
+}
+
+impl Session<'_> {
+    fn add(&mut self, line: impl Into<String>) {
+        self.script.push(line.into());
+    }
+
+    fn step(&mut self) {
+        match self.random.below(200) {
+            0..=99 => self.beat(),
+            100..=134 => self.host_call(),
+            135..=154 => self.add("D"),
+            155..=164 => self.lent_beat(),
+            165..=180 => self.damage_episode(),
+            181 => self.state_damage(),
+            182..=188 => self.host_call(),
+            189..=192 => self.add("K"),
+            193..=195 => self.add("G"),
+            196..=198 => self.load(),
+            _ => self.ill_formed(),
+        }
+    }
+
+    fn call(&mut self) {
+        match self.random.below(10) {
+            0..=4 => self.beat(),
+            5 => self.lent_beat(),
+            6 => self.add("R"),
+            _ => self.host_call(),
+        }
+    }
+
+    fn beat(&mut self) {
+        let line = format!("{} {}", mode(self.random), self.inputs.next(self.random, 14));
+        self.add(line);
+    }
+
+    fn lent_beat(&mut self) {
+        let buffer = self.random.pick(&BUFFERS);
+        let list = self.random.pick(&LISTS);
+        let inputs = self.inputs.next(self.random, list);
+        let (word, numbers) = inputs.split_once(' ').unwrap_or((&inputs, ""));
+        let line = format!("B {} {word} {buffer} {list} {numbers}", mode(self.random));
+        self.add(line.trim_end());
+    }
+
+    fn host_call(&mut self) {
+        let call = self.random.weighted(&[(40, "L"), (45, "U"), (10, "C"), (5, "R")]);
+        if call == "R" {
+            return self.add(call);
+        }
+        let number = match self.random.below(8) {
+            0 => self.random.between(0, 255),
+            _ if self.set.numbers.is_empty() => 1,
+            _ => self.random.pick(&self.set.numbers),
+        };
+        self.add(format!("{call} {number}"));
+    }
+
+    fn load(&mut self) {
+        let length = self.set.text.len();
+        let bytes = if self.random.chance(50) { length } else { self.random.below(length + 1) };
+        self.lines_known = bytes == length && is_taken(&self.set);
+        self.add(format!("N {bytes}"));
+    }
+
+    fn ill_formed(&mut self) {
+        if self.random.chance(20) {
+            let line = self.random.pick(&ILL_FORMED).to_string();
+            self.add(line);
+        }
+    }
+
+    /// Damage, some calls on it, and mostly the way back.
+    fn damage_episode(&mut self) {
+        self.add("K");
+        for _ in 0..self.random.between(1, 2) {
+            if self.random.chance(50) {
+                self.state_damage();
+            } else {
+                self.set_damage();
+            }
+        }
+        for _ in 0..self.random.between(1, 3) {
+            self.call();
+        }
+        self.add("D");
+        if self.random.chance(95) {
+            self.add("G");
+        }
+    }
+
+    fn state_damage(&mut self) {
+        let raw = self.random.pick(&RAW);
+        let flag = self.random.below(2) as i64;
+        let rank =
+            if self.random.chance(95) { self.random.below(self.set.lines.len().max(1)) } else { 31 } as i64;
+        let (letter, index, value) = match self.random.below(14) {
+            0 => ("O", self.random.between(1, 16), raw),
+            1..=2 => ("M", self.random.between(0, 3), raw),
+            3 => ("P", self.random.between(0, 31), raw),
+            4 => ("R", self.random.between(0, 5), raw),
+            5 => ("R", self.random.between(100, 163), raw),
+            6 => ("T", self.random.between(0, 7), raw),
+            7 => ("U", self.random.between(0, 7), flag),
+            8..=9 => ("F", self.random.between(1, 4), self.random.pick(&COUNTS)),
+            10..=11 => ("L", rank, flag),
+            12 => ("C", rank, flag),
+            _ if self.remembers(rank as usize) => ("E", rank, flag),
+            _ => ("L", rank, 1),
+        };
+        self.add(format!("V {letter} {index} {value}"));
+    }
+
+    fn set_damage(&mut self) {
+        if !self.lines_known {
+            return self.state_damage();
+        }
+        let lines = self.set.lines.len();
+        let rank = self.random.below(lines);
+        let line = match self.random.below(8) {
+            0 => format!("S N {rank} {}", self.random.between(0, 255)),
+            1 => format!("S I {rank} {}", self.random.below(2)),
+            2 => format!("S C 0 {}", self.random.pick(&[0, 1, lines - 1, lines, lines + 1, 32, 33, 255])),
+            3 => format!("S X {rank} {}", self.random.below(lines)),
+            _ => {
+                let place = self.random.below(self.body(rank).len());
+                format!("T {rank} {place} {}", self.random.pick(&TOKENS))
+            }
+        };
+        self.add(line);
+    }
+
+    /// The tokens of the line of this rank after its number.
+    fn body(&self, rank: usize) -> Vec<&str> {
+        let mut places: Vec<usize> = (0..self.set.lines.len()).collect();
+        places.sort_by_key(|place| self.set.numbers[*place]);
+        self.set.lines[places[rank]].split(' ').filter(|token| !token.is_empty()).skip(3).collect()
+    }
+
+    /// The line of this rank has a memory.
+    fn remembers(&self, rank: usize) -> bool {
+        let known = self.lines_known && rank < self.set.lines.len();
+        known && ["WHEN", "FROM", "EVERY"].contains(&self.body(rank)[0])
+    }
+}

@@ -1,0 +1,77 @@
+//! Random inputs by seed: set text with beats, and host sessions.
+
+mod beats;
+mod expression;
+mod fault;
+mod host;
+mod layout;
+mod line;
+
+use crate::random::Random;
+use crate::runner::Form;
+
+/// A random set. `faulty` says that near misses were put in.
+struct RandomSet {
+    numbers: Vec<i64>,
+    lines: Vec<String>,
+    text: Vec<u8>,
+    faulty: bool,
+}
+
+/// The input of this form that the seed gives.
+pub fn input(form: Form, seed: u64) -> Vec<u8> {
+    match form {
+        Form::Synrun => synrun_input(&mut Random::new(2 * seed)),
+        Form::Host => host::session(&mut Random::new(2 * seed + 1)),
+    }
+}
+
+fn synrun_input(random: &mut Random) -> Vec<u8> {
+    let mut input = random_set(random, 40).text;
+    if random.chance(98) {
+        let star: &[u8] = if random.chance(5) { b"*\r\n" } else { b"*\n" };
+        input.extend(star);
+        input.extend(beats::script(random));
+    }
+    if random.chance(5) {
+        fault::spoil_bytes(random, &mut input);
+    }
+    input
+}
+
+/// A set that has near misses in `percent` of a hundred.
+fn random_set(random: &mut Random, percent: usize) -> RandomSet {
+    let count = if random.chance(4) { random.below(33) } else { random.between(1, 9) as usize };
+    let numbers = distinct_numbers(random, count);
+    let mut lines: Vec<String> = numbers.iter().map(|number| line::line(random, *number, &numbers)).collect();
+    if count > 3 && random.chance(25) {
+        for (place, body) in (1..).zip(line::held_lines(random, numbers[3])) {
+            lines[place] = format!("{} = {} {body}", random.pick(&["ID", "IDS"]), numbers[place]);
+        }
+    }
+    if count > 0 && random.chance(75) {
+        lines[0] = format!("IDS = {} {}", numbers[0], line::watching_line(random, &lines[1..]));
+    }
+    let faulty = count > 0 && random.chance(percent);
+    if faulty {
+        fault::add_faults(random, &mut lines, &numbers);
+    }
+    let text = layout::set_text(random, &lines);
+    RandomSet { numbers, lines, text, faulty }
+}
+
+/// Distinct line numbers in no order, mostly small, the highest first so that a watching line comes last.
+fn distinct_numbers(random: &mut Random, count: usize) -> Vec<i64> {
+    let top = if random.chance(70) { 40 } else { 255 };
+    let mut numbers: Vec<i64> = Vec::new();
+    while numbers.len() < count {
+        let number = random.between(1, top);
+        if !numbers.contains(&number) {
+            numbers.push(number);
+        }
+    }
+    if let Some(highest) = (0..count).max_by_key(|place| numbers[*place]) {
+        numbers.swap(0, highest);
+    }
+    numbers
+}

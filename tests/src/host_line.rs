@@ -1,0 +1,149 @@
+//! A line of a host session, as HOST-SESSIONS.md describes it.
+
+use crate::beat_line::{input_word, mode, numbers, BeatLine};
+use crate::control::BUFFER;
+use crate::fields::{fields, signed, unsigned};
+use crate::token::{self, Token};
+use std::ops::RangeInclusive;
+
+/// The longest order buffer and number list that a line may ask for.
+pub const LONGEST_BUFFER: i64 = 4096;
+pub const LONGEST_LIST: i64 = 32;
+
+/// The letters of the places of the state, in the order of a dump.
+pub const PLACE_LETTERS: &[u8] = b"OMPRTUFLCE";
+
+#[derive(Clone, PartialEq, Eq, Debug)]
+pub enum HostLine {
+    Beat {
+        beat: BeatLine,
+        buffer: usize,
+    },
+    Lock(u8),
+    Unlock(u8),
+    Cancel(u8),
+    Reset,
+    /// Load the first bytes of the set text.
+    Load(usize),
+    Keep,
+    GiveBack,
+    Dump,
+    Place {
+        letter: u8,
+        index: usize,
+        value: i32,
+    },
+    LineNumber {
+        rank: usize,
+        number: i64,
+    },
+    LineScope {
+        rank: usize,
+        ids: bool,
+    },
+    LineCount(usize),
+    SwapLines(usize, usize),
+    Token {
+        rank: usize,
+        place: usize,
+        token: Token,
+    },
+}
+
+impl HostLine {
+    /// None if the line is ill-formed.
+    pub fn read(line: &[u8]) -> Option<HostLine> {
+        let mut rest = fields(line);
+        let first = rest.next()?;
+        let rest: Vec<&[u8]> = rest.collect();
+        match (first, &rest[..]) {
+            (b"A" | b"M", _) => Some(HostLine::Beat { beat: BeatLine::read(line)?, buffer: BUFFER }),
+            (b"B", _) => lent_beat(&rest),
+            (b"L", [number]) => Some(HostLine::Lock(byte(number)?)),
+            (b"U", [number]) => Some(HostLine::Unlock(byte(number)?)),
+            (b"C", [number]) => Some(HostLine::Cancel(byte(number)?)),
+            (b"R", []) => Some(HostLine::Reset),
+            (b"N", [bytes]) => Some(HostLine::Load(below(bytes, 1_000_000)?)),
+            (b"K", []) => Some(HostLine::Keep),
+            (b"G", []) => Some(HostLine::GiveBack),
+            (b"D", []) => Some(HostLine::Dump),
+            (b"V", [letter, index, value]) => state_place(letter, index, value),
+            (b"S", [letter, first, second]) => set_place(letter, first, second),
+            (b"T", [rank, place, text]) => token_place(rank, place, text),
+            _ => None,
+        }
+    }
+}
+
+/// `B mode word buffer list numbers..`
+fn lent_beat(fields: &[&[u8]]) -> Option<HostLine> {
+    let [first, word, buffer, list, given @ ..] = fields else {
+        return None;
+    };
+    let buffer = unsigned(buffer, LONGEST_BUFFER)? as usize;
+    let list = unsigned(list, LONGEST_LIST)? as usize;
+    let numbers = numbers(given.iter().copied(), list)?;
+    Some(HostLine::Beat { beat: BeatLine { mode: mode(first)?, word: input_word(word)?, numbers }, buffer })
+}
+
+fn state_place(letter: &[u8], index: &[u8], value: &[u8]) -> Option<HostLine> {
+    let &[letter] = letter else {
+        return None;
+    };
+    let (first, last) = indices(letter)?;
+    let index = unsigned(index, last).filter(|index| *index >= first)? as usize;
+    let value = signed(value).filter(|value| values(letter).contains(value))?;
+    Some(HostLine::Place { letter, index, value })
+}
+
+/// The first and last index of a place of the state.
+pub fn indices(letter: u8) -> Option<(i64, i64)> {
+    Some(match letter {
+        b'O' => (1, 16),
+        b'R' => (0, 163),
+        b'T' | b'U' => (0, 7),
+        b'F' => (1, 4),
+        b'M' | b'P' | b'L' | b'C' | b'E' => (0, 31),
+        _ => return None,
+    })
+}
+
+/// The raw values that a place of the state can be given.
+fn values(letter: u8) -> RangeInclusive<i32> {
+    match letter {
+        b'F' => 0..=255,
+        b'U' | b'L' | b'C' | b'E' => 0..=1,
+        _ => i32::MIN..=i32::MAX,
+    }
+}
+
+fn set_place(letter: &[u8], first: &[u8], second: &[u8]) -> Option<HostLine> {
+    match letter {
+        b"N" => Some(HostLine::LineNumber { rank: rank(first)?, number: unsigned(second, 255)? }),
+        b"I" => Some(HostLine::LineScope { rank: rank(first)?, ids: unsigned(second, 1)? == 1 }),
+        b"C" if unsigned(first, 0).is_some() => Some(HostLine::LineCount(unsigned(second, 255)? as usize)),
+        b"X" => Some(HostLine::SwapLines(rank(first)?, rank(second)?)),
+        _ => None,
+    }
+}
+
+/// `T rank place token`, one token of set text.
+fn token_place(rank_field: &[u8], place: &[u8], text: &[u8]) -> Option<HostLine> {
+    let token = match token::tokens(text)?[..] {
+        [token] => token,
+        _ => return None,
+    };
+    Some(HostLine::Token { rank: rank(rank_field)?, place: below(place, 4096)?, token })
+}
+
+fn rank(field: &[u8]) -> Option<usize> {
+    below(field, 31)
+}
+
+fn below(field: &[u8], top: i64) -> Option<usize> {
+    unsigned(field, top).map(|value| value as usize)
+}
+
+fn byte(field: &[u8]) -> Option<u8> {
+    unsigned(field, 255).map(|value| value as u8)
+}

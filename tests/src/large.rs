@@ -1,0 +1,43 @@
+//! Cases too large for files: made here, their answers by rule.
+
+use crate::cases::Case;
+use crate::runner::Form;
+
+/// Beats after which the program ends.
+const BEATS: usize = 1_000_000;
+const ZEROS: usize = 1_000_000;
+
+pub fn all() -> Vec<Case> {
+    vec![beats_without_end(), last_beat_ill_formed(), zeros_without_end()]
+}
+
+fn case(name: &str, input: String, expected: String) -> Case {
+    Case { name: name.into(), form: Form::Synrun, input: input.into_bytes(), expected: expected.into_bytes() }
+}
+
+/// Document 01's example over more beats than are worked; the line after the last one is ill-formed.
+fn beats_without_end() -> Case {
+    let input = format!("{EXAMPLE}{}?\n", "A 1\nA 0\n".repeat(BEATS / 2));
+    let mut expected = String::new();
+    for beat in (1..=BEATS).step_by(2) {
+        expected.push_str(&format!("C {beat} 0 1\nO 1 4 0 7\nC {} 0 0\n", beat + 1));
+    }
+    expected.push_str(&format!("END {BEATS} 0 {}\n", BEATS / 2));
+    case("large-1000000-beats-then-an-ill-formed-line", input, expected)
+}
+
+/// The last beat that is worked has an ill-formed line.
+fn last_beat_ill_formed() -> Case {
+    let input = format!("ID=1 WHENEVER FALSE DO POS[X]=1\n*\n{}?\n", "M 0\n".repeat(BEATS - 1));
+    let good: String = (1..BEATS).map(|beat| format!("C {beat} 0 0\n")).collect();
+    case("large-beat-1000000-ill-formed", input, format!("{good}E {BEATS}\n"))
+}
+
+/// A beat line of leading zeros.
+fn zeros_without_end() -> Case {
+    let zeros = "0".repeat(ZEROS);
+    let input = format!("{EXAMPLE}A {zeros}1 -{zeros}5\nA {zeros}65536\n");
+    case("large-leading-zeros", input, "C 1 0 1\nO 1 4 0 7\nE 2\n".into())
+}
+
+const EXAMPLE: &str = "ID=1 EVERY $A_IN[1]==1 DO $AC_MARKER[0]=$AC_MARKER[0]+1 M=7\n*\n";

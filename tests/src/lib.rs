@@ -1,0 +1,41 @@
+//! An independent interpreter of set text and beats, and what compares a control with it.
+//!
+//! The interpreter: `token`, `parse`, `tree`, `check`, `load`, `set`, `state`, `fifo`, `beat`, `evaluate`,
+//! `variables`, `control`.
+//! The programs: `synrun`, `host_session`. The rest makes inputs for them and compares what they print.
+
+pub mod beat;
+pub mod beat_line;
+pub mod cases;
+pub mod check;
+pub mod code;
+pub mod compare;
+pub mod control;
+pub mod coverage;
+pub mod damage;
+pub mod evaluate;
+pub mod fields;
+pub mod fifo;
+pub mod generate;
+pub mod host_line;
+pub mod host_session;
+pub mod large;
+pub mod listing;
+pub mod load;
+pub mod order;
+pub mod parse;
+pub mod random;
+pub mod report;
+pub mod runner;
+pub mod seen;
+pub mod set;
+pub mod shrink;
+pub mod slip;
+pub mod slips;
+pub mod state;
+pub mod synrun;
+pub mod text;
+pub mod token;
+pub mod tree;
+pub mod value;
+pub mod variables;
