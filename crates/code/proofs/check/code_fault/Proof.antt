@@ -1,0 +1,21 @@
+-- `check::code_fault` meets its contract: each return by the tests that led to it.
+use borrow.Author.Tests.{le-leb, lt-leb, eq-eqb, ne-eqb}
+use mathlib.Core.Path.{sym}
+use native.Mathlib.Omega.{arith}
+use mathlib.Core.Bool.{_||_}
+use lib.Dec.{eqb}
+use Rattle.code.specs.Token.{WHEN, EVERY}
+use Rattle.code.specs.Fault.{codeFault}
+use Rattle.code.proofs.CheckLaws.{none-first, outside-first}
+use Rattle.code.proofs.check.code_fault.Statement.{statement}
+use Rattle.code.proofs.check.code_fault.Tie as tie
+
+pub code-fault-spec : {M : Type 1} → statement M
+unfolding codeFault
+code-fault-spec =
+    tie.close
+    (tie.spec
+    (λ c. sym (simp (codeFault, lt-leb _ _ (c .if1 .taken)) (outside-first (eqb (c .before .args .keyword) WHEN || eqb (c .before .args .keyword) EVERY) 9 (omega arith))))
+    (λ c. simp (codeFault, le-leb _ _ (c .before .if1 .left), eq-eqb _ _ (c .if2 .taken), none-first))
+    (λ c. simp (codeFault, le-leb _ _ (c .before .before .if1 .left), ne-eqb _ _ (c .before .if2 .left), eq-eqb _ _ (c .if3 .taken), none-first))
+    (λ c. simp (codeFault, le-leb _ _ (c .before .before .if1 .left), ne-eqb _ _ (c .before .if2 .left), ne-eqb _ _ (c .if3 .left), none-first)))

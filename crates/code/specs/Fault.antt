@@ -1,0 +1,260 @@
+-- Faults 4 to 10 of a line, from its tokens, and where its parts lie (document 01, "Lines of text" and "Codes"). Definitions only.
+use mathlib.Core.Bool.{Bool, true, false, cond, not, _&&_, _||_, Bool·beq}
+use mathlib.Core.List.{List, [], _∷_}
+use Prim.Native.Nat.{ℕ, zero, suc, _+_, _-_, min}
+use lib.Dec.{eqb, leb, ltb}
+use lib.ListN.{getD, drop}
+use Rattle.values.specs.Value.{top}
+use Rattle.code.specs.declared.check.Look.{Look}
+use Rattle.code.specs.declared.check.Line.{Line}
+use Rattle.code.specs.Token.{END, EQUALS, OPEN, CLOSE, IDS, WHEN, EVERY, DO, OUT, TIMER, R, M, SETAL, between, isVariable, isFifo, isDrive, isCall, isKeyword, isId, isFactor, isTerm, isLogic, isWhole, whole, thousandths}
+use Rattle.code.specs.Reading.{good, Read, read, ends, then, Meaning, isIndexed, indexAt, sumAt, expressionAt}
+use Rattle.code.specs.Variables.{setSize, isInside}
+
+-- ---- codes
+
+abbrev pub tooDeep : ℕ
+tooDeep = 4
+
+abbrev pub notInGrammar : ℕ
+notInGrammar = 5
+
+abbrev pub confused : ℕ
+confused = 6
+
+abbrev pub outside : ℕ
+outside = 7
+
+abbrev pub readOnly : ℕ
+readOnly = 8
+
+abbrev pub codeAlone : ℕ
+codeAlone = 9
+
+abbrev pub tooMany : ℕ
+tooMany = 10
+
+-- the lower of two faults, where 0 is none
+unfoldable pub lower : ℕ → ℕ → ℕ
+lower a b = cond (eqb a 0) b (cond (eqb b 0) a (min a b))
+
+abbrev pub unless : Bool → ℕ → ℕ
+unless true k = 0
+unless false k = k
+
+-- ---- 4: brackets, counted token by token over the whole line
+
+abbrev pub bracketsOpen : ℕ
+bracketsOpen = 8
+
+-- more than eight are open at some place of these tokens, where n are open before them; a ) with none open counts nothing
+unfoldable pub opensTooMany : List ℕ → ℕ → Bool
+opensTooMany [] n = false
+opensTooMany (t ∷ ts) n =
+    elim (eqb t END) [
+      | true ↦ false
+      | false ↦
+          elim (eqb t OPEN) [
+            | true ↦ elim (leb bracketsOpen n) [ true ↦ true | false ↦ opensTooMany ts (n + 1) ]
+            | false ↦ elim (eqb t CLOSE) [ true ↦ opensTooMany ts (n - 1) | false ↦ opensTooMany ts n ]
+          ]
+    ]
+
+-- ---- 5 to 8 in an expression
+
+-- what the check makes of an expression: a yes/no or a number, and the lowest fault of 6 to 8 in it
+pub record Sight : Type 0 where
+  pub truth : Bool
+  pub fault : ℕ
+
+-- 6: a yes/no where a number is wanted, or a number where a yes/no is
+unfoldable pub wantingFault : Bool → Bool → ℕ
+wantingFault wanted t = unless (Bool·beq wanted t) confused
+
+abbrev pub wanting : Bool → Sight → ℕ
+wanting wanted a = wantingFault wanted (a .truth)
+
+-- 7: a number is at most 1,000,000; the reader of a text marks one that has too many digits as above that
+unfoldable pub numberFault : ℕ → ℕ
+numberFault n = unless (leb (thousandths n) top) outside
+
+-- 7 and 8: an index inside its range, and FIFO [0] read elsewhere
+unfoldable pub readFault : ℕ → ℕ → ℕ
+readFault w i = lower (unless (isInside w i) outside) (unless (not (isFifo w && eqb i 0)) readOnly)
+
+unfoldable pub joinSights : ℕ → Sight → Sight → Sight
+joinSights o a b = record {
+  truth = not (isFactor o || isTerm o);
+  fault = lower (lower (wanting (isLogic o) a) (wanting (isLogic o) b)) (lower (a .fault) (b .fault));
+}
+
+-- behind a sign: a number behind -, a yes/no behind NOT, and it gives the same
+abbrev pub signed : Bool → Sight → Sight
+signed t a = record { truth = t; fault = lower (wanting t a) (a .fault) }
+
+unfoldable pub sight : Meaning Sight
+sight = record {
+  number = λ n. good (record { truth = false; fault = numberFault n });
+  variable = λ w i. good (record { truth = false; fault = readFault w i });
+  truth = λ b. record { truth = true; fault = 0 };
+  minus = λ a. good (signed false a);
+  not = signed true;
+  join = λ o a b. good (joinSights o a b);
+  wrong = notInGrammar;
+}
+
+-- an expression where a yes/no (true) or a number (false) is wanted: its lowest fault of 6 to 8
+abbrev pub faultFor : Bool → Read Sight → Read ℕ
+faultFor t (read a q) = read (lower (wanting t a) (a .fault)) q
+faultFor t (ends k) = ends k
+
+-- how the code answers, and what such an answer says
+abbrev pub shown : Read Sight → Look
+shown (read a q) = record { good = true; truth = a .truth; fault = a .fault; next = q }
+shown (ends k) = record { good = false; truth = false; fault = k; next = 0 }
+
+abbrev pub shownSight : Look → Read Sight
+shownSight l = elim (l .good) [ true ↦ read (record { truth = l .truth; fault = l .fault }) (l .next) | false ↦ ends (l .fault) ]
+
+abbrev pub signedSight : Bool → Sight → ℕ → Read Sight
+signedSight t a q = read (signed t a) q
+
+abbrev pub shownFault : Read ℕ → Look
+shownFault (read f q) = record { good = true; truth = false; fault = f; next = q }
+shownFault (ends k) = record { good = false; truth = false; fault = k; next = 0 }
+
+abbrev pub shownRead : Look → Read ℕ
+shownRead l = elim (l .good) [ true ↦ read (l .fault) (l .next) | false ↦ ends (l .fault) ]
+
+-- ---- 5 to 9 in an action
+
+-- 8: $A_OUT, $AC_MARKER, $AC_PARAM, $AC_TIMER; $R below 100; FIFO [0] and [4]
+unfoldable pub isWritable : ℕ → ℕ → Bool
+isWritable w i =
+    cond (isFifo w) (eqb i 0 || eqb i 4)
+    (cond (eqb w R) (ltb i 100) (between OUT TIMER w))
+
+unfoldable pub writeFault : ℕ → ℕ → ℕ
+writeFault w i = lower (unless (isInside w i) outside) (unless (isWritable w i) readOnly)
+
+-- M 0..99, and only under WHEN or EVERY
+unfoldable pub codeFault : ℕ → ℕ → ℕ
+codeFault kw n = lower (unless (leb n 99) outside) (unless (eqb kw WHEN || eqb kw EVERY) codeAlone)
+
+-- a line number is 1..255
+unfoldable pub idFault : ℕ → ℕ
+idFault n = unless (between 1 255 n) outside
+
+-- SETAL 65000..69999, LOCK and UNLOCK name a line
+unfoldable pub callFault : ℕ → ℕ → ℕ
+callFault w n = cond (eqb w SETAL) (unless (between 65000 69999 n) outside) (idFault n)
+
+-- 10: at most eight actions
+unfoldable pub countFault : ℕ → ℕ
+countFault n = unless (leb n 8) tooMany
+
+-- a line's number; a number that is none is 0
+unfoldable pub numberOf : ℕ → ℕ
+numberOf n = cond (leb n 255) n 0
+
+-- a line with a fault has no parts
+abbrev pub faultyLine : ℕ → Line
+faultyLine k = record { fault = k; number = 0; ids = false; keyword = 0; condition = 0; actions = 0; end = 0 }
+
+module _ (s : List ℕ) where
+  abbrev token : ℕ → ℕ
+  token p = getD s p 0
+
+  -- FIFO [0] stands at p as a whole, unbracketed right side
+  unfoldable pub isRemoval : ℕ → Bool
+  isRemoval p =
+      isFifo (token p) && (isIndexed s (token p) p && (eqb (indexAt s (token p) p) 0 && not (isFactor (token (p + 4)) || isTerm (token (p + 4)))))
+
+  -- the right side of an assignment to a variable
+  unfoldable pub assignedAt : ℕ → ℕ → Read ℕ
+  assignedAt k p = elim (isRemoval p) [ true ↦ read 0 (p + 4) | false ↦ faultFor false (sumAt s sight k p) ]
+
+  -- behind the word w at p, its index and =: an assignment, or POS, FA or MOV
+  unfoldable pub assignmentAt : ℕ → ℕ → ℕ → Read ℕ
+  assignmentAt k w p =
+      elim (isVariable w) [
+        | true ↦ then (assignedAt k (p + 5)) (λ f q. read (lower (writeFault w (indexAt s w p)) f) q)
+        | false ↦ elim (isDrive w) [ true ↦ faultFor false (sumAt s sight k (p + 5)) | false ↦ ends notInGrammar ]
+      ]
+
+  -- M= and a number; or SETAL, LOCK or UNLOCK and a number in brackets
+  unfoldable pub commandAt : ℕ → ℕ → ℕ → Read ℕ
+  commandAt kw w p =
+      elim (isWhole (token (p + 2))) [
+        | true ↦
+            elim (eqb w M) [
+              | true ↦ elim (eqb (token (p + 1)) EQUALS) [ true ↦ read (codeFault kw (whole (token (p + 2)))) (p + 3) | false ↦ ends notInGrammar ]
+              | false ↦
+                  elim (isCall w && (eqb (token (p + 1)) OPEN && eqb (token (p + 3)) CLOSE)) [
+                    | true ↦ read (callFault w (whole (token (p + 2)))) (p + 4)
+                    | false ↦ ends notInGrammar
+                  ]
+            ]
+        | false ↦ ends notInGrammar
+      ]
+
+  -- the action at p, of a line with the keyword kw: its lowest fault of 6 to 9
+  unfoldable pub actionAt : ℕ → ℕ → ℕ → Read ℕ
+  actionAt kw k p =
+      elim (isIndexed s (token p) p) [
+        | true ↦ elim (eqb (token (p + 4)) EQUALS) [ true ↦ assignmentAt k (token p) p | false ↦ ends notInGrammar ]
+        | false ↦ commandAt kw (token p) p
+      ]
+
+  -- one or more actions up to the line's end, where n stand before them and f is the lowest fault so far: the lowest fault of 6 to 10
+  unfoldable pub actionsAt : ℕ → ℕ → ℕ → ℕ → ℕ → ℕ → Read ℕ
+  actionsAt kw k zero n f p = ends notInGrammar
+  actionsAt kw k (suc j) n f p =
+      then (actionAt kw k p) (λ g q.
+      elim (eqb (token q) END) [
+        | true ↦ read (lower (lower f g) (countFault (n + 1))) q
+        | false ↦ actionsAt kw k j (n + 1) (lower f g) q
+      ])
+
+  -- ---- a line
+
+  -- the line at p, with the keyword kw over a condition at cp (0 and 0 if it has none) and actions from a on, which have the lowest fault f and end at e
+  unfoldable pub lineParts : ℕ → ℕ → ℕ → ℕ → Read ℕ → Line
+  lineParts p kw cp a (read f e) =
+      elim (eqb f 0) [
+        | true ↦ record { fault = 0; number = numberOf (whole (token (p + 2))); ids = eqb (token p) IDS; keyword = kw; condition = cp; actions = a; end = e }
+        | false ↦ faultyLine f
+      ]
+  lineParts p kw cp a (ends k) = faultyLine k
+
+  -- DO at q and the actions behind it, where f is the lowest fault before them
+  unfoldable pub bodyAt : ℕ → ℕ → ℕ → ℕ → ℕ → Line
+  bodyAt p kw cp f q =
+      elim (eqb (token q) DO) [
+        | true ↦ lineParts p kw cp (q + 1) (actionsAt kw setSize setSize 0 f (q + 1))
+        | false ↦ faultyLine notInGrammar
+      ]
+
+  -- behind the head: DO, or a keyword, an expression that is a yes/no, and DO
+  unfoldable pub restAt : ℕ → ℕ → Line
+  restAt p f =
+      elim (isKeyword (token (p + 3))) [
+        | true ↦
+            elim (faultFor true (expressionAt s sight setSize (p + 4))) [
+              | read g q ↦ bodyAt p (token (p + 3)) (p + 4) (lower f g) q
+              | ends k ↦ faultyLine k
+            ]
+        | false ↦ bodyAt p 0 0 f (p + 3)
+      ]
+
+  -- the line that begins at p: its lowest fault of 4 to 10, or its parts
+  unfoldable pub lineAt : ℕ → Line
+  lineAt p =
+      elim (opensTooMany (drop p s) 0) [
+        | true ↦ faultyLine tooDeep
+        | false ↦
+            elim (isId (token p) && (eqb (token (p + 1)) EQUALS && isWhole (token (p + 2)))) [
+              | true ↦ restAt p (idFault (whole (token (p + 2))))
+              | false ↦ faultyLine notInGrammar
+            ]
+      ]

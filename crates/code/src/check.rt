@@ -1,0 +1,725 @@
+// The faults 4 to 10 of a line, from its tokens, and where its parts lie: the check walk.
+//
+// The walk goes by recursive descent over the tokens; `left` is the count of tokens left. A fault is document 01's code, 0 for none.
+ghost use mathlib.Core.Path.{_≡_};
+ghost use mathlib.Core.Bool.{true, false};
+ghost use Prim.Native.Nat.{_<_};
+ghost use lib.ListN.{drop};
+ghost use Rattle.code.specs.Reading.{read, ends, upTo, then, readOperand, readProduct, readSum, readExpression, readClose, readVariable, readTruth};
+ghost use Rattle.code.specs.Fault.{lower, opensTooMany, wantingFault, numberFault, readFault, joinSights, sight, shown, shownSight, signedSight, shownFault, shownRead, faultFor, isWritable, writeFault, codeFault, callFault, idFault, isRemoval, assignedAt, assignmentAt, commandAt, actionAt, countFault, actionsAt, numberOf, faultyLine, lineParts, bodyAt, restAt, lineAt};
+use crate::token::CLOSE;
+use crate::token::DO;
+use crate::token::END;
+use crate::token::EQUALS;
+use crate::token::EVERY;
+use crate::token::FALSE;
+use crate::token::IDS;
+use crate::token::M;
+use crate::token::MINUS;
+use crate::token::NOT;
+use crate::token::NUMBER;
+use crate::token::OPEN;
+use crate::token::OUT;
+use crate::token::R;
+use crate::token::SETAL;
+use crate::token::SIZE;
+use crate::token::TIMER;
+use crate::token::TRUE;
+use crate::token::WHEN;
+use crate::token::index_at;
+use crate::token::is_call;
+use crate::token::is_compare;
+use crate::token::is_drive;
+use crate::token::is_factor;
+use crate::token::is_fifo;
+use crate::token::is_id;
+use crate::token::is_indexed;
+use crate::token::is_keyword;
+use crate::token::is_logic;
+use crate::token::is_row;
+use crate::token::is_term;
+use crate::token::is_variable;
+use crate::token::is_whole;
+use crate::token::token_at;
+use crate::token::whole_of;
+use crate::variables::is_inside;
+use values::arithmetic::TOP;
+
+// The codes.
+pub const TOO_DEEP: u8 = 4;
+
+pub const NOT_IN_GRAMMAR: u8 = 5;
+
+pub const CONFUSED: u8 = 6;
+
+pub const OUTSIDE: u8 = 7;
+
+pub const READ_ONLY: u8 = 8;
+
+pub const CODE_ALONE: u8 = 9;
+
+pub const TOO_MANY: u8 = 10;
+
+// The brackets that may be open, and the actions of a line.
+pub const BRACKETS: usize = 8;
+
+pub const ACTIONS: usize = 8;
+
+// What the walk sees: a yes/no or a number, the lowest fault in it, and the place behind it; or, where it is not good, that it is not in the grammar.
+pub struct Look {
+    pub good: bool,
+    pub truth: bool,
+    pub fault: u8,
+    pub next: usize,
+}
+
+// The parts of a line: its number, whether it is IDS, its keyword (0: none), where its condition and its actions begin and where it ends. A line with a
+// fault has none.
+pub struct Line {
+    pub fault: u8,
+    pub number: u8,
+    pub ids: bool,
+    pub keyword: u32,
+    pub condition: usize,
+    pub actions: usize,
+    pub end: usize,
+}
+
+// ---- faults of single things
+
+// The lower of two faults.
+fn lower_of(a: u8, b: u8) -> u8
+    ensures { λ x. ⌜ x ≡ lower a b ⌝ }
+{
+    if a == 0 {
+        return b;
+    }
+    if b == 0 {
+        return a;
+    }
+    if a < b { a } else { b }
+}
+
+// 6 where a yes/no (true) or a number (false) is wanted and the other stands.
+fn wanting(wanted: bool, truth: bool) -> u8
+    ensures { λ x. ⌜ x ≡ wantingFault wanted truth ⌝ }
+{
+    if wanted == truth { 0 } else { CONFUSED }
+}
+
+fn number_fault(t: u32) -> u8
+    ensures { λ x. ⌜ x ≡ numberFault t ⌝ }
+{
+    if t / 2 <= TOP as u32 { 0 } else { OUTSIDE }
+}
+
+fn read_fault(w: u32, i: u32) -> u8
+    ensures { λ x. ⌜ x ≡ readFault w i ⌝ }
+{
+    if !is_inside(w, i) {
+        return OUTSIDE;
+    }
+    if i != 0 {
+        return 0;
+    }
+    if is_fifo(w) { READ_ONLY } else { 0 }
+}
+
+fn is_writable(w: u32, i: u32) -> bool
+    ensures { λ x. ⌜ x ≡ isWritable w i ⌝ }
+{
+    if is_fifo(w) {
+        if i == 0 {
+            return true;
+        }
+        return i == 4;
+    }
+    if w == R {
+        return i < 100;
+    }
+    if w < OUT {
+        return false;
+    }
+    w <= TIMER
+}
+
+fn write_fault(w: u32, i: u32) -> u8
+    ensures { λ x. ⌜ x ≡ writeFault w i ⌝ }
+{
+    if !is_inside(w, i) {
+        return OUTSIDE;
+    }
+    if is_writable(w, i) { 0 } else { READ_ONLY }
+}
+
+fn code_fault(keyword: u32, n: u32) -> u8
+    ensures { λ x. ⌜ x ≡ codeFault keyword n ⌝ }
+{
+    if 99 < n {
+        return OUTSIDE;
+    }
+    if keyword == WHEN {
+        return 0;
+    }
+    if keyword == EVERY { 0 } else { CODE_ALONE }
+}
+
+fn call_fault(w: u32, n: u32) -> u8
+    ensures { λ x. ⌜ x ≡ callFault w n ⌝ }
+{
+    if w == SETAL {
+        if n < 65000 {
+            return OUTSIDE;
+        }
+        if n <= 69999 {
+            return 0;
+        }
+        return OUTSIDE;
+    }
+    id_fault(n)
+}
+
+// Line numbers are 1 to 255.
+fn id_fault(n: u32) -> u8
+    ensures { λ x. ⌜ x ≡ idFault n ⌝ }
+{
+    if n < 1 {
+        return OUTSIDE;
+    }
+    if n <= 255 { 0 } else { OUTSIDE }
+}
+
+// ---- what one step sees
+
+fn stopped() -> Look
+    ensures { λ x. ⌜ x ≡ shown (ends 5) ⌝ }
+{
+    Look {
+        good: false,
+        truth: false,
+        fault: NOT_IN_GRAMMAR,
+        next: 0,
+    }
+}
+
+// A sight, the operator behind it, and what is seen behind that.
+fn joined(op: u32, truth: bool, fault: u8, b: Look) -> Look
+    requires { ⌜ shown (shownSight b) ≡ b ⌝ }
+    ensures { λ x. ⌜ x ≡ shown (then (shownSight b) (λ y q. read (joinSights op (record { truth = truth; fault = fault }) y) q)) ⌝ }
+{
+    let good = b.good;
+    if !good {
+        return b;
+    }
+    let logic = is_logic(op);
+    let kinds = lower_of(wanting(logic, truth), wanting(logic, b.truth));
+    let low = lower_of(kinds, lower_of(fault, b.fault));
+    if is_factor(op) {
+        return Look {
+            good: true,
+            truth: false,
+            fault: low,
+            next: b.next,
+        };
+    }
+    if is_term(op) {
+        return Look {
+            good: true,
+            truth: false,
+            fault: low,
+            next: b.next,
+        };
+    }
+    Look {
+        good: true,
+        truth: true,
+        fault: low,
+        next: b.next,
+    }
+}
+
+// What stands behind a sign: a number behind -, a yes/no behind NOT.
+fn signed(truth: bool, a: Look) -> Look
+    requires { ⌜ shown (shownSight a) ≡ a ⌝ }
+    ensures { λ x. ⌜ x ≡ shown (then (shownSight a) (signedSight truth)) ⌝ }
+{
+    let good = a.good;
+    if !good {
+        return a;
+    }
+    Look {
+        good: true,
+        truth: truth,
+        fault: lower_of(wanting(truth, a.truth), a.fault),
+        next: a.next,
+    }
+}
+
+fn closed(code: &[u32; SIZE], a: Look) -> Look
+    requires { ⌜ shown (shownSight a) ≡ a ⌝ }
+    ensures { λ x. ⌜ x ≡ shown (then (shownSight a) (readClose (now (code .entry)) sight)) ⌝ }
+{
+    let good = a.good;
+    if !good {
+        return a;
+    }
+    let i = a.next;
+    if token_at(code, i) != CLOSE {
+        return stopped();
+    }
+    Look {
+        good: true,
+        truth: a.truth,
+        fault: a.fault,
+        next: i + 1,
+    }
+}
+
+fn variable(code: &[u32; SIZE], w: u32, at: usize) -> Look
+    requires { ⌜ at < 4130 ⌝ }
+    ensures { λ x. ⌜ x ≡ shown (readVariable (now (code .entry)) sight w at) ⌝ }
+{
+    if !is_indexed(code, w, at) {
+        return stopped();
+    }
+    Look {
+        good: true,
+        truth: false,
+        fault: read_fault(w, index_at(code, w, at)),
+        next: at + 4,
+    }
+}
+
+// TRUE, FALSE or nothing of the grammar.
+fn truth(code: &[u32; SIZE], t: u32, at: usize) -> Look
+    requires { ⌜ ((t ≡ 0 → ⊥) → at < 4130) ⌝ }
+    ensures { λ x. ⌜ x ≡ shown (readTruth (now (code .entry)) sight t at) ⌝ }
+{
+    if t == TRUE {
+        return Look {
+            good: true,
+            truth: true,
+            fault: 0,
+            next: at + 1,
+        };
+    }
+    if t == FALSE {
+        return Look {
+            good: true,
+            truth: true,
+            fault: 0,
+            next: at + 1,
+        };
+    }
+    stopped()
+}
+
+// ---- the walk over an expression
+
+fn operand(code: &[u32; SIZE], at: usize, left: usize) -> Look
+    ensures { λ x. ⌜ x ≡ shown (readOperand (now (code .entry)) sight left at) ⌝ }
+{
+    if left == 0 {
+        return stopped();
+    }
+    let t = token_at(code, at);
+    if NUMBER <= t {
+        return Look {
+            good: true,
+            truth: false,
+            fault: number_fault(t - NUMBER),
+            next: at + 1,
+        };
+    }
+    if is_variable(t) {
+        return variable(code, t, at);
+    }
+    if t == OPEN {
+        return closed(code, expression(code, at + 1, left - 1));
+    }
+    if t == MINUS {
+        return signed(false, operand(code, at + 1, left - 1));
+    }
+    if t == NOT {
+        return signed(true, operand(code, at + 1, left - 1));
+    }
+    truth(code, t, at)
+}
+
+fn product(code: &[u32; SIZE], at: usize, left: usize) -> Look
+    ensures { λ x. ⌜ x ≡ shown (readProduct (now (code .entry)) sight (readOperand (now (code .entry)) sight left) left at) ⌝ }
+{
+    let mut a = operand(code, at, left);
+    let mut turns = left;
+    while 0 < turns {
+        let good = a.good;
+        if !good {
+            return a;
+        }
+        let i = a.next;
+        let t = token_at(code, i);
+        if !is_factor(t) {
+            return a;
+        }
+        a = joined(t, a.truth, a.fault, operand(code, i + 1, left));
+        turns -= 1;
+    }
+    a
+}
+
+fn sum(code: &[u32; SIZE], at: usize, left: usize) -> Look
+    ensures { λ x. ⌜ x ≡ shown (readSum (now (code .entry)) sight (readOperand (now (code .entry)) sight left) left at) ⌝ }
+{
+    let mut a = product(code, at, left);
+    let mut turns = left;
+    while 0 < turns {
+        let good = a.good;
+        if !good {
+            return a;
+        }
+        let i = a.next;
+        let t = token_at(code, i);
+        if !is_term(t) {
+            return a;
+        }
+        a = joined(t, a.truth, a.fault, product(code, i + 1, left));
+        turns -= 1;
+    }
+    a
+}
+
+fn expression(code: &[u32; SIZE], at: usize, left: usize) -> Look
+    ensures { λ x. ⌜ x ≡ shown (readExpression (now (code .entry)) sight (readOperand (now (code .entry)) sight left) left at) ⌝ }
+{
+    let mut a = sum(code, at, left);
+    let good = a.good;
+    if !good {
+        return a;
+    }
+    let first = token_at(code, a.next);
+    if is_compare(first) {
+        return joined(first, a.truth, a.fault, sum(code, a.next + 1, left));
+    }
+    let mut turns = left;
+    while 0 < turns {
+        let good = a.good;
+        if !good {
+            return a;
+        }
+        let i = a.next;
+        let t = token_at(code, i);
+        if !is_row(first, t) {
+            return a;
+        }
+        a = joined(t, a.truth, a.fault, sum(code, i + 1, left));
+        turns -= 1;
+    }
+    a
+}
+
+// ---- actions
+
+// FIFO [0] as a whole, unbracketed right side.
+pub fn is_removal(code: &[u32; SIZE], at: usize) -> bool
+    ensures { λ x. ⌜ x ≡ isRemoval (now (code .entry)) at ⌝ }
+{
+    let w = token_at(code, at);
+    if !is_fifo(w) {
+        return false;
+    }
+    if !is_indexed(code, w, at) {
+        return false;
+    }
+    if index_at(code, w, at) != 0 {
+        return false;
+    }
+    let t = token_at(code, at + 4);
+    if is_factor(t) {
+        return false;
+    }
+    !is_term(t)
+}
+
+// An expression where a yes/no (true) or a number (false) is wanted.
+fn fault_for(wanted: bool, a: Look) -> Look
+    requires { ⌜ shown (shownSight a) ≡ a ⌝ }
+    ensures { λ x. ⌜ x ≡ shownFault (faultFor wanted (shownSight a)) ⌝ }
+{
+    let good = a.good;
+    if !good {
+        return a;
+    }
+    Look {
+        good: true,
+        truth: false,
+        fault: lower_of(wanting(wanted, a.truth), a.fault),
+        next: a.next,
+    }
+}
+
+// The right side of an assignment to a variable.
+fn assigned(code: &[u32; SIZE], at: usize) -> Look
+    requires { ⌜ at < 4136 ⌝ }
+    ensures { λ x. ⌜ x ≡ shownFault (assignedAt (now (code .entry)) 4130 at) ⌝ }
+{
+    if is_removal(code, at) {
+        return Look {
+            good: true,
+            truth: false,
+            fault: 0,
+            next: at + 4,
+        };
+    }
+    fault_for(false, sum(code, at, SIZE))
+}
+
+// An action that begins with a word, its index and =.
+fn assignment(code: &[u32; SIZE], w: u32, at: usize) -> Look
+    requires { ⌜ at < 4130 ⌝ }
+    ensures { λ x. ⌜ x ≡ shownFault (assignmentAt (now (code .entry)) 4130 w at) ⌝ }
+{
+    if is_variable(w) {
+        let a = assigned(code, at + 5);
+        let good = a.good;
+        if !good {
+            return a;
+        }
+        let fault = lower_of(write_fault(w, index_at(code, w, at)), a.fault);
+        return Look {
+            good: true,
+            truth: false,
+            fault: fault,
+            next: a.next,
+        };
+    }
+    if is_drive(w) {
+        return fault_for(false, sum(code, at + 5, SIZE));
+    }
+    stopped()
+}
+
+// M= and a number; or SETAL, LOCK or UNLOCK and a number in brackets.
+fn command(code: &[u32; SIZE], keyword: u32, w: u32, at: usize) -> Look
+    requires { ⌜ at < 4130 ⌝ }
+    ensures { λ x. ⌜ x ≡ shownFault (commandAt (now (code .entry)) keyword w at) ⌝ }
+{
+    let n = token_at(code, at + 2);
+    if !is_whole(n) {
+        return stopped();
+    }
+    let sign = token_at(code, at + 1);
+    if w == M {
+        if sign != EQUALS {
+            return stopped();
+        }
+        return Look {
+            good: true,
+            truth: false,
+            fault: code_fault(keyword, whole_of(n)),
+            next: at + 3,
+        };
+    }
+    if !is_call(w) {
+        return stopped();
+    }
+    if sign != OPEN {
+        return stopped();
+    }
+    if token_at(code, at + 3) != CLOSE {
+        return stopped();
+    }
+    Look {
+        good: true,
+        truth: false,
+        fault: call_fault(w, whole_of(n)),
+        next: at + 4,
+    }
+}
+
+fn action(code: &[u32; SIZE], keyword: u32, at: usize) -> Look
+    ensures { λ x. ⌜ x ≡ shownFault (actionAt (now (code .entry)) keyword 4130 at) ⌝ }
+{
+    let w = token_at(code, at);
+    if w == END {
+        return stopped();
+    }
+    if !is_indexed(code, w, at) {
+        return command(code, keyword, w, at);
+    }
+    if token_at(code, at + 4) != EQUALS {
+        return stopped();
+    }
+    assignment(code, w, at)
+}
+
+// 10 where more actions stand than a line may have.
+fn count_fault(n: usize) -> u8
+    ensures { λ x. ⌜ x ≡ countFault n ⌝ }
+{
+    if n <= ACTIONS { 0 } else { TOO_MANY }
+}
+
+// One or more actions, from place `at` to the line's end; `fault` is the lowest fault before them.
+fn actions(code: &[u32; SIZE], keyword: u32, fault: u8, at: usize) -> Look
+    ensures { λ x. ⌜ x ≡ shownFault (actionsAt (now (code .entry)) keyword 4130 4130 0 fault at) ⌝ }
+{
+    let mut low = fault;
+    let mut n: usize = 0;
+    let mut i = at;
+    let mut turns: usize = SIZE;
+    while 0 < turns {
+        let a = action(code, keyword, i);
+        let good = a.good;
+        if !good {
+            return a;
+        }
+        low = lower_of(low, a.fault);
+        n += 1;
+        i = a.next;
+        if token_at(code, i) == END {
+            return Look {
+                good: true,
+                truth: false,
+                fault: lower_of(low, count_fault(n)),
+                next: i,
+            };
+        }
+        turns -= 1;
+    }
+    stopped()
+}
+
+// ---- a line
+
+// Whether more than eight brackets ( are open at some place from `at` to the line's end.
+fn opens_too_many(code: &[u32], at: usize) -> bool
+    ensures { λ x. ⌜ x ≡ opensTooMany (drop at (now (code .entry))) 0 ⌝ }
+{
+    let mut open: usize = 0;
+    let mut i = at;
+    while i < code.len() {
+        let t = token_at(code, i);
+        if t == END {
+            return false;
+        }
+        if t == OPEN {
+            if BRACKETS <= open {
+                return true;
+            }
+            open += 1;
+        } else if t == CLOSE {
+            if 0 < open {
+                open -= 1;
+            }
+        }
+        i += 1;
+    }
+    false
+}
+
+fn faulty(fault: u8) -> Line
+    ensures { λ x. ⌜ x ≡ faultyLine fault ⌝ }
+{
+    Line {
+        fault: fault,
+        number: 0,
+        ids: false,
+        keyword: 0,
+        condition: 0,
+        actions: 0,
+        end: 0,
+    }
+}
+
+// A line's number as a byte; one that is none is 0.
+fn number_of(n: u32) -> u8
+    ensures { λ x. ⌜ x ≡ numberOf n ⌝ }
+{
+    if n <= 255 { n as u8 } else { 0 }
+}
+
+// The parts of the line at `at`, if nothing is wrong with it.
+fn parts(
+    code: &[u32; SIZE],
+    at: usize,
+    keyword: u32,
+    condition: usize,
+    body: usize,
+    a: Look,
+) -> Line
+    requires { ⌜ at < 4130 ⌝ }
+    ensures { λ x. ⌜ x ≡ lineParts (now (code .entry)) at keyword condition body (shownRead a) ⌝ }
+{
+    let good = a.good;
+    let fault = a.fault;
+    if !good {
+        return faulty(fault);
+    }
+    if fault != 0 {
+        return faulty(fault);
+    }
+    Line {
+        fault: 0,
+        number: number_of(whole_of(token_at(code, at + 2))),
+        ids: token_at(code, at) == IDS,
+        keyword: keyword,
+        condition: condition,
+        actions: body,
+        end: a.next,
+    }
+}
+
+// DO at place i and the actions behind it; `fault` is the lowest fault before them.
+fn body(code: &[u32; SIZE], at: usize, keyword: u32, condition: usize, fault: u8, i: usize) -> Line
+    requires { ⌜ at < 4130 ⌝ }
+    ensures { λ x. ⌜ x ≡ bodyAt (now (code .entry)) at keyword condition fault i ⌝ }
+{
+    if token_at(code, i) != DO {
+        return faulty(NOT_IN_GRAMMAR);
+    }
+    parts(
+        code,
+        at,
+        keyword,
+        condition,
+        i + 1,
+        actions(code, keyword, fault, i + 1),
+    )
+}
+
+// What follows a line's head: DO, or a keyword, an expression and DO.
+fn rest(code: &[u32; SIZE], at: usize, fault: u8) -> Line
+    requires { ⌜ at < 4130 ⌝ }
+    ensures { λ x. ⌜ x ≡ restAt (now (code .entry)) at fault ⌝ }
+{
+    let keyword = token_at(code, at + 3);
+    if !is_keyword(keyword) {
+        return body(code, at, 0, 0, fault, at + 3);
+    }
+    let a = fault_for(true, expression(code, at + 4, SIZE));
+    let good = a.good;
+    if !good {
+        return faulty(a.fault);
+    }
+    body(code, at, keyword, at + 4, lower_of(fault, a.fault), a.next)
+}
+
+// The line that begins at place `at`: its lowest fault of 4 to 10, or its parts.
+pub fn line_at(code: &[u32; SIZE], at: usize) -> Line
+    ensures { λ x. ⌜ x ≡ lineAt (now (code .entry)) at ⌝ }
+{
+    if opens_too_many(code, at) {
+        return faulty(TOO_DEEP);
+    }
+    if !is_id(token_at(code, at)) {
+        return faulty(NOT_IN_GRAMMAR);
+    }
+    if token_at(code, at + 1) != EQUALS {
+        return faulty(NOT_IN_GRAMMAR);
+    }
+    let n = token_at(code, at + 2);
+    if !is_whole(n) {
+        return faulty(NOT_IN_GRAMMAR);
+    }
+    rest(code, at, id_fault(whole_of(n)))
+}
