@@ -1,5 +1,5 @@
 -- How a walk answers, for any meaning and any answer that tells a reading: what ends the reading passes through every step, what is read goes into the step, and what was told is heard again.
-use mathlib.Core.Path.{_≡_, sym, ap, _∙_}
+use mathlib.Core.Path.{_≡_, refl, sym, ap, _∙_}
 use Prim.Native.Nat.{ℕ}
 use Rattle.code.specs.Reading.{Read, read, ends, then}
 
@@ -12,10 +12,23 @@ module _ {A B : Type 0} (tell : Read A → B) (hear : B → Read A) where
     enters h e = ap tell (sym e ∙ ap (λ (x : Read A). then x f) (sym h))
 
   module _ (again : (x : Read A) → hear (tell x) ≡ x) where
+    pub hears : {a : B} (x : Read A) → a ≡ tell x → hear a ≡ x
+    hears x e = ap hear e ∙ again x
+
     -- what was told is an answer
     pub answer : {a : B} (x : Read A) → a ≡ tell x → tell (hear a) ≡ a
-    answer x e = ap tell (ap hear e ∙ again x) ∙ sym e
+    answer x e = ap tell (hears x e) ∙ sym e
 
-    -- x tells a step on what a tells of y
-    pub step : {a x : B} (f : A → ℕ → Read A) (y : Read A) {z : Read A} → a ≡ tell y → x ≡ tell (then (hear a) f) → then y f ≡ z → x ≡ tell z
-    step f y e g h = g ∙ ap tell (ap (λ (r : Read A). then r f) (ap hear e ∙ again y) ∙ h)
+    -- a tells y
+    module _ {a : B} (f : A → ℕ → Read A) (y : Read A) (e : a ≡ tell y) where
+      -- x tells a step on what a tells
+      pub step : {x : B} {z : Read A} → x ≡ tell (then (hear a) f) → then y f ≡ z → x ≡ tell z
+      step g h = g ∙ ap tell (ap (λ (r : Read A). then r f) (hears y e) ∙ h)
+
+      -- what ends the reading is told of every step on it
+      pub stays : {n : ℕ} → hear a ≡ ends n → a ≡ tell (then y f)
+      stays h = step (passes a f (answer y e) h) refl
+
+      -- what is read goes into the step
+      pub behind : {v : A} {p : ℕ} → hear a ≡ read v p → f v p ≡ then y f
+      behind h = ap (λ (r : Read A). then r f) (sym h ∙ hears y e)

@@ -1,5 +1,5 @@
--- What the test of a range says of a token, and the other way round.
-use mathlib.Core.Path.{_≡_, refl, sym, _∙_}
+-- What a test says of the token that was tested, what the test of a range says of its bounds, and the other way round.
+use mathlib.Core.Path.{_≡_, refl, sym, ap, _∙_}
 use mathlib.Core.Bool.{Bool, true, false, _&&_}
 use Prim.Native.Nat.{ℕ, _<_, _≤_}
 use native.Mathlib.Omega.{arith}
@@ -8,9 +8,16 @@ use borrow.Author.Tests.{leb-true, lt-leb}
 use Rattle.code.specs.Token.{AND, XOR, between}
 use Rattle.code.specs.Reading.{isRow}
 
+pub never : {X : Type 0} → false ≡ true → X
+never e = absurd (let z : _≡_ {A = ℕ} 0 1 = cc in omega arith)
+
+-- a test's answer o, for the token u that was tested as t
+pub tested : (f : ℕ → Bool) {t u : ℕ} {o b : Bool} → t ≡ u → o ≡ f t → o ≡ b → f u ≡ b
+tested f e h g = ap f (sym e) ∙ sym h ∙ g
+
 both-true : (a b : Bool) → a && b ≡ true → (a ≡ true) × (b ≡ true)
 both-true true b h = (refl, h)
-both-true false b h = absurd (let z : _≡_ {A = ℕ} 0 1 = cc in omega arith)
+both-true false b h = never h
 
 module _ (low high t : ℕ) where
   pub inside : between low high t ≡ true → (low ≤ t) × (t ≤ high)

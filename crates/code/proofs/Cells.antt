@@ -1,5 +1,5 @@
 -- Laws on the cells: what a cell says as a count, and that no variable lies past the last cell.
-use mathlib.Core.Path.{_≡_, refl}
+use mathlib.Core.Path.{_≡_, refl, sym}
 use mathlib.Core.Bool.{Bool, true, false, cond}
 use Prim.Native.Nat.{ℕ, _+_, _<_, _≤_}
 use native.Mathlib.Omega.{arith}
@@ -12,7 +12,7 @@ use borrow.Author.Tests.{ltb-true, ltb-false, eqb-true, eqb-false, le-leb, lt-le
 use Rattle.values.proofs.Signed.{back}
 use Rattle.code.specs.Token.{INA, OUT, MARKER, PARAM, R, TIMER, FIFO1, FIFO4, IM, between, isFifo}
 use Rattle.code.specs.Variables.{firstIndex, lastIndex, isInside, cellStart, cellOf, asCount}
-use Rattle.code.proofs.Between.{inside, outside}
+use Rattle.code.proofs.Between.{never, inside, outside}
 
 -- ---- a cell as a count, read back from its bits
 
@@ -26,11 +26,11 @@ above (negsuc n) h = refl
 
 held : (z : ℤ) → ltZ z (pos 0) ≡ false → ltZ (pos 16) z ≡ false → natAbs z ≡ asCount z
 held (pos n) h k = rw (le-leb n 16 (ltb-false 16 n k))
-held (negsuc n) h k = absurd (let q : _≡_ {A = ℕ} 0 1 = cc in omega arith)
+held (negsuc n) h k = never (sym h)
 
 byte : (z : ℤ) → ltZ z (pos 0) ≡ false → ltZ (pos 16) z ≡ false → T (nonNeg z) × Fits w8 (natAbs z)
 byte (pos n) h k = (tt, omega (arith, ltb-false 16 n k))
-byte (negsuc n) h k = absurd (let q : _≡_ {A = ℕ} 0 1 = cc in omega arith)
+byte (negsuc n) h k = never (sym h)
 
 module _ {z : ℤ} (h : SFits w32 z) where
   pub count-below : ltZ (toZ w32 (ofZ w32 z)) (pos 0) ≡ true → 255 ≡ asCount z

@@ -7,6 +7,8 @@ use native.Mathlib.Omega.{arith}
 use borrow.Author.Tests.{not-true, not-false}
 use Rattle.code.specs.Token.{isFactor, isTerm, isCompare}
 use Rattle.code.specs.Reading.{Read, read, ends, then, upTo, Meaning, isRow, token, joined, more, readProduct, readSum, readRest, readExpression}
+use Rattle.code.proofs.Answers.{hears, answer, stays, behind}
+use Rattle.code.proofs.Between.{tested}
 
 module _ (s : List ℕ) {A : Type 0} (𝓜 : Meaning A) (isOp : ℕ → Bool) (sub : ℕ → Read A) where
   more-again : (k : ℕ) (a : A) (p : ℕ) → 0 < k → isOp (token s p) ≡ true → then (joined s 𝓜 sub (token s p) a p) (more s 𝓜 isOp sub (k - 1)) ≡ more s 𝓜 isOp sub k a p
@@ -40,7 +42,7 @@ module _ {s : List ℕ} {A : Type 0} {𝓜 : Meaning A} {isOp : ℕ → Bool} {s
 
   -- no operator stands behind it
   pub row-ends : {v : A} {p t : ℕ} {o : Bool} → hear a ≡ read v p → t ≡ token s p → o ≡ isOp t → not o ≡ true → a ≡ tell whole
-  row-ends {v} {p} {t} {o} h e f g = all-read h (more-stops s 𝓜 isOp sub k v p (ap isOp (sym e) ∙ sym f ∙ not-true o g))
+  row-ends {v} {p} {t} {o} h e f g = all-read h (more-stops s 𝓜 isOp sub k v p (tested isOp e f (not-true o g)))
 
   -- no turn is left
   pub row-spent : k ≤ 0 → a ≡ tell whole
@@ -55,14 +57,14 @@ module _ {s : List ℕ} {A : Type 0} {𝓜 : Meaning A} {isOp : ℕ → Bool} {s
   unfolding joined
   row-goes again {v} {p} {t} {o} {b} {x} h e f g l i j =
       let u : hear x ≡ joined s 𝓜 sub (token s p) v p =
-      ap hear j ∙ again _ ∙ ap (λ (r : Read A). then r (λ y q. upTo (𝓜 .join t v y) q)) (ap hear i ∙ again _) ∙ ap (λ (m : ℕ). joined s 𝓜 sub m v p) e
+      hears tell hear again _ j ∙ ap (λ (r : Read A). then r (λ y q. upTo (𝓜 .join t v y) q)) (hears tell hear again _ i) ∙ ap (λ (m : ℕ). joined s 𝓜 sub m v p) e
       in record {
         is-whole =
             ap (λ (r : Read A). then r (more s 𝓜 isOp sub (k - 1))) u ∙
-            more-again s 𝓜 isOp sub k v p l (ap isOp (sym e) ∙ sym f ∙ not-false o g) ∙
+            more-again s 𝓜 isOp sub k v p l (tested isOp e f (not-false o g)) ∙
             ap (λ (r : Read A). then r (more s 𝓜 isOp sub k)) (sym h) ∙
             kept .is-whole;
-        is-told = ap tell (ap hear j ∙ again _) ∙ sym j;
+        is-told = answer tell hear again _ j;
       }
 
 -- ---- where the loop begins
@@ -70,10 +72,9 @@ module _ {s : List ℕ} {A : Type 0} {𝓜 : Meaning A} {isOp : ℕ → Bool} {s
 module _ (s : List ℕ) {A : Type 0} (𝓜 : Meaning A) {B : Type 0} (tell : Read A → B) (hear : B → Read A) (again : (x : Read A) → hear (tell x) ≡ x) where
   row-begins : (isOp : ℕ → Bool) (sub : ℕ → Read A) (k : ℕ) {a : B} (x : Read A) → a ≡ tell x → Kept s 𝓜 isOp sub tell hear (then x (more s 𝓜 isOp sub k)) k a
   row-begins isOp sub k x e =
-      let h = ap hear e ∙ again x in
       record {
-        is-whole = ap (λ (y : Read A). then y (more s 𝓜 isOp sub k)) h;
-        is-told = ap tell h ∙ sym e;
+        is-whole = ap (λ (y : Read A). then y (more s 𝓜 isOp sub k)) (hears tell hear again x e);
+        is-told = answer tell hear again x e;
       }
 
   module _ (sub : ℕ → Read A) (k p : ℕ) {a : B} where
@@ -87,25 +88,22 @@ module _ (s : List ℕ) {A : Type 0} (𝓜 : Meaning A) {B : Type 0} (tell : Rea
 
     -- an expression behind its first sum
     module _ (e : a ≡ tell (readSum s 𝓜 sub k p)) where
-      heard-sum : hear a ≡ readSum s 𝓜 sub k p
-      heard-sum = ap hear e ∙ again _
-
       pub expression-stops : {n : ℕ} → hear a ≡ ends n → a ≡ tell (readExpression s 𝓜 sub k p)
       unfolding readExpression
-      expression-stops h = e ∙ ap tell (sym heard-sum ∙ h ∙ ap (λ (x : Read A). then x (readRest s 𝓜 sub k)) (sym h ∙ heard-sum))
+      expression-stops h = stays tell hear again (readRest s 𝓜 sub k) (readSum s 𝓜 sub k p) e h
 
       rest : {v : A} {i : ℕ} → hear a ≡ read v i → readRest s 𝓜 sub k v i ≡ readExpression s 𝓜 sub k p
       unfolding readExpression
-      rest h = ap (λ (x : Read A). then x (readRest s 𝓜 sub k)) (sym h ∙ heard-sum)
+      rest h = behind tell hear again (readRest s 𝓜 sub k) (readSum s 𝓜 sub k p) e h
 
       module _ {v : A} {i t : ℕ} {o : Bool} (h : hear a ≡ read v i) (q : t ≡ token s i) (f : o ≡ isCompare t) where
         pub comparison : {b x : B} → o ≡ true → b ≡ tell (readSum s 𝓜 sub k (i + 1)) → x ≡ tell (then (hear b) (λ y r. upTo (𝓜 .join t v y) r)) → x ≡ tell (readExpression s 𝓜 sub k p)
         unfolding readRest joined
         comparison g m j =
             j ∙
-            ap tell (ap (λ (r : Read A). then r (λ y r. upTo (𝓜 .join t v y) r)) (ap hear m ∙ again _) ∙
+            ap tell (ap (λ (r : Read A). then r (λ y r. upTo (𝓜 .join t v y) r)) (hears tell hear again _ m) ∙
             ap (λ (n : ℕ). joined s 𝓜 (readSum s 𝓜 sub k) n v i) q ∙
-            sym (simp (readRest, ap isCompare (sym q) ∙ sym f ∙ g)) ∙
+            sym (simp (readRest, tested isCompare q f g)) ∙
             rest h)
 
         pub row-after : o ≡ false → Kept s 𝓜 (isRow t) (readSum s 𝓜 sub k) tell hear (readExpression s 𝓜 sub k p) k a
@@ -115,7 +113,7 @@ module _ (s : List ℕ) {A : Type 0} (𝓜 : Meaning A) {B : Type 0} (tell : Rea
               is-whole =
                   ap (λ (x : Read A). then x (more s 𝓜 (isRow t) (readSum s 𝓜 sub k) k)) h ∙
                   ap (λ (n : ℕ). more s 𝓜 (isRow n) (readSum s 𝓜 sub k) k v i) q ∙
-                  sym (simp (readRest, ap isCompare (sym q) ∙ sym f ∙ g)) ∙
+                  sym (simp (readRest, tested isCompare q f g)) ∙
                   rest h;
-              is-told = ap tell heard-sum ∙ sym e;
+              is-told = answer tell hear again _ e;
             }

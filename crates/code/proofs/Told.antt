@@ -17,6 +17,14 @@ pub heard-told : (x : Read ℤ) → heard (told x) ≡ x
 heard-told (read v q) = refl
 heard-told (ends k) = refl
 
+-- what was told is an answer
+pub answer : {a : Got} (x : Read ℤ) → a ≡ told x → told (heard a) ≡ a
+answer x e = answers.answer told heard heard-told x e
+
+-- x tells a step on what a tells of y
+pub step : {a x : Got} (f : ℤ → ℕ → Read ℤ) (y : Read ℤ) {z : Read ℤ} → a ≡ told y → x ≡ told (then (heard a) f) → then y f ≡ z → x ≡ told z
+step f y e g h = answers.step told heard heard-told f y e g h
+
 -- two signed numbers, read back from their bits
 pub both : {B : Type 0} (f : ℤ → ℤ → B) {a b : ℤ} → SFits w32 a → SFits w32 b → f (toZ w32 (ofZ w32 a)) (toZ w32 (ofZ w32 b)) ≡ f a b
 both f ha hb = rw (back w32 ha, back w32 hb)

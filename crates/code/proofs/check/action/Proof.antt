@@ -4,7 +4,7 @@ use native.Mathlib.Omega.{arith}
 use borrow.Author.Tests.{not-true, not-false}
 use mathlib.Core.Path.{sym, ap, _∙_}
 use Rattle.code.specs.Fault.{shownFault}
-use Rattle.code.proofs.CheckLaws.{no-action, action-command, action-wrong, action-assigns}
+use Rattle.code.proofs.FaultLaws.{no-action, action-command, action-wrong, action-assigns}
 use Rattle.code.proofs.check.action.Statement.{statement}
 use Rattle.code.proofs.check.action.Tie as tie
 

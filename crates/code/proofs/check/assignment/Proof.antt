@@ -1,11 +1,10 @@
 -- `check::assignment` meets its contract: each return by the tests that led to it.
 use borrow.Author.Needs.{needs}
 use native.Mathlib.Omega.{arith}
-use borrow.Author.Tests.{not-true, not-false}
-use mathlib.Core.Path.{sym, _∙_}
+use mathlib.Core.Path.{sym, ap, _∙_}
 use Rattle.code.specs.Reading.{sumAt, readSum}
-use Rattle.code.specs.Fault.{assignedAt, assignmentAt}
-use Rattle.code.proofs.CheckLaws.{kept, fault-of, fault-stays, fault-goes}
+use Rattle.code.specs.Fault.{shownFault, assignedAt, assignmentAt}
+use Rattle.code.proofs.Shown.{answer, stays, behind, fault-of}
 use Rattle.code.proofs.check.assignment.Statement.{statement}
 use Rattle.code.proofs.check.assignment.Tie as tie
 
@@ -17,22 +16,22 @@ assignment-spec =
     (λ c κs. search needs)
     (λ c. omega arith)
     (λ c κs. search needs)
-    (λ c. simp (assignmentAt, sym (c .before .before .before .is-variable .ensures) ∙ c .before .before .if1 .taken) (fault-stays (c .before .assigned .result) (assignedAt _ _ _) _ (c .before .assigned .ensures) (not-true _ (c .if2 .taken))))
+    (λ c. simp (assignmentAt, sym (c .before .before .before .is-variable .ensures) ∙ c .before .before .if1 .taken) (stays (c .before .assigned .result) (assignedAt _ _ _) (c .before .assigned .ensures) _ (c .if2 .taken)))
     (λ c κs. search needs)
     (λ c κs. search needs)
     (λ c κs. search needs)
     (λ c.
     let s = c .before .before .before .before in
     simp (assignmentAt, sym (s .before .before .before .is-variable .ensures) ∙ s .before .before .if1 .taken)
-    (fault-goes (s .before .assigned .result) (assignedAt _ _ _) _ _ (s .before .assigned .ensures) (not-false _ (s .if2 .left)) (simp (c .lower-of .ensures, c .before .write-fault .ensures, c .before .before .index-at .ensures))))
+    (simp (c .lower-of .ensures, c .before .write-fault .ensures, c .before .before .index-at .ensures) (ap shownFault (behind (s .before .assigned .result) (assignedAt _ _ _) (s .before .assigned .ensures) _ (s .if2 .left)))))
     (λ c κs. search needs)
     (λ c. omega arith)
     (λ c κs. search needs)
-    (λ c κs. kept _ (readSum _ _ _ _ _) (c .sum .ensures))
+    (λ c κs. answer (readSum _ _ _ _ _) (c .sum .ensures))
     (λ c.
     let s = c .before .before .before in
     simp (assignmentAt, sym (s .before .before .is-variable .ensures) ∙ s .before .if1 .left, sym (s .is-drive .ensures) ∙ c .before .before .if3 .taken)
-    (fault-of _ (c .before .sum .result) _ (readSum _ _ _ _ _) (c .before .sum .ensures) (c .fault-for .ensures)))
+    (fault-of _ (readSum _ _ _ _ _) (c .before .sum .ensures) (c .fault-for .ensures)))
     (λ c κs. search needs)
     (λ c.
     let s = c .before .before .before in

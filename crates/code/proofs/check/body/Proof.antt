@@ -3,8 +3,9 @@ use borrow.Author.Needs.{needs}
 use native.Mathlib.Omega.{arith}
 use borrow.Author.Tests.{eq-eqb, ne-eqb}
 use mathlib.Core.Path.{sym, ap, _∙_}
-use Rattle.code.specs.Fault.{actionsAt, bodyAt, lineParts, shownRead}
-use Rattle.code.proofs.CheckLaws.{told}
+use Rattle.code.specs.Fault.{actionsAt, bodyAt, lineParts, shownFault, shownRead}
+use Rattle.code.proofs.Answers.{hears}
+use Rattle.code.proofs.Shown.{fault-shown}
 use Rattle.code.proofs.check.body.Statement.{statement}
 use Rattle.code.proofs.check.body.Tie as tie
 
@@ -20,4 +21,4 @@ body-spec =
     (λ c. omega (arith, c .before .token-at .ensures .1 (λ z. omega arith)))
     (λ c κs. search needs)
     (λ c κs. search needs)
-    (λ c. simp (bodyAt, eq-eqb _ _ (sym (c .before .before .before .token-at .ensures .0) ∙ c .before .before .if1 .left)) (c .parts .ensures ∙ ap (lineParts _ _ _ _ _) (ap shownRead (c .before .actions .ensures) ∙ told (actionsAt _ _ _ _ _ _ _)))))
+    (λ c. simp (bodyAt, eq-eqb _ _ (sym (c .before .before .before .token-at .ensures .0) ∙ c .before .before .if1 .left)) (c .parts .ensures ∙ ap (lineParts _ _ _ _ _) (hears shownFault shownRead fault-shown (actionsAt _ _ _ _ _ _ _) (c .before .actions .ensures)))))

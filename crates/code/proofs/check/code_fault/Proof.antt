@@ -6,7 +6,7 @@ use mathlib.Core.Bool.{_||_}
 use lib.Dec.{eqb}
 use Rattle.code.specs.Token.{WHEN, EVERY}
 use Rattle.code.specs.Fault.{codeFault}
-use Rattle.code.proofs.CheckLaws.{none-first, outside-first}
+use Rattle.code.proofs.FaultLaws.{none-first, outside-first}
 use Rattle.code.proofs.check.code_fault.Statement.{statement}
 use Rattle.code.proofs.check.code_fault.Tie as tie
 

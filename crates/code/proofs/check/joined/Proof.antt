@@ -1,16 +1,29 @@
 -- `check::joined` meets its contract: a look that is not good stays as it is; otherwise the faults are the calls' and the kind is the operator's.
 use borrow.Author.Needs.{needs}
-use borrow.Author.Tests.{not-true, not-false}
-use mathlib.Core.Path.{sym, _∙_}
-use Rattle.code.proofs.CheckLaws.{stays, goes, joined-look}
+use mathlib.Core.Path.{_≡_, refl, sym, _∙_}
+use mathlib.Core.Bool.{Bool, true, _||_, not}
+use Rattle.code.specs.declared.check.Look.{Look}
+use Rattle.code.specs.Token.{isFactor, isTerm}
+use Rattle.code.specs.Reading.{read, then}
+use Rattle.code.specs.Fault.{joinSights, shown, shownSight}
+use Rattle.code.proofs.Shown.{passes, enters}
 use Rattle.code.proofs.check.joined.Statement.{statement}
 use Rattle.code.proofs.check.joined.Tie as tie
+
+-- the look behind the calls, where t is the kind
+joins : (c : tie.After-is-factor) {t : Bool} → let x = c .before .before .before .before .before .before .before .before .args in t ≡ not (isFactor (x .op) || isTerm (x .op)) → _≡_ {A = Look} (record { good = true; truth = t; fault = c .before .lower-of3 .result; next = x .b .next }) (shown (then (shownSight (x .b)) (λ y q. read (joinSights (x .op) (record { truth = x .truth; fault = x .fault }) y) q)))
+unfolding joinSights
+joins c e =
+    let s = c .before .before .before in
+    let r = s .before .before in
+    simp (e, c .before .lower-of3 .ensures, c .before .before .lower-of2 .ensures, s .lower-of .ensures, s .before .wanting2 .ensures, r .wanting .ensures, r .before .is-logic .ensures)
+    (enters (r .before .before .before .args .b) _ (r .before .before .if1 .left) refl)
 
 pub joined-spec : {M : Type 1} → statement M
 joined-spec =
     tie.close
     (tie.spec
-    (λ c. stays _ _ (c .before .pre) (not-true _ (c .if1 .taken)))
+    (λ c. passes _ _ (c .before .pre) (c .if1 .taken))
     (λ c κs. search needs)
     (λ c κs. search needs)
     (λ c κs. search needs)
@@ -18,24 +31,7 @@ joined-spec =
     (λ c κs. search needs)
     (λ c κs. search needs)
     (λ c κs. search needs)
-    (λ c.
-    let s = c .before .before .before in
-    let r = s .before .before .before in
-    goes (r .before .before .before .args .b) _ _ (not-false _ (r .before .before .if1 .left))
-    (joined-look _ _ _ _ _ _ _ _ _ _ _ (r .before .is-logic .ensures) (r .wanting .ensures) (s .before .before .wanting2 .ensures) (s .before .lower-of .ensures) (s .lower-of2 .ensures) (c .before .before .lower-of3 .ensures)
-    (simp (sym (c .before .is-factor .ensures) ∙ c .if2 .taken))))
+    (λ c. joins (c .before) (simp (sym (c .before .is-factor .ensures) ∙ c .if2 .taken)))
     (λ c κs. search needs)
-    (λ c.
-    let s = c .before .before .before in
-    let r = s .before .before .before in
-    let q = r .before .before .before in
-    goes (q .before .before .args .b) _ _ (not-false _ (q .before .if1 .left))
-    (joined-look _ _ _ _ _ _ _ _ _ _ _ (q .is-logic .ensures) (r .before .before .wanting .ensures) (r .before .wanting2 .ensures) (r .lower-of .ensures) (s .before .before .lower-of2 .ensures) (s .before .lower-of3 .ensures)
-    (simp (sym (s .is-factor .ensures) ∙ c .before .before .if2 .left, sym (c .before .is-term .ensures) ∙ c .if3 .taken))))
-    (λ c.
-    let s = c .before .before .before in
-    let r = s .before .before .before in
-    let q = r .before .before .before in
-    goes (q .before .before .args .b) _ _ (not-false _ (q .before .if1 .left))
-    (joined-look _ _ _ _ _ _ _ _ _ _ _ (q .is-logic .ensures) (r .before .before .wanting .ensures) (r .before .wanting2 .ensures) (r .lower-of .ensures) (s .before .before .lower-of2 .ensures) (s .before .lower-of3 .ensures)
-    (simp (sym (s .is-factor .ensures) ∙ c .before .before .if2 .left, sym (c .before .is-term .ensures) ∙ c .if3 .left)))))
+    (λ c. let d = c .before .before .before in joins d (simp (sym (d .is-factor .ensures) ∙ c .before .before .if2 .left, sym (c .before .is-term .ensures) ∙ c .if3 .taken)))
+    (λ c. let d = c .before .before .before in joins d (simp (sym (d .is-factor .ensures) ∙ c .before .before .if2 .left, sym (c .before .is-term .ensures) ∙ c .if3 .left))))

@@ -2,12 +2,23 @@
 use borrow.Author.Needs.{needs}
 use native.Mathlib.Omega.{arith}
 use borrow.Author.Tests.{not-true, not-false, eq-eqb, ne-eqb}
-use mathlib.Core.Path.{sym, _∙_}
-use Rattle.code.specs.Token.{isId, isWhole}
+use mathlib.Core.Path.{_≡_, sym, _∙_}
+use mathlib.Core.Bool.{true}
+use Prim.Native.Nat.{_<_}
+use lib.ListN.{getD}
+use Rattle.code.specs.Token.{ID, IDS, isId, isWhole}
 use Rattle.code.specs.Fault.{lineAt}
-use Rattle.code.proofs.CheckLaws.{some, tested}
+use Rattle.code.proofs.Between.{tested, no-end}
 use Rattle.code.proofs.check.line_at.Statement.{statement}
 use Rattle.code.proofs.check.line_at.Tie as tie
+
+-- behind the second test an id stands at the line's start, which lies inside the code
+module _ (c : tie.Else2) where
+  named : let a = c .before .before .before .before .before .before .before .args in isId (getD (a .code .now) (a .at) 0) ≡ true
+  named = tested isId (c .before .before .token-at .ensures .0) (c .before .is-id .ensures) (not-false _ (c .if2 .left))
+
+  starts : c .before .before .before .before .before .before .before .args .at < 4130
+  starts = let d = c .before .before in omega (arith, d .token-at .ensures .1 (no-end ID IDS (d .token-at .result) (omega arith) (c .before .is-id .ensures) (not-false _ (c .if2 .left))))
 
 pub line-at-spec : {M : Type 1} → statement M
 unfolding lineAt
@@ -24,17 +35,15 @@ line-at-spec =
     let s = c .before .before .before in
     simp (lineAt, sym (s .before .before .before .opens-too-many .ensures) ∙ s .before .before .if1 .left, tested isId (s .token-at .ensures .0) (c .before .before .is-id .ensures) (not-true _ (c .before .if2 .taken)))
     (c .faulty2 .ensures))
-    (λ c. omega (arith, c .before .before .before .token-at .ensures .1 (some 16 17 _ (omega arith) (sym (c .before .before .is-id .ensures) ∙ not-false _ (c .before .if2 .left)))))
+    (λ c. omega (arith, starts (c .before)))
     (λ c κs. search needs)
     (λ c κs. search needs)
     (λ c.
     let s = c .before .before .before .before in
     let r = s .before .before .before .before in
-    simp (lineAt, sym (r .before .opens-too-many .ensures) ∙ r .if1 .left, tested isId (s .before .before .token-at .ensures .0) (s .before .is-id .ensures) (not-false _ (s .if2 .left)), ne-eqb _ _ (λ e. c .before .if3 .taken (c .before .before .token-at2 .ensures .0 ∙ e)))
+    simp (lineAt, sym (r .before .opens-too-many .ensures) ∙ r .if1 .left, named s, ne-eqb _ _ (λ e. c .before .if3 .taken (c .before .before .token-at2 .ensures .0 ∙ e)))
     (c .faulty3 .ensures))
-    (λ c.
-    let s = c .before .before .before .before in
-    omega (arith, s .before .before .token-at .ensures .1 (some 16 17 _ (omega arith) (sym (s .before .is-id .ensures) ∙ not-false _ (s .if2 .left)))))
+    (λ c. omega (arith, starts (c .before .before .before .before)))
     (λ c κs. search needs)
     (λ c κs. search needs)
     (λ c κs. search needs)
@@ -42,16 +51,14 @@ line-at-spec =
     let s = c .before .before .before in
     let r = s .before .before .before in
     let q = r .before .before .before in
-    simp (lineAt, sym (q .before .before .before .before .opens-too-many .ensures) ∙ q .before .before .before .if1 .left, tested isId (q .before .token-at .ensures .0) (q .is-id .ensures) (not-false _ (r .before .before .if2 .left)), eq-eqb _ _ (sym (r .token-at2 .ensures .0) ∙ s .before .before .if3 .left), tested isWhole (s .token-at3 .ensures .0) (c .before .before .is-whole .ensures) (not-true _ (c .before .if4 .taken)))
+    simp (lineAt, sym (q .before .before .before .before .opens-too-many .ensures) ∙ q .before .before .before .if1 .left, named (r .before .before), eq-eqb _ _ (sym (r .token-at2 .ensures .0) ∙ s .before .before .if3 .left), tested isWhole (s .token-at3 .ensures .0) (c .before .before .is-whole .ensures) (not-true _ (c .before .if4 .taken)))
     (c .faulty4 .ensures))
     (λ c κs. search needs)
     (λ c κs. search needs)
-    (λ c κs.
-    let s = c .before .before .before .before .before .before .before .before .before in
-    omega (arith, s .before .before .token-at .ensures .1 (some 16 17 _ (omega arith) (sym (s .before .is-id .ensures) ∙ not-false _ (s .if2 .left)))))
+    (λ c κs. omega (arith, starts (c .before .before .before .before .before .before .before .before .before)))
     (λ c.
     let s = c .before .before .before in
     let r = s .before .before .before .before in
     let q = r .before .before .before in
-    simp (lineAt, sym (q .before .before .before .before .before .opens-too-many .ensures) ∙ q .before .before .before .before .if1 .left, tested isId (q .before .before .token-at .ensures .0) (q .before .is-id .ensures) (not-false _ (q .if2 .left)), eq-eqb _ _ (sym (r .before .token-at2 .ensures .0) ∙ r .if3 .left), tested isWhole (s .before .before .token-at3 .ensures .0) (s .before .is-whole .ensures) (not-false _ (s .if4 .left)))
+    simp (lineAt, sym (q .before .before .before .before .before .opens-too-many .ensures) ∙ q .before .before .before .before .if1 .left, named q, eq-eqb _ _ (sym (r .before .token-at2 .ensures .0) ∙ r .if3 .left), tested isWhole (s .before .before .token-at3 .ensures .0) (s .before .is-whole .ensures) (not-false _ (s .if4 .left)))
     (c .rest .ensures ∙ simp (c .before .id-fault .ensures, c .before .before .whole-of .ensures, s .before .before .token-at3 .ensures .0))))

@@ -1,4 +1,4 @@
--- `check::opens_too_many` meets its contract: in the loop the count from `i` on, with `open` open, is the count of all; CheckLaws has each token's step.
+-- `check::opens_too_many` meets its contract: in the loop the count from `i` on, with `open` open, is the count of all; BracketLaws has each token's step.
 use borrow.Author.Needs.{needs}
 use native.Mathlib.Omega.{arith}
 use mathlib.Core.Path.{_≡_, refl, sym, _∙_}
@@ -6,7 +6,7 @@ use mathlib.Core.Logic.{⊎-elim}
 use Prim.Native.Nat.{_-_}
 use lib.ListN.{length, drop}
 use Rattle.code.specs.Fault.{opensTooMany}
-use Rattle.code.proofs.CheckLaws.{bracket-end, bracket-deep, bracket-open, bracket-close, bracket-other, bracket-none}
+use Rattle.code.proofs.BracketLaws.{bracket-end, bracket-deep, bracket-open, bracket-close, bracket-other, bracket-none}
 use Rattle.code.proofs.check.opens_too_many.Statement.{statement}
 use Rattle.code.proofs.check.opens_too_many.Tie as tie
 

@@ -7,7 +7,7 @@ use mathlib.Core.Bool.{not, _&&_, and-false}
 use lib.Dec.{eqb}
 use Rattle.code.specs.Token.{isFifo}
 use Rattle.code.specs.Fault.{readFault}
-use Rattle.code.proofs.CheckLaws.{none-first, outside-first}
+use Rattle.code.proofs.FaultLaws.{none-first, outside-first}
 use Rattle.code.proofs.check.read_fault.Statement.{statement}
 use Rattle.code.proofs.check.read_fault.Tie as tie
 

@@ -1,13 +1,14 @@
 -- `check::rest` meets its contract: each return by the tests that led to it.
 use borrow.Author.Needs.{needs}
 use native.Mathlib.Omega.{arith}
-use borrow.Author.Tests.{not-true, not-false}
-use mathlib.Core.Path.{sym, _∙_}
+use borrow.Author.Tests.{not-true}
 use mathlib.Core.Bool.{true}
 use Rattle.code.specs.Token.{isKeyword}
 use Rattle.code.specs.Reading.{readExpression, expressionAt}
 use Rattle.code.specs.Fault.{restAt}
-use Rattle.code.proofs.CheckLaws.{tested, kept, fault-of, rest-end, rest-goes}
+use Rattle.code.proofs.Between.{tested}
+use Rattle.code.proofs.FaultLaws.{rest-end, rest-goes}
+use Rattle.code.proofs.Shown.{answer, fault-of}
 use Rattle.code.proofs.check.rest.Statement.{statement}
 use Rattle.code.proofs.check.rest.Tie as tie
 
@@ -24,15 +25,15 @@ rest-spec =
     (λ c. simp (restAt, tested isKeyword (c .before .before .before .token-at .ensures .0) (c .before .before .is-keyword .ensures) (not-true _ (c .before .if1 .taken))) (c .body .ensures))
     (λ c. omega arith)
     (λ c κs. search needs)
-    (λ c κs. kept _ (readExpression _ _ _ _ _) (c .expression .ensures))
+    (λ c κs. answer (readExpression _ _ _ _ _) (c .expression .ensures))
     (λ c κs. search needs)
     (λ c.
     let s = c .before .before .before in
-    rest-end _ _ _ _ (c .before .before .fault-for .result) (s .before .before .before .token-at .ensures .0) (sym (s .before .before .is-keyword .ensures) ∙ not-false _ (s .before .if1 .left)) (fault-of true (s .expression .result) (c .before .before .fault-for .result) (readExpression _ _ _ _ _) (s .expression .ensures) (c .before .before .fault-for .ensures)) _ (not-true _ (c .before .if2 .taken)) (c .faulty .ensures))
+    rest-end _ _ _ _ (c .before .before .fault-for .result) (s .before .before .before .token-at .ensures .0) (s .before .before .is-keyword .ensures) (s .before .if1 .left) (fault-of true (readExpression _ _ _ _ _) (s .expression .ensures) (c .before .before .fault-for .ensures)) (c .before .if2 .taken) (c .faulty .ensures))
     (λ c. omega arith)
     (λ c κs. search needs)
     (λ c κs. search needs)
     (λ c.
     let s = c .before .before .before in
     let r = s .before .before .before in
-    rest-goes _ _ _ _ (s .fault-for .result) (r .before .token-at .ensures .0) (sym (r .is-keyword .ensures) ∙ not-false _ (s .before .before .if1 .left)) (fault-of true (s .before .expression .result) (s .fault-for .result) (readExpression _ _ _ _ _) (s .before .expression .ensures) (s .fault-for .ensures)) _ _ (not-false _ (c .before .before .if2 .left)) (c .before .lower-of .ensures) (c .body2 .ensures)))
+    rest-goes _ _ _ _ (s .fault-for .result) (r .before .token-at .ensures .0) (r .is-keyword .ensures) (s .before .before .if1 .left) (fault-of true (readExpression _ _ _ _ _) (s .before .expression .ensures) (s .fault-for .ensures)) (c .before .before .if2 .left) (c .before .lower-of .ensures) (c .body2 .ensures)))

@@ -4,7 +4,7 @@ use borrow.Author.Tests.{not-true, not-false}
 use mathlib.Core.Path.{sym, _∙_}
 use native.Mathlib.Omega.{arith}
 use Rattle.code.specs.Fault.{writeFault, isWritable}
-use Rattle.code.proofs.CheckLaws.{none-first, outside-first}
+use Rattle.code.proofs.FaultLaws.{none-first, outside-first}
 use Rattle.code.proofs.check.write_fault.Statement.{statement}
 use Rattle.code.proofs.check.write_fault.Tie as tie
 

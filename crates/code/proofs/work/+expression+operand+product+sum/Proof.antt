@@ -10,11 +10,10 @@ use mir.ValLaws.{toZ-pos}
 use Rattle.code.specs.Token.{SAME, ATLEAST, PLUS, MINUS, TIMES, OVER, IN, IM, isFactor, isTerm}
 use Rattle.code.specs.Reading.{read, isRow, readClose, readProduct, readSum, readExpression, readOperand}
 use Rattle.code.specs.Working.{valueOver, told, heard, negated, inverted}
-use Rattle.code.proofs.Answers.{answer, step}
 use Rattle.code.proofs.Arms.{spent, number-arm, variable-arm, open-arm, minus-arm, not-arm, truth-arm}
 use Rattle.code.proofs.Between.{no-end, row-no-end}
 use Rattle.code.proofs.Rows.{Kept, row-stops, row-ends, row-spent, row-goes, product-begins, sum-begins, expression-stops, comparison, row-after}
-use Rattle.code.proofs.Told.{heard-told, heard-alarm, heard-value, heard-back}
+use Rattle.code.proofs.Told.{heard-told, answer, step, heard-alarm, heard-value, heard-back}
 use Rattle.code.proofs.token.is_compare.Reads as is-compare
 use Rattle.code.proofs.token.is_factor.Reads as is-factor
 use Rattle.code.proofs.token.is_row.Reads as is-row
@@ -70,7 +69,7 @@ unfolding valueOver
     (λ c κs. search needs)
     (λ c. let d = c .before .before .before in omega (arith, d .token-at .ensures .1 (no-end SAME ATLEAST (d .token-at .result) (omega arith) (c .before .before .is-compare .ensures) (c .before .if2 .taken))))
     (λ c κs. omega arith)
-    (λ c κs. answer told heard heard-told (readSum _ _ _ _ _) (c .before .sum2 .ensures))
+    (λ c κs. answer (readSum _ _ _ _ _) (c .before .sum2 .ensures))
     (λ c.
     let d = c .before .before .before .before in
     let l = d .before .before .before .before in
@@ -87,7 +86,7 @@ unfolding valueOver
     row-ends (l .before .before .loop .inv) (heard-value (l .before .before .loop .a) (l .if3 .left)) (c .before .before .token-at2 .ensures .0) (c .before .is-row .ensures) (c .if4 .taken))
     (λ c. let d = c .before .before in omega (arith, d .token-at2 .ensures .1 (row-no-end _ (d .token-at2 .result) (c .before .is-row .ensures) (not-false _ (c .if4 .left)))))
     (λ c κs. omega arith)
-    (λ c κs. answer told heard heard-told (readSum _ _ _ _ _) (c .before .sum3 .ensures))
+    (λ c κs. answer (readSum _ _ _ _ _) (c .before .sum3 .ensures))
     (λ c. omega arith)
     (λ c. omega arith)
     (λ c.
@@ -114,21 +113,21 @@ unfolding valueOver
     (λ c. omega (arith, c .before .before .before .before .token-at .ensures .1 (λ e. omega arith)))
     (λ c. omega arith)
     (λ c κs. omega arith)
-    (λ c κs. answer told heard heard-told (readExpression _ _ _ _ _) (c .expression .ensures))
+    (λ c κs. answer (readExpression _ _ _ _ _) (c .expression .ensures))
     (λ c.
     let d = c .before .before .before .before .before .before in
     let a = d .before .before .before .args in
-    step told heard heard-told (readClose (a .code .now) (valueOver (a .r .now) (a .cells .now))) (readExpression _ _ _ _ _) (c .before .expression .ensures) (c .closed .ensures) (open-arm _ _ _ _ _ (d .before .before .if1 .left) (d .token-at .ensures .0) (c .before .before .if4 .taken)))
+    step (readClose (a .code .now) (valueOver (a .r .now) (a .cells .now))) (readExpression _ _ _ _ _) (c .before .expression .ensures) (c .closed .ensures) (open-arm _ _ _ _ _ (d .before .before .if1 .left) (d .token-at .ensures .0) (c .before .before .if4 .taken)))
     (λ c. omega (arith, c .before .before .before .before .before .token-at .ensures .1 (λ e. omega arith)))
     (λ c. omega arith)
     (λ c κs. omega arith)
-    (λ c κs. answer told heard heard-told (readOperand _ _ _ _) (c .operand .ensures))
-    (λ c. let d = c .before .before .before .before .before .before .before in step told heard heard-told negated (readOperand _ _ _ _) (c .before .operand .ensures) (c .negated-got .ensures) (minus-arm _ _ _ _ _ (d .before .before .if1 .left) (d .token-at .ensures .0) (c .before .before .if5 .taken)))
+    (λ c κs. answer (readOperand _ _ _ _) (c .operand .ensures))
+    (λ c. let d = c .before .before .before .before .before .before .before in step negated (readOperand _ _ _ _) (c .before .operand .ensures) (c .negated-got .ensures) (minus-arm _ _ _ _ _ (d .before .before .if1 .left) (d .token-at .ensures .0) (c .before .before .if5 .taken)))
     (λ c. omega (arith, c .before .before .before .before .before .before .token-at .ensures .1 (λ e. omega arith)))
     (λ c. omega arith)
     (λ c κs. omega arith)
-    (λ c κs. answer told heard heard-told (readOperand _ _ _ _) (c .operand2 .ensures))
-    (λ c. let d = c .before .before .before .before .before .before .before .before in step told heard heard-told inverted (readOperand _ _ _ _) (c .before .operand2 .ensures) (c .inverted-got .ensures) (not-arm _ _ _ _ _ (d .before .before .if1 .left) (d .token-at .ensures .0) (c .before .before .if6 .taken)))
+    (λ c κs. answer (readOperand _ _ _ _) (c .operand2 .ensures))
+    (λ c. let d = c .before .before .before .before .before .before .before .before in step inverted (readOperand _ _ _ _) (c .before .operand2 .ensures) (c .inverted-got .ensures) (not-arm _ _ _ _ _ (d .before .before .if1 .left) (d .token-at .ensures .0) (c .before .before .if6 .taken)))
     (λ c κs ne. omega (arith, c .before .before .before .before .before .before .token-at .ensures .1 ne))
     (λ c.
     let i = c .before .before .before .before in
@@ -147,7 +146,7 @@ unfolding valueOver
     row-ends (l .before .before .loop .inv) (heard-value (l .before .before .loop .a) (l .if1 .left)) (c .before .before .token-at .ensures .0) (c .before .is-factor .ensures) (c .if2 .taken))
     (λ c. let d = c .before .before in omega (arith, d .token-at .ensures .1 (no-end TIMES OVER (d .token-at .result) (omega arith) (c .before .is-factor .ensures) (not-false _ (c .if2 .left)))))
     (λ c κs. omega arith)
-    (λ c κs. answer told heard heard-told (readOperand _ _ _ _) (c .before .operand2 .ensures))
+    (λ c κs. answer (readOperand _ _ _ _) (c .before .operand2 .ensures))
     (λ c. omega arith)
     (λ c. omega arith)
     (λ c.
@@ -168,7 +167,7 @@ unfolding valueOver
     row-ends (l .before .before .loop .inv) (heard-value (l .before .before .loop .a) (l .if1 .left)) (c .before .before .token-at .ensures .0) (c .before .is-term .ensures) (c .if2 .taken))
     (λ c. let d = c .before .before in omega (arith, d .token-at .ensures .1 (no-end PLUS MINUS (d .token-at .result) (omega arith) (c .before .is-term .ensures) (not-false _ (c .if2 .left)))))
     (λ c κs. omega arith)
-    (λ c κs. answer told heard heard-told (readProduct _ _ _ _ _) (c .before .product2 .ensures))
+    (λ c κs. answer (readProduct _ _ _ _ _) (c .before .product2 .ensures))
     (λ c. omega arith)
     (λ c. omega arith)
     (λ c.

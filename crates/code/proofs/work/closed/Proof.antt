@@ -6,7 +6,7 @@ use native.Mathlib.Omega.{arith}
 use lib.IntN.{ℤ}
 use mir.Syntax.{w32}
 use Rattle.values.proofs.Signed.{back}
-use Rattle.code.specs.Reading.{read, readClose}
+use Rattle.code.specs.Reading.{read}
 use Rattle.code.specs.Working.{valueOver, told}
 use Rattle.code.proofs.Arms.{closes, closes-not}
 use Rattle.code.proofs.Told.{passes, enters}
@@ -18,17 +18,15 @@ unfolding valueOver
 closed-spec =
     tie.close
     (tie.spec
-    (λ c. let a = c .before .args in passes (a .a) (readClose (a .code .now) (valueOver (a .r .now) (a .cells .now))) (c .before .pre) (c .if1 .taken))
+    (λ c. passes _ _ (c .before .pre) (c .if1 .taken))
     (λ c κs. search needs)
     (λ c κs. search needs)
     (λ c.
     let d = c .before .before in
-    let a = d .before .before .before .args in
-    c .stopped .ensures ∙
-    enters (a .a) (readClose (a .code .now) (valueOver (a .r .now) (a .cells .now))) (d .before .before .if1 .left) (closes-not _ _ _ _ _ (d .token-at .ensures .0) (c .before .if2 .taken)))
+    c .stopped .ensures ∙ enters (d .before .before .before .args .a) _ (d .before .before .if1 .left) (closes-not _ _ _ _ _ (d .token-at .ensures .0) (c .before .if2 .taken)))
     (λ c. omega (arith, c .before .token-at .ensures .1 (λ e. omega arith)))
     (λ c.
     let d = c .before .before in
-    let a = d .before .before .before .args in
-    ap (λ (v : ℤ). told (read v (a .a .next + 1))) (back w32 (record { sfits = c .struct-told .given .1 .0 .1 })) ∙
-    enters (a .a) (readClose (a .code .now) (valueOver (a .r .now) (a .cells .now))) (d .before .before .if1 .left) (closes _ _ _ _ _ (d .token-at .ensures .0) (c .before .if2 .left))))
+    let a = d .before .before .before .args .a in
+    ap (λ (v : ℤ). told (read v (a .next + 1))) (back w32 (record { sfits = c .struct-told .given .1 .0 .1 })) ∙
+    enters a _ (d .before .before .if1 .left) (closes _ _ _ _ _ (d .token-at .ensures .0) (c .before .if2 .left))))

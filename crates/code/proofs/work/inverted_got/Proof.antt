@@ -6,7 +6,7 @@ use lib.IntN.{ℤ}
 use mir.Syntax.{w32}
 use Rattle.values.proofs.Signed.{back}
 use Rattle.code.specs.Reading.{read}
-use Rattle.code.specs.Working.{yesNo, isYes, told, inverted}
+use Rattle.code.specs.Working.{yesNo, isYes, told}
 use Rattle.code.proofs.Told.{passes, enters}
 use Rattle.code.proofs.work.inverted_got.Statement.{statement}
 use Rattle.code.proofs.work.inverted_got.Tie as tie
@@ -15,7 +15,7 @@ pub inverted-got-spec : {M : Type 1} → statement M
 inverted-got-spec =
     tie.close
     (tie.spec
-    (λ c. passes (c .before .args .a) inverted (c .before .pre) (c .if1 .taken))
+    (λ c. passes _ _ (c .before .pre) (c .if1 .taken))
     (λ c κs. search needs)
     (λ c κs. search needs)
     (λ c.
@@ -23,4 +23,4 @@ inverted-got-spec =
     let a = s .before .before .args .a in
     let y = c .before .is-yes .ensures ∙ ap isYes (back w32 (record { sfits = s .struct-told .given .1 .0 .1 })) in
     ap (λ (v : ℤ). told (read v (a .next))) (back w32 (record { sfits = c .yes-no .ok }) ∙ c .yes-no .ensures ∙ ap (λ (b : Bool). yesNo (not b)) y) ∙
-    enters a inverted (s .before .if1 .left) refl))
+    enters a _ (s .before .if1 .left) refl))

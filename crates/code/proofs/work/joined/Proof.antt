@@ -12,11 +12,11 @@ pub joined-spec : {M : Type 1} → statement M
 joined-spec =
     tie.close
     (tie.spec
-    (λ c. passes (c .before .args .b) (λ y q. upTo (joinValues (c .before .args .op) (c .before .args .a) y) q) (c .before .pre) (c .if1 .taken))
+    (λ c. passes _ _ (c .before .pre) (c .if1 .taken))
     (λ c κs. search needs)
     (λ c.
     let s = c .before in
     let a = s .before .before .args in
     c .join-values .ensures ∙
     both (λ (x y : ℤ). told (upTo (joinValues (a .op) x y) (a .b .next))) (s .before .before .fits .a) (record { sfits = s .struct-told .given .1 .0 .1 }) ∙
-    enters (a .b) (λ y q. upTo (joinValues (a .op) (a .a) y) q) (s .before .if1 .left) refl))
+    enters (a .b) _ (s .before .if1 .left) refl))
