@@ -191,6 +191,18 @@ fn id_fault(n: u32) -> u8
 
 // ---- what one step sees
 
+// The same, field by field: to copy whole what was just written in parts makes the processor wait for all of them.
+fn again(a: Look) -> Look
+    ensures { λ x. ⌜ x ≡ a ⌝ }
+{
+    Look {
+        good: a.good,
+        truth: a.truth,
+        fault: a.fault,
+        next: a.next,
+    }
+}
+
 fn stopped() -> Look
     ensures { λ x. ⌜ x ≡ shown (ends 5) ⌝ }
 {
@@ -354,17 +366,17 @@ fn product(code: &[u32; SIZE], at: usize, left: usize) -> Look
     while 0 < turns {
         let good = a.good;
         if !good {
-            return a;
+            return again(a);
         }
         let i = a.next;
         let t = token_at(code, i);
         if !is_factor(t) {
-            return a;
+            return again(a);
         }
         a = joined(t, a.truth, a.fault, operand(code, i + 1, left));
         turns -= 1;
     }
-    a
+    again(a)
 }
 
 fn sum(code: &[u32; SIZE], at: usize, left: usize) -> Look
@@ -375,17 +387,17 @@ fn sum(code: &[u32; SIZE], at: usize, left: usize) -> Look
     while 0 < turns {
         let good = a.good;
         if !good {
-            return a;
+            return again(a);
         }
         let i = a.next;
         let t = token_at(code, i);
         if !is_term(t) {
-            return a;
+            return again(a);
         }
         a = joined(t, a.truth, a.fault, product(code, i + 1, left));
         turns -= 1;
     }
-    a
+    again(a)
 }
 
 fn expression(code: &[u32; SIZE], at: usize, left: usize) -> Look
@@ -394,27 +406,27 @@ fn expression(code: &[u32; SIZE], at: usize, left: usize) -> Look
     let mut a = sum(code, at, left);
     let good = a.good;
     if !good {
-        return a;
+        return again(a);
     }
     let first = token_at(code, a.next);
     if is_compare(first) {
-        return joined(first, a.truth, a.fault, sum(code, a.next + 1, left));
+        return again(joined(first, a.truth, a.fault, sum(code, a.next + 1, left)));
     }
     let mut turns = left;
     while 0 < turns {
         let good = a.good;
         if !good {
-            return a;
+            return again(a);
         }
         let i = a.next;
         let t = token_at(code, i);
         if !is_row(first, t) {
-            return a;
+            return again(a);
         }
         a = joined(t, a.truth, a.fault, sum(code, i + 1, left));
         turns -= 1;
     }
-    a
+    again(a)
 }
 
 // ---- actions

@@ -48,6 +48,17 @@ pub struct Got {
 
 // ---- what one step gives
 
+// The same, field by field: to copy whole what was just written in parts makes the processor wait for all of them.
+fn again(g: Got) -> Got
+    ensures { λ x. ⌜ x ≡ g ⌝ }
+{
+    Got {
+        good: g.good,
+        value: g.value,
+        next: g.next,
+    }
+}
+
 fn stopped(k: u8) -> Got
     ensures { λ x. ⌜ x ≡ told (ends k) ⌝ }
 {
@@ -273,17 +284,17 @@ fn product(code: &[u32; SIZE], r: &[i32; RS], cells: &[i32; CELLS], at: usize, l
     while 0 < turns {
         let good = a.good;
         if !good {
-            return a;
+            return again(a);
         }
         let i = a.next;
         let t = token_at(code, i);
         if !is_factor(t) {
-            return a;
+            return again(a);
         }
         a = joined(t, a.value, operand(code, r, cells, i + 1, left));
         turns -= 1;
     }
-    a
+    again(a)
 }
 
 fn sum(code: &[u32; SIZE], r: &[i32; RS], cells: &[i32; CELLS], at: usize, left: usize) -> Got
@@ -294,17 +305,17 @@ fn sum(code: &[u32; SIZE], r: &[i32; RS], cells: &[i32; CELLS], at: usize, left:
     while 0 < turns {
         let good = a.good;
         if !good {
-            return a;
+            return again(a);
         }
         let i = a.next;
         let t = token_at(code, i);
         if !is_term(t) {
-            return a;
+            return again(a);
         }
         a = joined(t, a.value, product(code, r, cells, i + 1, left));
         turns -= 1;
     }
-    a
+    again(a)
 }
 
 fn expression(
@@ -319,27 +330,27 @@ fn expression(
     let mut a = sum(code, r, cells, at, left);
     let good = a.good;
     if !good {
-        return a;
+        return again(a);
     }
     let first = token_at(code, a.next);
     if is_compare(first) {
-        return joined(first, a.value, sum(code, r, cells, a.next + 1, left));
+        return again(joined(first, a.value, sum(code, r, cells, a.next + 1, left)));
     }
     let mut turns = left;
     while 0 < turns {
         let good = a.good;
         if !good {
-            return a;
+            return again(a);
         }
         let i = a.next;
         let t = token_at(code, i);
         if !is_row(first, t) {
-            return a;
+            return again(a);
         }
         a = joined(t, a.value, sum(code, r, cells, i + 1, left));
         turns -= 1;
     }
-    a
+    again(a)
 }
 
 // ---- what the layers above call

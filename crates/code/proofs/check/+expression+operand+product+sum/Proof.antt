@@ -12,6 +12,7 @@ use Rattle.code.proofs.Arms.{spent, number-arm, variable-arm, open-arm,
 use Rattle.code.proofs.Between.{no-end, row-no-end}
 use Rattle.code.proofs.Rows.{Kept, row-stops, row-ends, row-spent, row-goes, product-begins, sum-begins, expression-stops, comparison, row-after}
 use Rattle.code.proofs.Shown.{sight-shown, answer, step, sight-ends, sight-read}
+use Rattle.code.proofs.check.again.Reads as again
 use Rattle.code.proofs.check.closed.Reads as closed
 use Rattle.code.proofs.check.expression.Reads as expression
 use Rattle.code.proofs.check.joined.Reads as joined
@@ -60,27 +61,35 @@ unfolding sight
     (λ κs a. 4 * a .1 .1 .0 + 1)
     (λ κs a. 4 * a .1 .1 .0 + 2)
     -- expression
-    (λ t. expression-lts.spec (_, sum.Post, _, token-at.Learnt, _, is-compare.Learnt, _, joined.Learnt, _, is-row.Learnt) _ expression.Post expression-Inv (λ code at left a₀ good first turns₀ a turns. turns)
+    (λ t. expression-lts.spec (_, sum.Post, _, again.Learnt, _, token-at.Learnt, _, is-compare.Learnt, _, joined.Learnt, _, is-row.Learnt) _ expression.Post expression-Inv (λ code at left a₀ good first turns₀ a turns. turns)
     (λ c κs. omega arith)
-    (λ c. expression-stops _ _ shown shownSight sight-shown _ _ _ (c .before .sum .ensures) (sight-ends (c .before .sum .result) (c .if1 .taken)))
+    (λ c κs. search needs)
+    (λ c. c .again .ensures ∙ expression-stops _ _ shown shownSight sight-shown _ _ _ (c .before .before .sum .ensures) (sight-ends (c .before .before .sum .result) (c .before .if1 .taken)))
     (λ c κs. search needs)
     (λ c κs. search needs)
     (λ c. let d = c .before .before .before in omega (arith, d .token-at .ensures .1 (no-end SAME ATLEAST (d .token-at .result) (omega arith) (c .before .before .is-compare .ensures) (c .before .if2 .taken))))
     (λ c κs. omega arith)
     (λ c κs. answer (readSum _ _ _ _ _) (c .sum2 .ensures))
+    (λ c κs. search needs)
     (λ c.
-    let s = c .before .before .before in
+    let j = c .before in
+    let s = j .before .before .before in
     let r = s .before .before .before .before in
-    comparison _ _ shown shownSight sight-shown _ _ _ (r .before .sum .ensures) (sight-read (r .before .sum .result) (r .if1 .left)) (s .before .before .token-at .ensures .0) (s .before .is-compare .ensures) (s .if2 .taken) (c .before .sum2 .ensures) (c .joined .ensures))
+    c .again2 .ensures ∙
+    comparison _ _ shown shownSight sight-shown _ _ _ (r .before .sum .ensures) (sight-read (r .before .sum .result) (r .if1 .left)) (s .before .before .token-at .ensures .0) (s .before .is-compare .ensures) (s .if2 .taken) (j .before .sum2 .ensures) (j .joined .ensures))
     (λ c.
     let s = c .before .before .before .before in
     row-after _ _ shown shownSight sight-shown _ _ _ (s .before .sum .ensures) (sight-read (s .before .sum .result) (s .if1 .left)) (c .before .before .token-at .ensures .0) (c .before .is-compare .ensures) (c .if2 .left))
-    (λ c. let i = c .before .before .loop in row-stops (i .inv) (sight-ends (i .a) (c .if3 .taken)))
+    (λ c κs. search needs)
+    (λ c. let i = c .before .before .before .loop in c .again3 .ensures ∙ row-stops (i .inv) (sight-ends (i .a) (c .before .if3 .taken)))
+    (λ c κs. search needs)
     (λ c κs. search needs)
     (λ c κs. search needs)
     (λ c.
-    let s = c .before .before .before .before in
-    row-ends (s .before .before .loop .inv) (sight-read (s .before .before .loop .a) (s .if3 .left)) (c .before .before .token-at2 .ensures .0) (c .before .is-row .ensures) (c .if4 .taken))
+    let d = c .before in
+    let s = d .before .before .before .before in
+    c .again4 .ensures ∙
+    row-ends (s .before .before .loop .inv) (sight-read (s .before .before .loop .a) (s .if3 .left)) (d .before .before .token-at2 .ensures .0) (d .before .is-row .ensures) (d .if4 .taken))
     (λ c. let d = c .before .before in omega (arith, d .token-at2 .ensures .1 (row-no-end _ (d .token-at2 .result) (c .before .is-row .ensures) (not-false _ (c .if4 .left)))))
     (λ c κs. omega arith)
     (λ c κs. answer (readSum _ _ _ _ _) (c .sum3 .ensures))
@@ -90,7 +99,8 @@ unfolding sight
     let s = c .before .before .before in
     let r = s .before .before .before in
     row-goes (r .before .before .loop .inv) sight-shown (sight-read (r .before .before .loop .a) (r .if3 .left)) (s .before .token-at2 .ensures .0) (s .is-row .ensures) (c .before .before .if4 .left) (omega arith) (c .before .sum3 .ensures) (c .joined2 .ensures))
-    (λ c. row-spent (c .before .loop .inv) (c .loop-test .left)))
+    (λ c κs. search needs)
+    (λ c. c .again5 .ensures ∙ row-spent (c .before .before .loop .inv) (c .before .loop-test .left)))
     -- operand
     (λ t. operand-lts.spec (_, stopped.Learnt, _, token-at.Learnt, _, number-fault.Learnt, _, is-variable.Learnt, _, variable.Learnt, _, expression.Post, _, closed.Learnt, _, operand.Post, _, signed.Learnt, _, truth.Learnt) _ operand.Post
     (λ c κs. search needs)
@@ -131,15 +141,19 @@ unfolding sight
     let r = s .before .before .before in
     c .truth .ensures ∙ ap shown (truth-arm _ _ _ _ _ (r .before .before .before .if1 .left) (r .before .token-at .ensures .0) (r .if2 .left) (sym (s .before .before .is-variable .ensures) ∙ s .before .if3 .left) (s .if4 .left) (c .before .before .if5 .left) (c .before .if6 .left))))
     -- product
-    (λ t. product-lts.spec (_, operand.Post, _, token-at.Learnt, _, is-factor.Learnt, _, joined.Learnt) _ product.Post product-Inv (λ code at left a₀ turns₀ a turns. turns)
+    (λ t. product-lts.spec (_, operand.Post, _, again.Learnt, _, token-at.Learnt, _, is-factor.Learnt, _, joined.Learnt) _ product.Post product-Inv (λ code at left a₀ turns₀ a turns. turns)
     (λ c κs. omega arith)
     (λ c. product-begins _ _ shown shownSight sight-shown _ _ _ (c .operand .ensures))
-    (λ c. let i = c .before .before .loop in row-stops (i .inv) (sight-ends (i .a) (c .if1 .taken)))
+    (λ c κs. search needs)
+    (λ c. let i = c .before .before .before .loop in c .again .ensures ∙ row-stops (i .inv) (sight-ends (i .a) (c .before .if1 .taken)))
+    (λ c κs. search needs)
     (λ c κs. search needs)
     (λ c κs. search needs)
     (λ c.
-    let s = c .before .before .before .before in
-    row-ends (s .before .before .loop .inv) (sight-read (s .before .before .loop .a) (s .if1 .left)) (c .before .before .token-at .ensures .0) (c .before .is-factor .ensures) (c .if2 .taken))
+    let d = c .before in
+    let s = d .before .before .before .before in
+    c .again2 .ensures ∙
+    row-ends (s .before .before .loop .inv) (sight-read (s .before .before .loop .a) (s .if1 .left)) (d .before .before .token-at .ensures .0) (d .before .is-factor .ensures) (d .if2 .taken))
     (λ c. let d = c .before .before in omega (arith, d .token-at .ensures .1 (no-end TIMES OVER (d .token-at .result) (omega arith) (c .before .is-factor .ensures) (not-false _ (c .if2 .left)))))
     (λ c κs. omega arith)
     (λ c κs. answer (readOperand _ _ _ _) (c .operand2 .ensures))
@@ -149,17 +163,22 @@ unfolding sight
     let s = c .before .before .before in
     let r = s .before .before .before in
     row-goes (r .before .before .loop .inv) sight-shown (sight-read (r .before .before .loop .a) (r .if1 .left)) (s .before .token-at .ensures .0) (s .is-factor .ensures) (c .before .before .if2 .left) (omega arith) (c .before .operand2 .ensures) (c .joined .ensures))
-    (λ c. row-spent (c .before .loop .inv) (c .loop-test .left)))
+    (λ c κs. search needs)
+    (λ c. c .again3 .ensures ∙ row-spent (c .before .before .loop .inv) (c .before .loop-test .left)))
     -- sum
-    (λ t. sum-lts.spec (_, product.Post, _, token-at.Learnt, _, is-term.Learnt, _, joined.Learnt) _ sum.Post sum-Inv (λ code at left a₀ turns₀ a turns. turns)
+    (λ t. sum-lts.spec (_, product.Post, _, again.Learnt, _, token-at.Learnt, _, is-term.Learnt, _, joined.Learnt) _ sum.Post sum-Inv (λ code at left a₀ turns₀ a turns. turns)
     (λ c κs. omega arith)
     (λ c. sum-begins _ _ shown shownSight sight-shown _ _ _ (c .product .ensures))
-    (λ c. let i = c .before .before .loop in row-stops (i .inv) (sight-ends (i .a) (c .if1 .taken)))
+    (λ c κs. search needs)
+    (λ c. let i = c .before .before .before .loop in c .again .ensures ∙ row-stops (i .inv) (sight-ends (i .a) (c .before .if1 .taken)))
+    (λ c κs. search needs)
     (λ c κs. search needs)
     (λ c κs. search needs)
     (λ c.
-    let s = c .before .before .before .before in
-    row-ends (s .before .before .loop .inv) (sight-read (s .before .before .loop .a) (s .if1 .left)) (c .before .before .token-at .ensures .0) (c .before .is-term .ensures) (c .if2 .taken))
+    let d = c .before in
+    let s = d .before .before .before .before in
+    c .again2 .ensures ∙
+    row-ends (s .before .before .loop .inv) (sight-read (s .before .before .loop .a) (s .if1 .left)) (d .before .before .token-at .ensures .0) (d .before .is-term .ensures) (d .if2 .taken))
     (λ c. let d = c .before .before in omega (arith, d .token-at .ensures .1 (no-end PLUS MINUS (d .token-at .result) (omega arith) (c .before .is-term .ensures) (not-false _ (c .if2 .left)))))
     (λ c κs. omega arith)
     (λ c κs. answer (readProduct _ _ _ _ _) (c .product2 .ensures))
@@ -169,4 +188,5 @@ unfolding sight
     let s = c .before .before .before in
     let r = s .before .before .before in
     row-goes (r .before .before .loop .inv) sight-shown (sight-read (r .before .before .loop .a) (r .if1 .left)) (s .before .token-at .ensures .0) (s .is-term .ensures) (c .before .before .if2 .left) (omega arith) (c .before .product2 .ensures) (c .joined .ensures))
-    (λ c. row-spent (c .before .loop .inv) (c .loop-test .left)))
+    (λ c κs. search needs)
+    (λ c. c .again3 .ensures ∙ row-spent (c .before .before .loop .inv) (c .before .loop-test .left)))

@@ -20,6 +20,7 @@ use Rattle.code.proofs.token.is_row.Reads as is-row
 use Rattle.code.proofs.token.is_term.Reads as is-term
 use Rattle.code.proofs.token.is_variable.Reads as is-variable
 use Rattle.code.proofs.token.token_at.Reads as token-at
+use Rattle.code.proofs.work.again.Reads as again
 use Rattle.code.proofs.work.closed.Reads as closed
 use Rattle.code.proofs.work.expression.Reads as expression
 use Rattle.code.proofs.work.inverted_got.Reads as inverted-got
@@ -62,28 +63,36 @@ unfolding valueOver
     (λ κs a. 4 * a .1 .1 .1 .1 .0 + 1)
     (λ κs a. 4 * a .1 .1 .1 .1 .0 + 2)
     -- expression
-    (λ t. expression-lts.spec (_, sum.Post, _, token-at.Learnt, _, is-compare.Learnt, _, joined.Learnt, _, is-row.Learnt) _ expression.Post expression-Inv (λ code r cells at left a₀ good first turns₀ a turns. turns)
+    (λ t. expression-lts.spec (_, sum.Post, _, again.Learnt, _, token-at.Learnt, _, is-compare.Learnt, _, joined.Learnt, _, is-row.Learnt) _ expression.Post expression-Inv (λ code r cells at left a₀ good first turns₀ a turns. turns)
     (λ c κs. omega arith)
-    (λ c. expression-stops _ _ told heard heard-told _ _ _ (c .before .sum .ensures) (heard-alarm (c .before .sum .result) (c .if1 .taken)))
+    (λ c κs. search needs)
+    (λ c. c .again .ensures ∙ expression-stops _ _ told heard heard-told _ _ _ (c .before .before .sum .ensures) (heard-alarm (c .before .before .sum .result) (c .before .if1 .taken)))
     (λ c κs. search needs)
     (λ c κs. search needs)
     (λ c. let d = c .before .before .before in omega (arith, d .token-at .ensures .1 (no-end SAME ATLEAST (d .token-at .result) (omega arith) (c .before .before .is-compare .ensures) (c .before .if2 .taken))))
     (λ c κs. omega arith)
     (λ c κs. answer (readSum _ _ _ _ _) (c .before .sum2 .ensures))
+    (λ c κs. search needs)
     (λ c.
-    let d = c .before .before .before .before in
+    let j = c .before in
+    let d = j .before .before .before .before in
     let l = d .before .before .before .before in
-    comparison _ _ told heard heard-told _ _ _ (l .before .sum .ensures) (heard-back (l .before .sum .result) (l .if1 .left) (record { sfits = c .before .struct-told .given .1 .0 .1 })) (d .before .before .token-at .ensures .0) (d .before .is-compare .ensures) (d .if2 .taken)
-    (c .before .before .sum2 .ensures) (c .joined .ensures))
+    c .again2 .ensures ∙
+    comparison _ _ told heard heard-told _ _ _ (l .before .sum .ensures) (heard-back (l .before .sum .result) (l .if1 .left) (record { sfits = j .before .struct-told .given .1 .0 .1 })) (d .before .before .token-at .ensures .0) (d .before .is-compare .ensures) (d .if2 .taken)
+    (j .before .before .sum2 .ensures) (j .joined .ensures))
     (λ c.
     let l = c .before .before .before .before in
     row-after _ _ told heard heard-told _ _ _ (l .before .sum .ensures) (heard-value (l .before .sum .result) (l .if1 .left)) (c .before .before .token-at .ensures .0) (c .before .is-compare .ensures) (c .if2 .left))
-    (λ c. let i = c .before .before .loop in row-stops (i .inv) (heard-alarm (i .a) (c .if3 .taken)))
+    (λ c κs. search needs)
+    (λ c. let i = c .before .before .before .loop in c .again3 .ensures ∙ row-stops (i .inv) (heard-alarm (i .a) (c .before .if3 .taken)))
+    (λ c κs. search needs)
     (λ c κs. search needs)
     (λ c κs. search needs)
     (λ c.
-    let l = c .before .before .before .before in
-    row-ends (l .before .before .loop .inv) (heard-value (l .before .before .loop .a) (l .if3 .left)) (c .before .before .token-at2 .ensures .0) (c .before .is-row .ensures) (c .if4 .taken))
+    let d = c .before in
+    let l = d .before .before .before .before in
+    c .again4 .ensures ∙
+    row-ends (l .before .before .loop .inv) (heard-value (l .before .before .loop .a) (l .if3 .left)) (d .before .before .token-at2 .ensures .0) (d .before .is-row .ensures) (d .if4 .taken))
     (λ c. let d = c .before .before in omega (arith, d .token-at2 .ensures .1 (row-no-end _ (d .token-at2 .result) (c .before .is-row .ensures) (not-false _ (c .if4 .left)))))
     (λ c κs. omega arith)
     (λ c κs. answer (readSum _ _ _ _ _) (c .before .sum3 .ensures))
@@ -94,7 +103,8 @@ unfolding valueOver
     let l = d .before .before .before .before in
     row-goes (l .before .before .loop .inv) heard-told (heard-back (l .before .before .loop .a) (l .if3 .left) (record { sfits = c .before .struct-told2 .given .1 .0 .1 })) (d .before .before .token-at2 .ensures .0) (d .before .is-row .ensures) (d .if4 .left) (omega arith)
     (c .before .before .sum3 .ensures) (c .joined2 .ensures))
-    (λ c. row-spent (c .before .loop .inv) (omega arith)))
+    (λ c κs. search needs)
+    (λ c. c .again5 .ensures ∙ row-spent (c .before .before .loop .inv) (omega arith)))
     -- operand
     (λ t. operand-lts.spec (_, stopped.Learnt, _, token-at.Learnt, _, is-variable.Learnt, _, variable.Learnt, _, expression.Post, _, closed.Learnt, _, operand.Post, _, negated-got.Learnt, _, inverted-got.Learnt, _, truth.Learnt) _ operand.Post
     (λ c κs. search needs)
@@ -135,15 +145,19 @@ unfolding valueOver
     c .truth .ensures ∙
     ap told (truth-arm _ _ _ _ _ (d .before .before .if1 .left) (d .token-at .ensures .0) (i .before .before .if2 .left) (sym (i .before .is-variable .ensures) ∙ i .if3 .left) (c .before .before .before .if4 .left) (c .before .before .if5 .left) (c .before .if6 .left))))
     -- product
-    (λ t. product-lts.spec (_, operand.Post, _, token-at.Learnt, _, is-factor.Learnt, _, joined.Learnt) _ product.Post product-Inv (λ code r cells at left a₀ turns₀ a turns. turns)
+    (λ t. product-lts.spec (_, operand.Post, _, again.Learnt, _, token-at.Learnt, _, is-factor.Learnt, _, joined.Learnt) _ product.Post product-Inv (λ code r cells at left a₀ turns₀ a turns. turns)
     (λ c κs. omega arith)
     (λ c. product-begins _ _ told heard heard-told _ _ _ (c .operand .ensures))
-    (λ c. let i = c .before .before .loop in row-stops (i .inv) (heard-alarm (i .a) (c .if1 .taken)))
+    (λ c κs. search needs)
+    (λ c. let i = c .before .before .before .loop in c .again .ensures ∙ row-stops (i .inv) (heard-alarm (i .a) (c .before .if1 .taken)))
+    (λ c κs. search needs)
     (λ c κs. search needs)
     (λ c κs. search needs)
     (λ c.
-    let l = c .before .before .before .before in
-    row-ends (l .before .before .loop .inv) (heard-value (l .before .before .loop .a) (l .if1 .left)) (c .before .before .token-at .ensures .0) (c .before .is-factor .ensures) (c .if2 .taken))
+    let d = c .before in
+    let l = d .before .before .before .before in
+    c .again2 .ensures ∙
+    row-ends (l .before .before .loop .inv) (heard-value (l .before .before .loop .a) (l .if1 .left)) (d .before .before .token-at .ensures .0) (d .before .is-factor .ensures) (d .if2 .taken))
     (λ c. let d = c .before .before in omega (arith, d .token-at .ensures .1 (no-end TIMES OVER (d .token-at .result) (omega arith) (c .before .is-factor .ensures) (not-false _ (c .if2 .left)))))
     (λ c κs. omega arith)
     (λ c κs. answer (readOperand _ _ _ _) (c .before .operand2 .ensures))
@@ -154,17 +168,22 @@ unfolding valueOver
     let l = d .before .before .before .before in
     row-goes (l .before .before .loop .inv) heard-told (heard-back (l .before .before .loop .a) (l .if1 .left) (record { sfits = c .before .struct-told .given .1 .0 .1 })) (d .before .before .token-at .ensures .0) (d .before .is-factor .ensures) (d .if2 .left) (omega arith)
     (c .before .before .operand2 .ensures) (c .joined .ensures))
-    (λ c. row-spent (c .before .loop .inv) (omega arith)))
+    (λ c κs. search needs)
+    (λ c. c .again3 .ensures ∙ row-spent (c .before .before .loop .inv) (omega arith)))
     -- sum
-    λ t. sum-lts.spec (_, product.Post, _, token-at.Learnt, _, is-term.Learnt, _, joined.Learnt) _ sum.Post sum-Inv (λ code r cells at left a₀ turns₀ a turns. turns)
+    λ t. sum-lts.spec (_, product.Post, _, again.Learnt, _, token-at.Learnt, _, is-term.Learnt, _, joined.Learnt) _ sum.Post sum-Inv (λ code r cells at left a₀ turns₀ a turns. turns)
     (λ c κs. omega arith)
     (λ c. sum-begins _ _ told heard heard-told _ _ _ (c .product .ensures))
-    (λ c. let i = c .before .before .loop in row-stops (i .inv) (heard-alarm (i .a) (c .if1 .taken)))
+    (λ c κs. search needs)
+    (λ c. let i = c .before .before .before .loop in c .again .ensures ∙ row-stops (i .inv) (heard-alarm (i .a) (c .before .if1 .taken)))
+    (λ c κs. search needs)
     (λ c κs. search needs)
     (λ c κs. search needs)
     (λ c.
-    let l = c .before .before .before .before in
-    row-ends (l .before .before .loop .inv) (heard-value (l .before .before .loop .a) (l .if1 .left)) (c .before .before .token-at .ensures .0) (c .before .is-term .ensures) (c .if2 .taken))
+    let d = c .before in
+    let l = d .before .before .before .before in
+    c .again2 .ensures ∙
+    row-ends (l .before .before .loop .inv) (heard-value (l .before .before .loop .a) (l .if1 .left)) (d .before .before .token-at .ensures .0) (d .before .is-term .ensures) (d .if2 .taken))
     (λ c. let d = c .before .before in omega (arith, d .token-at .ensures .1 (no-end PLUS MINUS (d .token-at .result) (omega arith) (c .before .is-term .ensures) (not-false _ (c .if2 .left)))))
     (λ c κs. omega arith)
     (λ c κs. answer (readProduct _ _ _ _ _) (c .before .product2 .ensures))
@@ -175,4 +194,5 @@ unfolding valueOver
     let l = d .before .before .before .before in
     row-goes (l .before .before .loop .inv) heard-told (heard-back (l .before .before .loop .a) (l .if1 .left) (record { sfits = c .before .struct-told .given .1 .0 .1 })) (d .before .before .token-at .ensures .0) (d .before .is-term .ensures) (d .if2 .left) (omega arith)
     (c .before .before .product2 .ensures) (c .joined .ensures))
-    (λ c. row-spent (c .before .loop .inv) (omega arith))
+    (λ c κs. search needs)
+    (λ c. c .again3 .ensures ∙ row-spent (c .before .before .loop .inv) (omega arith))

@@ -1,0 +1,2 @@
+-- How the calls for Rust and C answer.
+pub mod Packed

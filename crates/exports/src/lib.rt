@@ -1,0 +1,61 @@
+// Calls of the control for programs in Rust or C. Each is a thin shell over a proved call, asks nothing of its caller but arrays of the
+// right length, and begins with the name of its crate.
+ghost use mathlib.Core.Path.{_≡_};
+ghost use Rattle.code.specs.Working.{conditionValue, rightValue};
+ghost use Rattle.code.specs.Fault.{lineAt};
+ghost use Rattle.exports.specs.Packed.{packed};
+use code::check;
+use code::token::SIZE;
+use code::variables::CELLS;
+use code::variables::RS;
+use code::work;
+use code::work::Got;
+
+// An alarm k is -2^40 - k, below every value.
+const ALARMS: i64 = -1099511627776;
+
+// What working gives, as one number: the value, or an alarm.
+fn packed_got(g: Got) -> i64
+    ensures { λ x. ⌜ x ≡ packed g ⌝ }
+{
+    let good = g.good;
+    if good {
+        return g.value as i64;
+    }
+    ALARMS - g.value as i64
+}
+
+// The condition at place `at`: 1 for yes, 0 for no, or an alarm.
+#[no_mangle]
+pub extern "C" fn code_condition(
+    code: &[u32; SIZE],
+    r: &[i32; RS],
+    cells: &[i32; CELLS],
+    at: usize,
+) -> i64
+    ensures { λ x. ⌜ x ≡ packed (conditionValue (now (code .entry)) (now (r .entry)) (now (cells .entry)) at) ⌝ }
+{
+    packed_got(work::condition(code, r, cells, at))
+}
+
+// The right side at place `at`: its value in thousandths, or an alarm.
+#[no_mangle]
+pub extern "C" fn code_right_side(
+    code: &[u32; SIZE],
+    r: &[i32; RS],
+    cells: &[i32; CELLS],
+    at: usize,
+) -> i64
+    ensures { λ x. ⌜ x ≡ packed (rightValue (now (code .entry)) (now (r .entry)) (now (cells .entry)) at) ⌝ }
+{
+    packed_got(work::right_side(code, r, cells, at))
+}
+
+// The lowest fault of 4 to 10 of the line at place `at`, 0 for none.
+#[no_mangle]
+pub extern "C" fn code_line_fault(code: &[u32; SIZE], at: usize) -> u32
+    ensures { λ x. ⌜ x ≡ lineAt (now (code .entry)) at .fault ⌝ }
+{
+    let line = check::line_at(code, at);
+    line.fault as u32
+}

@@ -1,0 +1,50 @@
+//! The proved calls of the crate `exports`. They ask nothing of their caller; the array types give the lengths.
+
+/// Places of a set, of R, and of the cells of all other variables: crates/code/specs/Variables.
+pub const SIZE: usize = 4130;
+pub const RS: usize = 164;
+pub const CELLS: usize = 122;
+
+pub type Code = [u32; SIZE];
+
+/// An alarm k is given as this less k.
+const ALARMS: i64 = -(1 << 40);
+
+extern "C" {
+    fn code_condition(code: &Code, r: &[i32; RS], cells: &[i32; CELLS], at: usize) -> i64;
+    fn code_right_side(code: &Code, r: &[i32; RS], cells: &[i32; CELLS], at: usize) -> i64;
+    fn code_line_fault(code: &Code, at: usize) -> u32;
+}
+
+/// What a walk reads: R, and one cell for each other variable.
+pub struct Memory {
+    pub r: [i32; RS],
+    pub cells: [i32; CELLS],
+}
+
+/// A value, or the number of an alarm.
+pub type Answer = Result<i64, u8>;
+
+pub fn condition(code: &Code, memory: &Memory, at: usize) -> i64 {
+    // SAFETY: the call reads these arrays, of these lengths, and nothing else.
+    unsafe { code_condition(code, &memory.r, &memory.cells, at) }
+}
+
+pub fn right_side(code: &Code, memory: &Memory, at: usize) -> i64 {
+    // SAFETY: as above.
+    unsafe { code_right_side(code, &memory.r, &memory.cells, at) }
+}
+
+/// The lowest fault of 4 to 10 of the line at `at`, 0 for none.
+pub fn line_fault(code: &Code, at: usize) -> u32 {
+    // SAFETY: as above.
+    unsafe { code_line_fault(code, at) }
+}
+
+pub fn answer(packed: i64) -> Answer {
+    if packed <= ALARMS {
+        Err((ALARMS - packed) as u8)
+    } else {
+        Ok(packed)
+    }
+}

@@ -1,0 +1,147 @@
+//! Set text as the numbers of crates/code/specs/Token, and lines of them in the array of a set.
+
+use crate::proved::{Code, SIZE};
+
+/// Where the tokens of a set start: behind its count of lines and the starts of 32.
+pub const FIRST: usize = 33;
+
+pub const EQUALS: u32 = 1;
+pub const RIGHT: u32 = 15;
+const NUMBER: u32 = 1 << 31;
+/// Twice the thousandths of a number that is too large or has too many digits.
+const BEYOND: u32 = 2_000_002_000;
+const TOP: u64 = 1_000_000_000;
+
+const SIGNS: [(&str, u32); 15] = [
+    ("==", 2),
+    ("<>", 3),
+    ("<=", 6),
+    (">=", 7),
+    ("=", 1),
+    ("<", 4),
+    (">", 5),
+    ("+", 8),
+    ("-", 9),
+    ("*", 10),
+    ("/", 11),
+    ("(", 12),
+    (")", 13),
+    ("[", 14),
+    ("]", 15),
+];
+
+const WORDS: [(&str, u32); 38] = [
+    ("ID", 16),
+    ("IDS", 17),
+    ("WHEN", 18),
+    ("WHENEVER", 19),
+    ("FROM", 20),
+    ("EVERY", 21),
+    ("DO", 22),
+    ("TRUE", 23),
+    ("FALSE", 24),
+    ("NOT", 25),
+    ("AND", 26),
+    ("OR", 27),
+    ("XOR", 28),
+    ("$A_IN", 32),
+    ("$A_INA", 33),
+    ("$A_OUT", 34),
+    ("$AC_MARKER", 35),
+    ("$AC_PARAM", 36),
+    ("$R", 37),
+    ("$AC_TIMER", 38),
+    ("$AC_FIFO1", 39),
+    ("$AC_FIFO2", 40),
+    ("$AC_FIFO3", 41),
+    ("$AC_FIFO4", 42),
+    ("$AA_IM", 43),
+    ("POS", 48),
+    ("FA", 49),
+    ("MOV", 50),
+    ("M", 51),
+    ("SETAL", 52),
+    ("LOCK", 53),
+    ("UNLOCK", 54),
+    ("X", 57),
+    ("Y", 58),
+    ("Z", 59),
+    ("U", 60),
+    ("V", 61),
+    ("W", 62),
+];
+
+/// The tokens of a line without its comment, or None if a byte or word makes no token.
+pub fn tokens(line: &str) -> Option<Vec<u32>> {
+    let mut found = Vec::new();
+    let mut rest = line.trim_start_matches(' ');
+    while let Some(byte) = rest.bytes().next() {
+        let (token, length) = match byte {
+            b'0'..=b'9' => number(rest)?,
+            b'$' | b'a'..=b'z' | b'A'..=b'Z' => word(rest)?,
+            _ => sign(rest)?,
+        };
+        found.push(token);
+        rest = rest[length..].trim_start_matches(' ');
+    }
+    Some(found)
+}
+
+fn sign(text: &str) -> Option<(u32, usize)> {
+    SIGNS.iter().find(|(sign, _)| text.starts_with(sign)).map(|(sign, token)| (*token, sign.len()))
+}
+
+fn word(text: &str) -> Option<(u32, usize)> {
+    let of_a_word = |byte: &u8| byte.is_ascii_alphanumeric() || *byte == b'_';
+    let length = 1 + text.bytes().skip(1).take_while(of_a_word).count();
+    WORDS.iter().find(|(word, _)| *word == &text[..length]).map(|(_, token)| (*token, length))
+}
+
+/// 2^31 and twice the thousandths, and one more if a point is written.
+fn number(text: &str) -> Option<(u32, usize)> {
+    let units = digits(text);
+    let places = if text[units..].starts_with('.') { digits(&text[units + 1..]) } else { 0 };
+    let length = if places > 0 { units + 1 + places } else { units };
+    if text[length..].starts_with(|next: char| next.is_ascii_alphabetic()) {
+        return None;
+    }
+    let load = load(&text[..units], &text[length - places..length]);
+    Some((NUMBER + load + u32::from(places > 0), length))
+}
+
+fn digits(text: &str) -> usize {
+    text.bytes().take_while(u8::is_ascii_digit).count()
+}
+
+/// Twice the thousandths of the number with these digits before and after its point.
+fn load(units: &str, places: &str) -> u32 {
+    if units.len() > 7 || places.len() > 3 {
+        return BEYOND;
+    }
+    let thousandths: u64 = format!("{units}{places:0<3}").parse().expect("at most ten digits");
+    if thousandths <= TOP {
+        2 * thousandths as u32
+    } else {
+        BEYOND
+    }
+}
+
+/// Lines of tokens as a set: each ends with a token 0.
+pub struct Laid {
+    pub code: Box<Code>,
+    pub starts: Vec<usize>,
+}
+
+pub fn laid(lines: &[Vec<u32>]) -> Laid {
+    let mut code = Box::new([0; SIZE]);
+    let mut starts = Vec::new();
+    let mut at = FIRST;
+    code[0] = lines.len() as u32;
+    for (rank, line) in lines.iter().enumerate() {
+        starts.push(at);
+        code[1 + rank] = at as u32;
+        code[at..at + line.len()].copy_from_slice(line);
+        at += line.len() + 1;
+    }
+    Laid { code, starts }
+}
