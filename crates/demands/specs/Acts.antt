@@ -1,0 +1,44 @@
+-- What the rule says of one line in one beat, and what is asked of the replies of a run: the words of demand 3's consequences. Definitions only; assumes nothing.
+use mathlib.Core.Bool.{Bool, false, cond, _&&_, _||_}
+use mathlib.Core.List.{List, [], _∷_}
+use Prim.Native.Nat.{ℕ, _/_, _%_, _^_}
+use lib.Dec.{eqb}
+use lib.IntN.{ℤ}
+use Rattle.code.specs.Reading.{Answer, good, stop}
+use Rattle.code.specs.Working.{isYes, conditionValue}
+use Rattle.code.specs.declared.check.Line.{Line}
+use Rattle.engine.specs.Action.{World, fromGot}
+use Rattle.demands.specs.Record.{Record, takesByRule, triesByRule, actsByRule}
+use Rattle.demands.specs.Run.{Call, doBeat, doLock, doUnlock, doCancel, doReset, Reply}
+
+-- the line of rank k has its bit in the word of the lines that acted
+abbrev pub isActed : ℕ → ℕ → Bool
+isActed word k = eqb (word / 2 ^ k % 2) 1
+
+-- what a line's condition gives in this world: its real value, worked from the variables (no, if an alarm ends it)
+abbrev pub isYesAnswer : Answer (ℤ × ℕ) → Bool
+isYesAnswer (good a) = isYes (a .0)
+isYesAnswer (stop c) = false
+
+abbrev pub conditionNow : List ℕ → Line → World → Bool
+conditionNow s l x = isYesAnswer (fromGot (conditionValue s (x .vars .r) (x .vars .cells) (l .condition)))
+
+-- by the rule the line of rank k takes a turn, and works its condition, where r is the record so far
+abbrev pub triesNow : Line → ℕ → Record → Bool
+triesNow l k r = takesByRule l k r && triesByRule (l .keyword) k r
+
+-- by the rule it takes a turn, and acts, where x is the world in which its turn comes; a condition that is not worked counts as no
+abbrev pub actsNow : List ℕ → Line → ℕ → Record → World → Bool
+actsNow s l k r x = takesByRule l k r && actsByRule (l .keyword) k r (triesByRule (l .keyword) k r && conditionNow s l x)
+
+-- has the line of rank k acted since the last start, the load or a reset that was taken: looking back over the calls and their replies
+abbrev pub actedIn : ℕ → Call → Reply → Bool → Bool
+actedIn k (doBeat m word lent b) x before = isActed (x .acted) k || before
+actedIn k (doLock n) x before = before
+actedIn k (doUnlock n) x before = before
+actedIn k (doCancel n) x before = before
+actedIn k doReset x before = cond (eqb (x .code) 0) false before
+
+abbrev pub actedSince : ℕ → List (Call × Reply) → Bool
+actedSince k [] = false
+actedSince k (c ∷ cs) = actedIn k (c .0) (c .1) (actedSince k cs)

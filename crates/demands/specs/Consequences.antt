@@ -1,0 +1,332 @@
+-- What follows from demand 3, said of the engine's own run: in every beat it acts on just the lines that the rule gives; between two starts a WHEN line acts at most once;
+-- an EVERY line acts only where its condition is true and was not, or was never tried, at its turn before; locking and unlocking change no memory. Assumes nothing.
+use mathlib.Core.Path.{_≡_, refl, sym, ap, _∙_}
+use mathlib.Core.Bool.{Bool, true, false, cond, not, _&&_, _||_}
+use mathlib.Core.List.{List, [], _∷_}
+use Prim.Native.Nat.{ℕ, zero, suc, _+_, _<_, _≤_, _^_}
+use native.Mathlib.Omega.{arith}
+use native.Mathlib.Nat.{zero-div}
+use lib.Dec.{eqb, ltb}
+use lib.IntN.{ℤ}
+use lib.ListN.{length, getD}
+use Rattle.code.specs.Token.{WHEN, EVERY}
+use Rattle.code.specs.Reading.{Answer, good, stop, _>>=_}
+use Rattle.code.specs.Working.{isYes, conditionValue}
+use Rattle.code.specs.declared.check.Line.{Line}
+use Rattle.engine.specs.declared.set.Lines.{Lines}
+use Rattle.engine.specs.declared.state.State.{State}
+use Rattle.engine.specs.declared.calls.Found.{Found}
+use Rattle.engine.specs.declared.calls.Called.{Called}
+use Rattle.engine.specs.Set.{noLine, soundLines}
+use Rattle.engine.specs.Sound.{isSound}
+use Rattle.engine.specs.Action.{Vars, World, Note, Did, fromGot, actionsOf}
+use Rattle.engine.specs.Turn.{Entry, beatIn, worked, locks, cancels, resets, Turned, counted, doTurn, turnsFrom}
+use Rattle.engine.specs.Beat.{bufferSize, areInputs, begun, beatOf, answered, beatAnswer}
+use Rattle.engine.specs.Calls.{withLocked, found, called, lockedCall, lockCall, unlockCall}
+use Rattle.demands.specs.Record.{Record, after, isAutomatic, everTrue, wasTrue, takesByRule, triesByRule, actsByRule}
+use Rattle.demands.specs.Run.{Call, doBeat, doLock, doUnlock, doCancel, doReset, Now, coded, noted, rankOf, codeByRule, cleared, run, stateBy, begunBy, byRank, cancelledBy, tryByRule, turnByRule, turnsByRule, beatByRule, stepByRule, resetByRule, runByRuleFrom, runByRule, beatenByRule}
+use Rattle.demands.specs.Acts.{isActed, conditionNow, triesNow, actsNow, actedSince}
+use Rattle.demands.specs.FlagLaws.{count-small}
+use Rattle.demands.specs.ActionLaws.{Ok, bind-ok, is-ok, choose-ok, noteAll, Noted, actions-noted}
+use Rattle.demands.specs.TurnLaws.{flagged, flaggedTurn, turns-same}
+use Rattle.demands.specs.ActLaws.{Done, done, no-other}
+use Rattle.demands.specs.Demand3.{beat-same, demand-3}
+
+-- ---- a beat that ended well, by the rule
+
+module _ (s : List ℕ) (v : Vars) (r : Record) (m : Bool) (word : ℕ) (lent : List ℤ) (size : ℕ) where
+  -- it is its mode and the turns of all the lines
+  beat-turns : (t : Turned) → beatByRule s v r m word lent size ≡ good t →
+      (u : Turned) × (turnsByRule s (soundLines s) (soundLines s .count) 0 (beatIn m ∷ r) (begunBy v word lent) ≡ good u) × (t ≡ record { world = u .world; entries = beatIn m ∷ u .entries })
+  unfolding beatByRule
+  beat-turns t = go (isSound s (stateBy (soundLines s) v r)) (ltb size bufferSize) (areInputs lent) (turnsByRule s (soundLines s) (soundLines s .count) 0 (beatIn m ∷ r) (begunBy v word lent))
+    where
+      go : (a b c : Bool) (d : Answer Turned) →
+          (let x : Answer Turned = elim a [
+            | true ↦ elim b [ true ↦ stop 20 | false ↦ elim c [ true ↦ d >>= λ t. good (record { world = t .world; entries = beatIn m ∷ t .entries }) | false ↦ stop 21 ] ]
+            | false ↦ stop 22
+          ] in x ≡ good t) → (u : Turned) × (d ≡ good u) × (t ≡ record { world = u .world; entries = beatIn m ∷ u .entries })
+      go true true c d e = let z : _≡_ {A = ℕ} 0 1 = cc in absurd (omega arith)
+      go true false true (good u) e = (u, refl, cc)
+      go true false true (stop k) e = let z : _≡_ {A = ℕ} 0 1 = cc in absurd (omega arith)
+      go true false false d e = let z : _≡_ {A = ℕ} 0 1 = cc in absurd (omega arith)
+      go false b c d e = let z : _≡_ {A = ℕ} 0 1 = cc in absurd (omega arith)
+
+  -- what it did for the line of rank k
+  beat-done : (t : Turned) (k : ℕ) → k < soundLines s .count → beatByRule s v r m word lent size ≡ good t →
+      (u : Turned) × Done s (soundLines s) k (beatIn m ∷ r) (begunBy v word lent) u × (t ≡ record { world = u .world; entries = beatIn m ∷ u .entries })
+  unfolding begunBy
+  beat-done t k h e =
+      let u = beat-turns t e in
+      (u .0, done s (soundLines s) (soundLines s .count) k (beatIn m ∷ r) (begunBy v word lent) (u .0) h refl (u .1), u .2)
+
+-- ---- the engine's beat
+
+-- a beat of the engine, in the state st and after the record r, that came to t; for the line of rank k: what the turns of the lines before it came to (`before`, `come`);
+-- the line acted just where the rule, over the record so far and in the world in which its turn came, says so (`acted`); until then nothing was said of its condition in
+-- this beat (`ever-before`, `was-before`); and after the beat the record says of it what it gave in that world, if it was worked, and else what it said before (`ever`, `was`)
+pub record Came (s : List ℕ) (st : State) (r : Record) (m : Bool) (word : ℕ) (lent : List ℤ) (k : ℕ) (t : Turned) : Type 0 where
+  pub before : Turned
+  pub come : turnsFrom s (soundLines s .numbers) (st .cancelled) m (soundLines s .items) k 0 (begun st word lent) ≡ good before
+  pub acted : isActed (t .world .acted) k ≡ actsNow s (getD (soundLines s .items) k noLine) k (after (before .entries) (beatIn m ∷ r)) (before .world)
+  pub ever-before : everTrue k (after (before .entries) (beatIn m ∷ r)) ≡ everTrue k r
+  pub was-before : wasTrue k (after (before .entries) (beatIn m ∷ r)) ≡ wasTrue k r
+  pub ever : everTrue k (after (t .entries) r) ≡
+      triesNow (getD (soundLines s .items) k noLine) k (after (before .entries) (beatIn m ∷ r)) && conditionNow s (getD (soundLines s .items) k noLine) (before .world) || everTrue k r
+  pub was : wasTrue k (after (t .entries) r) ≡
+      cond (triesNow (getD (soundLines s .items) k noLine) k (after (before .entries) (beatIn m ∷ r))) (conditionNow s (getD (soundLines s .items) k noLine) (before .world)) (wasTrue k r)
+
+module _ (s : List ℕ) (v : Vars) (r : Record) (m : Bool) (word : ℕ) (lent : List ℤ) (size : ℕ) (t : Turned) where
+  -- the beat of the engine is the beat by the rule, in flags
+  unflagged : beatOf s (stateBy (soundLines s) v r) m word lent size ≡ good t →
+      (u : Turned) × (beatByRule s v r m word lent size ≡ good u) × (t .world .acted ≡ u .world .acted) × (t .entries ≡ u .entries)
+  unflagged e = go (beatByRule s v r m word lent size) refl (sym (beat-same s v r m word lent size) ∙ e)
+    where
+      go : (a : Answer Turned) → beatByRule s v r m word lent size ≡ a → (a >>= flaggedTurn (soundLines s) r) ≡ good t →
+          (u : Turned) × (beatByRule s v r m word lent size ≡ good u) × (t .world .acted ≡ u .world .acted) × (t .entries ≡ u .entries)
+      go (good u) p q =
+          let h : t ≡ record { world = flagged (soundLines s) (after (u .entries) r) (u .world); entries = u .entries } = cc in
+          (u, p, ap (λ y. y .world .acted) h, ap (λ y. y .entries) h)
+      go (stop c) p q = let z : _≡_ {A = ℕ} 0 1 = cc in absurd (omega arith)
+
+  came : (k : ℕ) → k < soundLines s .count → beatOf s (stateBy (soundLines s) v r) m word lent size ≡ good t → Came s (stateBy (soundLines s) v r) r m word lent k t
+  unfolding stateBy begun begunBy
+  came k h e = let w = unflagged e in let d = beat-done s v r m word lent size (w .0) k h (w .1) in go (w .0) (w .2) (w .3) (d .0) (d .1) (d .2)
+    where
+      go : (w : Turned) → t .world .acted ≡ w .world .acted → t .entries ≡ w .entries → (u : Turned) → Done s (soundLines s) k (beatIn m ∷ r) (begunBy v word lent) u →
+          w ≡ record { world = u .world; entries = beatIn m ∷ u .entries } → Came s (stateBy (soundLines s) v r) r m word lent k t
+      go w p a u d q = record {
+        before = record { world = flagged (soundLines s) (after (d .before .entries) (beatIn m ∷ r)) (d .before .world); entries = d .before .entries };
+        come = turns-same (soundLines s) s k 0 (beatIn m ∷ r) (begunBy v word lent) (count-small s) (omega arith) ∙ rw (d .come);
+        acted = ap (λ n. isActed n k) (p ∙ ap (λ y. y .world .acted) q) ∙ d .acted;
+        ever-before = d .ever-before;
+        was-before = d .was-before;
+        ever = ap (λ es. everTrue k (after es r)) (a ∙ ap (λ y. y .entries) q) ∙ d .ever;
+        was = ap (λ es. wasTrue k (after es r)) (a ∙ ap (λ y. y .entries) q) ∙ d .was;
+      }
+
+-- no reply of a failed beat has a bit
+no-bit : (k : ℕ) → isActed 0 k ≡ false
+no-bit k = rw (zero-div (2 ^ k))
+
+acted-good : (st : State) (k : ℕ) (a : Answer Turned) → isActed (answered st a .acted) k ≡ true → (t : Turned) × (a ≡ good t) × (isActed (t .world .acted) k ≡ true)
+acted-good st k (good t) e = (t, refl, e)
+acted-good st k (stop c) e = let z : false ≡ true = sym (no-bit k) ∙ e in let y : _≡_ {A = ℕ} 0 1 = cc in absurd (omega arith)
+
+-- ---- of the rule, for one keyword
+
+acts-when : (kw k : ℕ) (r : Record) (v : Bool) → kw ≡ WHEN → actsByRule kw k r v ≡ v && not (everTrue k r)
+acts-when kw k r v p = rw p
+
+acts-every : (kw k : ℕ) (r : Record) (v : Bool) → kw ≡ EVERY → actsByRule kw k r v ≡ v && not (wasTrue k r)
+acts-every kw k r v p = rw p
+
+fresh : (a b c m : Bool) → a && ((b && c) && not m) ≡ true → ((a && b) && c ≡ true) × (c ≡ true) × (m ≡ false)
+fresh true true true true e = (refl, refl, sym e)
+fresh true true true false e = (refl, refl, refl)
+fresh true true false m e = (e, e, cc)
+fresh true false c m e = (e, cc, cc)
+fresh false b c m e = (e, cc, cc)
+
+-- ---- a WHEN line that has acted since the last start had a true condition since then
+
+or-either : (a b : Bool) → a || b ≡ true → (a ≡ false → b ≡ true)
+or-either true b e f = cc
+or-either false b e f = e
+
+or-right : (a b : Bool) → b ≡ true → a || b ≡ true
+or-right true b e = refl
+or-right false b e = e
+
+module _ (s : List ℕ) (k : ℕ) (h : k < soundLines s .count) (w : getD (soundLines s .items) k noLine .keyword ≡ WHEN) where
+  abbrev Once : Now Vars → Type 0
+  Once n = actedSince k (n .told) ≡ true → everTrue k (n .written) ≡ true
+
+  noted-ever : (c : ℕ) (e : Entry) (r : Record) → everTrue k (e ∷ r) ≡ everTrue k r → everTrue k (noted c e r) ≡ everTrue k r
+  noted-ever c e r p = go (eqb c 0)
+    where
+      go : (b : Bool) → let x : Record = elim b [ true ↦ e ∷ r | false ↦ r ] in everTrue k x ≡ everTrue k r
+      go true = p
+      go false = refl
+
+  -- a beat that ended well
+  once-good : (m : Bool) (word : ℕ) (lent : List ℤ) (n : Now Vars) (t u : Turned) → Done s (soundLines s) k (beatIn m ∷ n .written) (begunBy (n .kept) word lent) u →
+      t ≡ record { world = u .world; entries = beatIn m ∷ u .entries } → Once n → isActed (t .world .acted) k || actedSince k (n .told) ≡ true → everTrue k (after (t .entries) (n .written)) ≡ true
+  once-good m word lent n t u d q f g =
+      ap (λ y. everTrue k (after (y .entries) (n .written))) q ∙ d .ever ∙ go (isActed (t .world .acted) k) (ap (λ y. isActed (y .world .acted) k) q ∙ d .acted) g
+    where
+      line : Line
+      line = getD (soundLines s .items) k noLine
+
+      r : Record
+      r = after (d .before .entries) (beatIn m ∷ n .written)
+
+      c : Bool
+      c = conditionNow s line (d .before .world)
+
+      go : (x : Bool) → x ≡ actsNow s line k r (d .before .world) → x || actedSince k (n .told) ≡ true → triesNow line k r && c || everTrue k (n .written) ≡ true
+      go true p e =
+          let z : takesByRule line k r && ((triesByRule (line .keyword) k r && c) && not (everTrue k r)) ≡ true = rw (acts-when (line .keyword) k r (triesByRule (line .keyword) k r && c) w) at (sym p) in
+          rw (fresh (takesByRule line k r) (triesByRule (line .keyword) k r) c (everTrue k r) z .0)
+      go false p e = or-right (triesNow line k r && c) (everTrue k (n .written)) (f e)
+
+  once-beat : (m : Bool) (word : ℕ) (lent : List ℤ) (b : List ℕ) (n : Now Vars) → Once n → Once (stepByRule s (doBeat m word lent b) n)
+  unfolding stepByRule
+  once-beat m word lent b n f = go (beatByRule s (n .kept) (n .written) m word lent (length b)) refl
+    where
+      go : (a : Answer Turned) → beatByRule s (n .kept) (n .written) m word lent (length b) ≡ a → Once (beatenByRule (doBeat m word lent b) a b n)
+      go (good t) e g = let d = beat-done s (n .kept) (n .written) m word lent (length b) t k h e in once-good m word lent n t (d .0) (d .1) (d .2) f g
+      go (stop c) e g = f (or-either (isActed 0 k) (actedSince k (n .told)) g (no-bit k))
+
+  once-reset : (n : Now Vars) → Once n → Once (resetByRule s n)
+  unfolding resetByRule
+  once-reset n f = go (isSound s (stateBy (soundLines s) (n .kept) (n .written)))
+    where
+      go : (a : Bool) → let x : Now Vars = elim a [
+        | true ↦ record { kept = cleared (n .kept) (soundLines s) (n .written); written = resets ∷ n .written; told = (doReset, coded 0) ∷ n .told }
+        | false ↦ record { kept = n .kept; written = n .written; told = (doReset, coded 22) ∷ n .told }
+      ] in Once x
+      go true g = g
+      go false g = f g
+
+  once-step : (c : Call) (n : Now Vars) → Once n → Once (stepByRule s c n)
+  unfolding stepByRule
+  once-step (doBeat m word lent b) n f = once-beat m word lent b n f
+  once-step (doLock i) n f = λ g. noted-ever (codeByRule s (n .kept) (n .written) i) (locks (rankOf s i) true) (n .written) refl ∙ f g
+  once-step (doUnlock i) n f = λ g. noted-ever (codeByRule s (n .kept) (n .written) i) (locks (rankOf s i) false) (n .written) refl ∙ f g
+  once-step (doCancel i) n f = λ g. noted-ever (codeByRule s (n .kept) (n .written) i) (cancels (rankOf s i)) (n .written) refl ∙ f g
+  once-step doReset n f = once-reset n f
+
+  once-run : (cs : List Call) (n : Now Vars) → Once n → Once (runByRuleFrom s cs n)
+  unfolding runByRuleFrom
+  once-run [] n f = f
+  once-run (c ∷ cs) n f = once-run cs (stepByRule s c n) (once-step c n f)
+
+  -- so in the engine's run
+  once-so-far : (cs : List Call) → actedSince k (run s cs .told) ≡ true → everTrue k (run s cs .written) ≡ true
+  once-so-far cs = rw (demand-3 s cs) (once-run cs _ (λ g. g))
+
+-- ---- tests
+
+begun-none : (v : Vars) (word : ℕ) (lent : List ℤ) → begunBy v word lent .acted ≡ 0
+unfolding begunBy
+begun-none v word lent = refl
+
+not-yet : (a m : Bool) → (a ≡ true → m ≡ true) → m ≡ false → a ≡ false
+not-yet true m f p = sym (f refl) ∙ p
+not-yet false m f p = refl
+
+-- the rule lets a WHEN line act only where its condition is true and never was, an EVERY line only where it is true and was not when last worked
+module _ (s : List ℕ) (k : ℕ) (l : Line) (r : Record) (x : World) where
+  when-fresh : l .keyword ≡ WHEN → actsNow s l k r x ≡ true → everTrue k r ≡ false
+  when-fresh w e = fresh (takesByRule l k r) (triesByRule (l .keyword) k r) (conditionNow s l x) (everTrue k r)
+      (rw (acts-when (l .keyword) k r (triesByRule (l .keyword) k r && conditionNow s l x) w) at e) .2
+
+  every-edge : l .keyword ≡ EVERY → actsNow s l k r x ≡ true → (conditionNow s l x ≡ true) × (wasTrue k r ≡ false)
+  every-edge w e =
+      let f = fresh (takesByRule l k r) (triesByRule (l .keyword) k r) (conditionNow s l x) (wasTrue k r)
+      (rw (acts-every (l .keyword) k r (triesByRule (l .keyword) k r && conditionNow s l x) w) at e) in
+      (f .1, f .2)
+
+-- ---- the consequences, for any set, any calls from the load on, and a beat after them
+
+module _ (s : List ℕ) (cs : List Call) (m : Bool) (word : ℕ) (lent : List ℤ) (k : ℕ) where
+  -- in every beat the control acts on just the lines that the rule gives: of a line of the set, of rank k
+  pub acts-just : (size : ℕ) (t : Turned) → k < soundLines s .count → beatOf s (run s cs .kept) m word lent size ≡ good t → Came s (run s cs .kept) (run s cs .written) m word lent k t
+  acts-just size t h = rw (demand-3 s cs) (λ e. came s (runByRule s cs .kept) (runByRule s cs .written) m word lent size t k h e)
+
+  -- and on no other rank
+  pub acts-no-other : (size : ℕ) (t : Turned) → soundLines s .count ≤ k → beatOf s (run s cs .kept) m word lent size ≡ good t → isActed (t .world .acted) k ≡ false
+  acts-no-other size t h = rw (demand-3 s cs) go
+    where
+      go : beatOf s (stateBy (soundLines s) (runByRule s cs .kept) (runByRule s cs .written)) m word lent size ≡ good t → isActed (t .world .acted) k ≡ false
+      go e =
+          let u = unflagged s (runByRule s cs .kept) (runByRule s cs .written) m word lent size t e in
+          let b = beat-turns s (runByRule s cs .kept) (runByRule s cs .written) m word lent size (u .0) (u .1) in
+          ap (λ n. isActed n k) (u .2 ∙ ap (λ y. y .world .acted) (b .2))
+          ∙ no-other s (soundLines s) (soundLines s .count) k (beatIn m ∷ runByRule s cs .written) (begunBy (runByRule s cs .kept) word lent) (b .0) h (begun-none (runByRule s cs .kept) word lent) (b .1)
+
+  -- between two starts a WHEN line acts at most once: where it acts in a beat, it has not acted since the last start
+  pub once : (b : List ℕ) → k < soundLines s .count → getD (soundLines s .items) k noLine .keyword ≡ WHEN →
+      isActed (beatAnswer s (run s cs .kept) m word lent b .acted) k ≡ true → actedSince k (run s cs .told) ≡ false
+  unfolding beatAnswer
+  once b h w e =
+      let g = acted-good (run s cs .kept) k (beatOf s (run s cs .kept) m word lent (length b)) e in
+      let d = acts-just (length b) (g .0) h (g .1) in
+      let line : Line = getD (soundLines s .items) k noLine in
+      not-yet (actedSince k (run s cs .told)) (everTrue k (run s cs .written)) (once-so-far s k h w cs)
+      (sym (d .ever-before) ∙ when-fresh s k line (after (d .before .entries) (beatIn m ∷ run s cs .written)) (d .before .world) w (sym (d .acted) ∙ g .2))
+
+  -- an EVERY line acts only where its condition is true, in the world in which its turn comes, and at its turn before, since the last start, it was false or there was none
+  pub edge : (b : List ℕ) → k < soundLines s .count → getD (soundLines s .items) k noLine .keyword ≡ EVERY →
+      isActed (beatAnswer s (run s cs .kept) m word lent b .acted) k ≡ true →
+      (before : Turned) × (turnsFrom s (soundLines s .numbers) (run s cs .kept .cancelled) m (soundLines s .items) k 0 (begun (run s cs .kept) word lent) ≡ good before)
+      × (conditionNow s (getD (soundLines s .items) k noLine) (before .world) ≡ true) × (wasTrue k (run s cs .written) ≡ false)
+  unfolding beatAnswer
+  edge b h w e =
+      let g = acted-good (run s cs .kept) k (beatOf s (run s cs .kept) m word lent (length b)) e in
+      let d = acts-just (length b) (g .0) h (g .1) in
+      let f = every-edge s k (getD (soundLines s .items) k noLine) (after (d .before .entries) (beatIn m ∷ run s cs .written)) (d .before .world) w (sym (d .acted) ∙ g .2) in
+      (d .before, d .come, f .0, sym (d .was-before) ∙ f .1)
+
+-- ---- locking and unlocking change no memory
+
+called-memory : (st : State) (f : Found) (b : Bool) → called st f (λ k. withLocked st k b) .state .memory ≡ st .memory
+unfolding called
+called-memory st f b = go (eqb (f .code) 0)
+  where
+    go : (a : Bool) → let c : Called = elim a [ true ↦ record { code = 0; state = withLocked st (f .rank) b } | false ↦ record { code = f .code; state = st } ] in c .state .memory ≡ st .memory
+    go true = refl
+    go false = refl
+
+-- by the host
+pub lock-memory : (s : List ℕ) (st : State) (n : ℕ) → lockCall s st n .state .memory ≡ st .memory
+unfolding lockCall lockedCall
+lock-memory s st n = called-memory st (found s st n) true
+
+pub unlock-memory : (s : List ℕ) (st : State) (n : ℕ) → unlockCall s st n .state .memory ≡ st .memory
+unfolding unlockCall lockedCall
+unlock-memory s st n = called-memory st (found s st n) false
+
+-- by LOCK and UNLOCK in a line, or by any other of its actions
+pub actions-memory : (s numbers : List ℕ) (cancelled : List Bool) (number j : ℕ) (x : World) (p : ℕ) (d : Did) → actionsOf s numbers cancelled number j x p ≡ good d → d .world .memory ≡ x .memory
+actions-memory s numbers cancelled number j x p d e = is-ok (Noted s numbers cancelled number x) (actionsOf s numbers cancelled number j x p) d e (actions-noted s numbers cancelled number j x p) .1
+
+-- ---- the control by the rule keeps no flags, in a beat neither
+
+none-noted : (ns : List Note) → noteAll ns [] ≡ []
+none-noted [] = refl
+none-noted (n ∷ ns) = none-noted ns
+
+abbrev pub Flagless : World → Type 0
+Flagless x = (x .locked ≡ []) × (x .memory ≡ [])
+
+module _ (s : List ℕ) (ls : Lines) where
+  module _ (l : Line) (k : ℕ) (r : Record) (x : World) (f : Flagless x) where
+    do-flagless : (es : List Entry) (a : Bool) → Ok (λ t. Flagless (t .world)) (doTurn s (ls .numbers) (byRank (cancelledBy ls r)) (isAutomatic r) l k x es a)
+    unfolding doTurn
+    do-flagless es false = f
+    do-flagless es true =
+        bind-ok (λ t. Flagless (t .world)) (actionsOf s (ls .numbers) (byRank (cancelledBy ls r)) (l .number) 8 (counted x k) (l .actions)) _
+        (λ d e. let h = is-ok (Noted s (ls .numbers) (byRank (cancelledBy ls r)) (l .number) (counted x k)) _ d e (actions-noted s (ls .numbers) (byRank (cancelledBy ls r)) (l .number) 8 (counted x k) (l .actions)) in
+        (h .0 ∙ rw (f .0) (none-noted (d .notes)), h .1 ∙ f .1))
+
+    turn-flagless : Ok (λ t. Flagless (t .world)) (turnByRule s ls l k r x)
+    unfolding turnByRule tryByRule
+    turn-flagless =
+        let P : Turned → Type 0 = λ t. Flagless (t .world) in
+        choose-ok P (takesByRule l k r) _ _
+        (λ e. choose-ok P (triesByRule (l .keyword) k r) _ _
+        (λ e. bind-ok P (fromGot (conditionValue s (x .vars .r) (x .vars .cells) (l .condition))) _
+        (λ a q. do-flagless (worked k (isYes (a .0)) ∷ []) (actsByRule (l .keyword) k r (isYes (a .0)))))
+        (λ e. do-flagless [] (actsByRule (l .keyword) k r false)))
+        (λ e. f)
+
+  pub turns-flagless : (n k : ℕ) (r : Record) (x : World) → Flagless x → Ok (λ t. Flagless (t .world)) (turnsByRule s ls n k r x)
+  unfolding turnsByRule
+  turns-flagless zero k r x f = f
+  turns-flagless (suc n) k r x f =
+      let P : Turned → Type 0 = λ t. Flagless (t .world) in
+      bind-ok P (turnByRule s ls (getD (ls .items) k noLine) k r x) _
+      (λ t e. bind-ok P (turnsByRule s ls n (k + 1) (after (t .entries) r) (t .world)) _
+      (λ u q. is-ok P _ u q (turns-flagless n (k + 1) (after (t .entries) r) (t .world) (is-ok P _ t e (turn-flagless (getD (ls .items) k noLine) k r x f)))))

@@ -1,0 +1,226 @@
+-- Demand 3: from a load on, through any calls, the engine does what the control does that keeps no flags and decides by the rule over the record. Assumes nothing.
+use mathlib.Core.Path.{_≡_, refl, sym, ap, _∙_}
+use mathlib.Core.Bool.{Bool, true, false, not, _&&_, and-true, and-false}
+use mathlib.Core.List.{List, [], _∷_}
+use Prim.Native.Nat.{ℕ, _<_}
+use native.Mathlib.Omega.{arith}
+use lib.Dec.{ltb}
+use lib.IntN.{ℤ}
+use lib.ListN.{length, getD}
+use Rattle.code.specs.Reading.{Answer, good, stop, _>>=_}
+use Rattle.engine.specs.declared.set.Lines.{Lines}
+use Rattle.engine.specs.declared.state.State.{State}
+use Rattle.engine.specs.declared.calls.Found.{Found}
+use Rattle.engine.specs.declared.calls.Called.{Called}
+use Rattle.engine.specs.Set.{noLine, soundLines}
+use Rattle.engine.specs.State.{powerOn}
+use Rattle.engine.specs.Sound.{isSound}
+use Rattle.engine.specs.Action.{Vars}
+use Rattle.engine.specs.Turn.{Entry, beatIn, locks, cancels, resets, Turned}
+use Rattle.engine.specs.Beat.{unsoundCode, bufferSize, areInputs, begun, ended, beatOf, answered, buffered, beatAnswer, beatBuffer}
+use Rattle.engine.specs.Calls.{unknownLine, withLocked, withCancelled, foundAt, found, called, lockedCall, lockCall, unlockCall, cancelCall, resetState, resetCall}
+use Rattle.demands.specs.Record.{Record, after, isCancelled, isLocked}
+use Rattle.demands.specs.Run.{Call, doBeat, doLock, doUnlock, doCancel, doReset, Now, coded, entriesOf, rankOf, hosted, beaten, step, runFrom, run, byRank, cancelledBy, lockedBy, remembersBy, memoryBy, variablesOf, stateBy, begunBy, endedBy, turnsByRule, beatByRule, codeByRule, hostedByRule, beatenByRule, cleared, resetByRule, stepByRule, runByRuleFrom, runByRule}
+use Rattle.demands.specs.FlagLaws.{below, below-true, byRank-at, count-small, lock-locked, cancel-cancelled, cancel-locked, cancel-memory, reset-locked, reset-cancelled, reset-memory, new-locked, new-cancelled, new-memory}
+use Rattle.demands.specs.ActionLaws.{Ok, bind-ok, is-ok, choose-ok, choose}
+use Rattle.demands.specs.TurnLaws.{flaggedTurn, turns-same, turns-quiet}
+
+-- ---- a beat
+
+module _ (s : List ℕ) (v : Vars) (r : Record) (m : Bool) (word : ℕ) (lent : List ℤ) (size : ℕ) where
+  begins : Turned → Answer Turned
+  begins t = good (record { world = t .world; entries = beatIn m ∷ t .entries })
+
+  beat-begun : (a : Answer Turned) → (a >>= flaggedTurn (soundLines s) (beatIn m ∷ r) >>= begins) ≡ (a >>= begins >>= flaggedTurn (soundLines s) r)
+  unfolding begins
+  beat-begun (good t) = refl
+  beat-begun (stop c) = refl
+
+  -- the engine's beat, with the flags that the record gives, is the beat by the rule
+  pub beat-same : beatOf s (stateBy (soundLines s) v r) m word lent size ≡ (beatByRule s v r m word lent size >>= flaggedTurn (soundLines s) r)
+  unfolding beatOf beatByRule stateBy begun begunBy begins
+  beat-same =
+      choose (flaggedTurn (soundLines s) r) (isSound s (stateBy (soundLines s) v r)) _ _ _ _
+      (choose (flaggedTurn (soundLines s) r) (ltb size bufferSize) _ _ _ _ refl
+      (choose (flaggedTurn (soundLines s) r) (areInputs lent) _ _ _ _
+      (ap (λ a. a >>= begins) (turns-same (soundLines s) s (soundLines s .count) 0 (beatIn m ∷ r) (begunBy v word lent) (count-small s) (omega arith))
+      ∙ beat-begun (turnsByRule s (soundLines s) (soundLines s .count) 0 (beatIn m ∷ r) (begunBy v word lent))) refl)) refl
+
+  beat-quiet : Ok (λ t. byRank (cancelledBy (soundLines s) (after (t .entries) r)) ≡ byRank (cancelledBy (soundLines s) r)) (beatByRule s v r m word lent size)
+  unfolding beatByRule
+  beat-quiet =
+      let P : Turned → Type 0 = λ t. byRank (cancelledBy (soundLines s) (after (t .entries) r)) ≡ byRank (cancelledBy (soundLines s) r) in
+      let a : Answer Turned = turnsByRule s (soundLines s) (soundLines s .count) 0 (beatIn m ∷ r) (begunBy v word lent) in
+      choose-ok P (isSound s (stateBy (soundLines s) v r)) _ _
+      (λ e. choose-ok P (ltb size bufferSize) _ _ (λ e. tt)
+      (λ e. choose-ok P (areInputs lent) _ _
+      (λ e. bind-ok P a _ (λ t q. is-ok _ a t q (turns-quiet (soundLines s) s (soundLines s .count) 0 (beatIn m ∷ r) (begunBy v word lent)) .0))
+      (λ e. tt))) (λ e. tt)
+
+-- ---- states by their flags
+
+abbrev stateIn : Vars → List Bool → List Bool → List Bool → State
+stateIn v l c m = record { r = v .r; cells = v .cells; runs = v .runs; locked = l; cancelled = c; memory = m }
+
+in-flags : (v : Vars) {l k c d m o : List Bool} → l ≡ k → c ≡ d → m ≡ o → stateIn v l c m ≡ stateIn v k d o
+in-flags v p q h = cc
+
+-- ---- where the control stands that keeps no flags, with the flags that its record gives
+
+abbrev pub withFlags : List ℕ → Now Vars → Now State
+withFlags s n = record { kept = stateBy (soundLines s) (n .kept) (n .written); written = n .written; told = n .told }
+
+module _ (s : List ℕ) (n : Now Vars) where
+  step-beat : (m : Bool) (word : ℕ) (lent : List ℤ) (b : List ℕ) → step s (doBeat m word lent b) (withFlags s n) ≡ withFlags s (stepByRule s (doBeat m word lent b) n)
+  unfolding step stepByRule beatAnswer beatBuffer stateBy ended endedBy
+  step-beat m word lent b =
+      rw (beat-same s (n .kept) (n .written) m word lent (length b))
+      (go (beatByRule s (n .kept) (n .written) m word lent (length b)) (beat-quiet s (n .kept) (n .written) m word lent (length b)))
+    where
+      st : State
+      st = stateBy (soundLines s) (n .kept) (n .written)
+
+      go : (a : Answer Turned) → Ok (λ t. byRank (cancelledBy (soundLines s) (after (t .entries) (n .written))) ≡ byRank (cancelledBy (soundLines s) (n .written))) a →
+          (let f : Answer Turned = a >>= flaggedTurn (soundLines s) (n .written) in beaten (doBeat m word lent b) (answered st f) (buffered b f) (entriesOf f) (withFlags s n)) ≡ withFlags s (beatenByRule (doBeat m word lent b) a b n)
+      go (good t) q = rw q
+      go (stop c) q = refl
+
+  -- a call that names a line, by what it asks in turn: sound, in the set, cancelled
+  abbrev foundBy : Bool → Bool → Bool → ℕ → Found
+  foundBy a b c k =
+      elim a [
+        | true ↦ elim b [ true ↦ elim c [ true ↦ record { code = unknownLine; rank = 0 } | false ↦ record { code = 0; rank = k } ] | false ↦ record { code = unknownLine; rank = 0 } ]
+        | false ↦ record { code = unsoundCode; rank = 0 }
+      ]
+
+  abbrev codeBy : Bool → Bool → Bool → ℕ
+  codeBy a b c = elim a [ true ↦ elim b [ true ↦ elim c [ true ↦ unknownLine | false ↦ 0 ] | false ↦ unknownLine ] | false ↦ unsoundCode ]
+
+  host-same : (x : Call) (e : Entry) (change : ℕ → State) (number : ℕ) →
+      (rankOf s number < 32 → ltb (rankOf s number) (soundLines s .count) ≡ true → cancelledBy (soundLines s) (n .written) (rankOf s number) ≡ false →
+      change (rankOf s number) ≡ stateBy (soundLines s) (n .kept) (e ∷ n .written)) →
+      hosted x (called (stateBy (soundLines s) (n .kept) (n .written)) (found s (stateBy (soundLines s) (n .kept) (n .written)) number) change) e (withFlags s n)
+      ≡ withFlags s (hostedByRule x (codeByRule s (n .kept) (n .written) number) e n)
+  unfolding called found foundAt codeByRule stateBy
+  host-same x e change number h =
+      go (isSound s st) (ltb k (ls .count)) (getD (st .cancelled) k false) (isCancelled (getD (ls .items) k noLine .ids) k (n .written)) refl refl asked
+    where
+      ls : Lines
+      ls = soundLines s
+
+      k : ℕ
+      k = rankOf s number
+
+      st : State
+      st = stateBy ls (n .kept) (n .written)
+
+      small : ltb k (ls .count) ≡ true → k < 32
+      small b = omega (arith, below k (ls .count) b, count-small s)
+
+      asked : ltb k (ls .count) ≡ true → getD (st .cancelled) k false ≡ isCancelled (getD (ls .items) k noLine .ids) k (n .written)
+      asked b = byRank-at (cancelledBy ls (n .written)) k (small b) ∙ rw b (and-true (isCancelled (getD (ls .items) k noLine .ids) k (n .written)))
+
+      go : (a b c d : Bool) → ltb k (ls .count) ≡ b → isCancelled (getD (ls .items) k noLine .ids) k (n .written) ≡ d → (b ≡ true → c ≡ d) →
+          hosted x (called st (foundBy a b c k) change) e (withFlags s n) ≡ withFlags s (hostedByRule x (codeBy a b d) e n)
+      go true true true true p i q = refl
+      go true true true false p i q = let z = q refl in cc
+      go true true false true p i q = let z = q refl in cc
+      go true true false false p i q = rw (h (small p) p (rw i))
+      go true false c d p i q = refl
+      go false b c d p i q = refl
+
+  step-lock : (x : Call) (b : Bool) (number : ℕ) →
+      hosted x (lockedCall s (stateBy (soundLines s) (n .kept) (n .written)) number b) (locks (rankOf s number) b) (withFlags s n)
+      ≡ withFlags s (hostedByRule x (codeByRule s (n .kept) (n .written) number) (locks (rankOf s number) b) n)
+  unfolding lockedCall stateBy
+  step-lock x b number =
+      host-same x (locks (rankOf s number) b) (λ k. withLocked (stateBy (soundLines s) (n .kept) (n .written)) k b) number
+      (λ h p c. rw (lock-locked (soundLines s) (rankOf s number) b (n .written) h c))
+
+  step-cancel : (number : ℕ) → step s (doCancel number) (withFlags s n) ≡ withFlags s (stepByRule s (doCancel number) n)
+  unfolding step stepByRule cancelCall stateBy
+  step-cancel number =
+      host-same (doCancel number) (cancels (rankOf s number)) (λ k. withCancelled (stateBy (soundLines s) (n .kept) (n .written)) k) number
+      (λ h p c. rw (
+        cancel-locked (soundLines s) (rankOf s number) (n .written) h p,
+        cancel-cancelled (soundLines s) (rankOf s number) (n .written) h p,
+        cancel-memory (soundLines s) (rankOf s number) (n .written) h p,
+      ))
+
+  step-reset : step s doReset (withFlags s n) ≡ withFlags s (stepByRule s doReset n)
+  unfolding step stepByRule resetCall resetByRule resetState stateBy
+  step-reset = go (isSound s (stateBy (soundLines s) (n .kept) (n .written)))
+    where
+      after-reset : resetState (soundLines s .items) (soundLines s .count) (stateBy (soundLines s) (n .kept) (n .written)) ≡ stateBy (soundLines s) (cleared (n .kept) (soundLines s) (n .written)) (resets ∷ n .written)
+      after-reset = in-flags _ (reset-locked (soundLines s) (n .written)) (reset-cancelled (soundLines s) (n .written) (count-small s)) (reset-memory (soundLines s) (n .written))
+
+      go : (a : Bool) →
+          (let c : Called = elim a [ true ↦ record { code = 0; state = resetState (soundLines s .items) (soundLines s .count) (stateBy (soundLines s) (n .kept) (n .written)) } | false ↦ record { code = unsoundCode; state = stateBy (soundLines s) (n .kept) (n .written) } ] in
+          hosted doReset c resets (withFlags s n))
+          ≡ (let m : Now Vars = elim a [ true ↦ record { kept = cleared (n .kept) (soundLines s) (n .written); written = resets ∷ n .written; told = (doReset, coded 0) ∷ n .told } | false ↦ record { kept = n .kept; written = n .written; told = (doReset, coded unsoundCode) ∷ n .told } ] in
+          withFlags s m)
+      go true = rw after-reset
+      go false = refl
+
+  -- each call, with the flags that the record gives, is the call by the rule
+  pub step-same : (c : Call) → step s c (withFlags s n) ≡ withFlags s (stepByRule s c n)
+  unfolding step stepByRule lockCall unlockCall
+  step-same (doBeat m word lent b) = step-beat m word lent b
+  step-same (doLock number) = step-lock (doLock number) true number
+  step-same (doUnlock number) = step-lock (doUnlock number) false number
+  step-same (doCancel number) = step-cancel number
+  step-same doReset = step-reset
+
+-- ---- from a load on
+
+run-same : (s : List ℕ) (cs : List Call) (n : Now Vars) → runFrom s cs (withFlags s n) ≡ withFlags s (runByRuleFrom s cs n)
+unfolding runFrom runByRuleFrom
+run-same s [] n = refl
+run-same s (c ∷ cs) n = rw (step-same s n c) (run-same s cs (stepByRule s c n))
+
+load-same : (s : List ℕ) → powerOn ≡ stateBy (soundLines s) (variablesOf powerOn) []
+unfolding powerOn stateBy
+load-same s = in-flags _ (new-locked (soundLines s)) (new-cancelled (soundLines s)) (new-memory (soundLines s))
+
+module _ (s : List ℕ) (cs : List Call) where
+  -- demand 3: after any calls the engine stands where the control stands that keeps no flags and decides by the rule alone. Its replies are the same (codes, orders, the
+  -- words of the lines that acted), its record is the same, its variables are the same, and its flags are what the record says
+  pub demand-3 : run s cs ≡ withFlags s (runByRule s cs)
+  demand-3 = ap (λ st. runFrom s cs (record { kept = st; written = []; told = [] })) (load-same s) ∙ run-same s cs (record { kept = variablesOf powerOn; written = []; told = [] })
+
+  -- its four parts: the same replies, the same record, the same variables, and
+  pub same-replies : run s cs .told ≡ runByRule s cs .told
+  same-replies = ap (λ n. n .told) demand-3
+
+  pub same-record : run s cs .written ≡ runByRule s cs .written
+  same-record = ap (λ n. n .written) demand-3
+
+  pub same-variables : variablesOf (run s cs .kept) ≡ runByRule s cs .kept
+  unfolding stateBy
+  same-variables = ap (λ n. variablesOf (n .kept)) demand-3
+
+  -- the flags that the engine stores are what its record says
+  pub state-says-the-record : run s cs .kept ≡ stateBy (soundLines s) (variablesOf (run s cs .kept)) (run s cs .written)
+  state-says-the-record = ap (λ n. n .kept) demand-3 ∙ rw (same-variables, same-record)
+
+  -- so for a line of the set, of rank k: it is cancelled if the record says so; it is locked if the record says so and it is not cancelled; it has in memory what its
+  -- keyword makes it remember of the record, unless it is cancelled
+  pub flags-say-the-record : (k : ℕ) → k < soundLines s .count →
+      let st = run s cs .kept in let r = run s cs .written in let l = getD (soundLines s .items) k noLine in let c = isCancelled (l .ids) k r in
+      (getD (st .cancelled) k false ≡ c) × (getD (st .locked) k false ≡ isLocked k r && not c) × (getD (st .memory) k false ≡ remembersBy (l .keyword) k r && not c)
+  unfolding stateBy
+  flags-say-the-record k h =
+      let b : k < 32 = omega (arith, count-small s) in
+      let p : ltb k (soundLines s .count) ≡ true = below-true k (soundLines s .count) h in (
+        ap (λ st. getD (st .cancelled) k false) state-says-the-record ∙ byRank-at (cancelledBy (soundLines s) (run s cs .written)) k b ∙ rw p (and-true _),
+        ap (λ st. getD (st .locked) k false) state-says-the-record ∙ byRank-at (lockedBy (soundLines s) (run s cs .written)) k b ∙ rw (p, and-true),
+        ap (λ st. getD (st .memory) k false) state-says-the-record ∙ byRank-at (memoryBy (soundLines s) (run s cs .written)) k b ∙ rw (p, and-true),
+      )
+
+  -- a cancelled line has neither lock nor memory
+  pub cancelled-is-bare : (k : ℕ) → k < soundLines s .count → getD (run s cs .kept .cancelled) k false ≡ true →
+      (getD (run s cs .kept .locked) k false ≡ false) × (getD (run s cs .kept .memory) k false ≡ false)
+  cancelled-is-bare k h e =
+      let f = flags-say-the-record k h in
+      let c : isCancelled (getD (soundLines s .items) k noLine .ids) k (run s cs .written) ≡ true = sym (f .0) ∙ e in
+      (f .1 ∙ rw (c, and-false), f .2 ∙ rw (c, and-false))

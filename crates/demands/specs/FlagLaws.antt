@@ -1,0 +1,247 @@
+-- What each entry of the record does to the flags that the record gives, rank by rank. Assumes nothing.
+use mathlib.Core.Path.{_≡_, refl, sym, ap, _∙_}
+use mathlib.Core.Logic.{_≢_}
+use mathlib.Core.Bool.{Bool, true, false, cond, not, _&&_, _||_, and-true, and-false}
+use mathlib.Core.List.{List, [], _∷_}
+use Prim.Native.Nat.{ℕ, zero, suc, _+_, _<_, _≤_}
+use native.Mathlib.Omega.{arith}
+use lib.Dec.{T, eqb, ltb, eqb→eq, eqb-refl, ltb→lt, lt→ltb, nltb→le, leb·suc-zero}
+use lib.ListN.{length, getD, set, replicate, length-set, length-replicate, getD-replicate}
+use lib.Seq.{getD-set-same, getD-set-other, ext-getD}
+use Rattle.code.specs.Token.{WHEN, FROM, EVERY}
+use Rattle.code.specs.declared.check.Line.{Line}
+use Rattle.engine.specs.declared.set.Lines.{Lines}
+use Rattle.engine.specs.Set.{maxLines, noLine, noLines, lineCount, lineOf, linesFrom, linesRead, allKnown, namedLines, soundLines}
+use Rattle.engine.specs.Turn.{worked, locks, cancels, resets, remembers}
+use Rattle.engine.specs.Calls.{resetCancelled}
+use Rattle.demands.specs.Record.{Record, only, orElse, isCancelled, isLocked, wasTrue, everTrue}
+use Rattle.demands.specs.Run.{ranks, byRank, cancelledBy, lockedBy, remembersBy, memoryBy}
+
+-- ---- tests
+
+pub T→true : (b : Bool) → T b → b ≡ true
+T→true true t = refl
+T→true false t = elim t [ ]
+
+pub true→T : (b : Bool) → b ≡ true → T b
+true→T b e = rw e tt
+
+pub same-rank : (k : ℕ) → eqb k k ≡ true
+same-rank k = T→true (eqb k k) (eqb-refl k)
+
+pub equal-ranks : (k j : ℕ) → eqb k j ≡ true → k ≡ j
+equal-ranks k j e = eqb→eq k j (true→T (eqb k j) e)
+
+pub other-rank : (k j : ℕ) → eqb k j ≡ false → j ≢ k
+other-rank k j e p = let q : eqb k j ≡ true = rw p (same-rank k) in let z : true ≡ false = sym q ∙ e in let w : _≡_ {A = ℕ} 0 1 = cc in omega arith
+
+pub below : (k n : ℕ) → ltb k n ≡ true → k < n
+below k n e = ltb→lt k n (true→T (ltb k n) e)
+
+pub below-true : (k n : ℕ) → k < n → ltb k n ≡ true
+below-true k n h = T→true (ltb k n) (lt→ltb k n h)
+
+-- ---- a value for each rank
+
+length-ranks : (f : ℕ → Bool) (n : ℕ) → length (ranks f n) ≡ n
+unfolding ranks
+length-ranks f zero = refl
+length-ranks f (suc n) = ap suc (length-ranks (λ k. f (suc k)) n)
+
+getD-ranks : (f : ℕ → Bool) (n i : ℕ) → i < n → getD (ranks f n) i false ≡ f i
+unfolding ranks
+getD-ranks f zero i h = absurd (omega arith)
+getD-ranks f (suc n) zero h = refl
+getD-ranks f (suc n) (suc i) h = getD-ranks (λ k. f (suc k)) n i (omega arith)
+
+pub length-byRank : (f : ℕ → Bool) → length (byRank f) ≡ 32
+unfolding byRank
+length-byRank f = length-ranks f 32
+
+pub byRank-at : (f : ℕ → Bool) (k : ℕ) → k < 32 → getD (byRank f) k false ≡ f k
+unfolding byRank
+byRank-at f k h = getD-ranks f 32 k h
+
+-- a list of 32 is by rank what it holds at each
+pub as-byRank : (l : List Bool) (f : ℕ → Bool) → length l ≡ 32 → ((j : ℕ) → j < 32 → getD l j false ≡ f j) → l ≡ byRank f
+as-byRank l f n h = ext-getD false l (byRank f) (n ∙ sym (length-byRank f)) (λ j b. h j (omega arith) ∙ sym (byRank-at f j (omega arith)))
+
+pub byRank-none : (f : ℕ → Bool) → ((j : ℕ) → j < 32 → f j ≡ false) → replicate 32 false ≡ byRank f
+byRank-none f h = as-byRank (replicate 32 false) f (length-replicate 32 false) (λ j b. getD-replicate 32 j false false b ∙ sym (h j b))
+
+getD-set : (l : List Bool) (k j : ℕ) (v : Bool) → k < length l → getD (set l k v) j false ≡ cond (eqb k j) v (getD l j false)
+getD-set l k j v h = go (eqb k j) refl
+  where
+    go : (e : Bool) → eqb k j ≡ e → getD (set l k v) j false ≡ cond e v (getD l j false)
+    go true e = let p : k ≡ j = equal-ranks k j e in rw (← p) (getD-set-same l k v false h)
+    go false e = getD-set-other l k j v false (other-rank k j e)
+
+pub byRank-set : (f g : ℕ → Bool) (k : ℕ) (v : Bool) → k < 32 → ((j : ℕ) → j < 32 → cond (eqb k j) v (f j) ≡ g j) → set (byRank f) k v ≡ byRank g
+byRank-set f g k v b h =
+    as-byRank (set (byRank f) k v) g (length-set (byRank f) k v ∙ length-byRank f)
+    (λ j c. getD-set (byRank f) k j v (rw (length-byRank f) b) ∙ rw (byRank-at f j c) (h j c))
+
+-- ---- a set has at most 32 lines
+
+abbrev either : Bool → Lines → Lines → Lines
+either a x y = elim a [ true ↦ x | false ↦ y ]
+
+either-small : (n : ℕ) (a : Bool) (x y : Lines) → (a ≡ true → x .count ≤ n) → (a ≡ false → y .count ≤ n) → either a x y .count ≤ n
+either-small n true x y h g = h refl
+either-small n false x y h g = g refl
+
+from-small : (s : List ℕ) (m k last : ℕ) (ns : List ℕ) (ls : List Line) → linesFrom s m k last ns ls .count ≤ k + m
+unfolding linesFrom
+from-small s zero k last ns ls = omega arith
+from-small s (suc m) k last ns ls =
+    let l : Line = lineOf s k in
+    let rest : Lines = linesFrom s m (k + 1) (l .number) (set ns k (l .number)) (set ls k l) in
+    let h : rest .count ≤ k + 1 + m = from-small s m (k + 1) (l .number) (set ns k (l .number)) (set ls k l) in
+    either-small (k + suc m) (eqb (l .fault) 0) (either (ltb last (l .number)) rest noLines) noLines
+    (λ e. either-small (k + suc m) (ltb last (l .number)) rest noLines (λ d. omega arith) (λ d. omega arith)) (λ e. omega arith)
+
+read-small : (s : List ℕ) → linesRead s .count ≤ 32
+unfolding linesRead
+read-small s =
+    let rest : Lines = linesFrom s (lineCount s) 0 0 (replicate maxLines 0) (replicate maxLines noLine) in
+    either-small 32 (ltb 32 (lineCount s)) noLines rest (λ e. omega arith)
+    (λ e. let h : lineCount s ≤ 32 = nltb→le 32 (lineCount s) (rw e tt) in omega (arith, from-small s (lineCount s) 0 0 (replicate maxLines 0) (replicate maxLines noLine)))
+
+pub count-small : (s : List ℕ) → soundLines s .count ≤ 32
+unfolding soundLines namedLines
+count-small s = either-small 32 (allKnown s (linesRead s .numbers) (linesRead s .count) 0) (linesRead s) noLines (λ e. read-small s) (λ e. omega arith)
+
+-- ---- what each entry does to the flags that the record gives
+
+-- WHEN, FROM or not; EVERY or not; what the record said before
+worked-step : (a b v ever was : Bool) →
+    cond a (orElse (only (true && v) true) ever) (cond b (orElse (only true v) was) false) ≡ cond a (cond a ever (cond b was false) || v) (cond b v (cond a ever (cond b was false)))
+worked-step true b true true was = refl
+worked-step true b true false was = refl
+worked-step true b false true was = refl
+worked-step true b false false was = refl
+worked-step false true v ever was = refl
+worked-step false false v ever was = refl
+
+worked-same : (kw k : ℕ) (r : Record) (v : Bool) → remembersBy kw k (worked k v ∷ r) ≡ remembers kw (remembersBy kw k r) v
+unfolding remembers
+worked-same kw k r v = rw (same-rank k) (worked-step (eqb kw WHEN || eqb kw FROM) (eqb kw EVERY) v (everTrue k r) (wasTrue k r))
+
+worked-other : (kw k j : ℕ) (r : Record) (v : Bool) → eqb k j ≡ false → remembersBy kw j (worked k v ∷ r) ≡ remembersBy kw j r
+worked-other kw k j r v e = rw e
+
+none-remembers : (kw k : ℕ) (r : Record) → everTrue k r ≡ false → wasTrue k r ≡ false → remembersBy kw k r ≡ false
+none-remembers kw k r p q = rw (p, q) (go (eqb kw WHEN || eqb kw FROM) (eqb kw EVERY))
+  where
+    go : (a b : Bool) → cond a false (cond b false false) ≡ false
+    go true b = refl
+    go false true = refl
+    go false false = refl
+
+module _ (ls : Lines) where
+  -- the condition of a line that is not cancelled was worked
+  pub worked-memory : (k : ℕ) (v : Bool) (r : Record) → k < 32 → cancelledBy ls r k ≡ false →
+      set (byRank (memoryBy ls r)) k (remembers (getD (ls .items) k noLine .keyword) (remembersBy (getD (ls .items) k noLine .keyword) k r) v) ≡ byRank (memoryBy ls (worked k v ∷ r))
+  worked-memory k v r b c = byRank-set (memoryBy ls r) (memoryBy ls (worked k v ∷ r)) k (new k) b (λ j d. go j (eqb k j) refl)
+    where
+      kw : ℕ → ℕ
+      kw j = getD (ls .items) j noLine .keyword
+
+      new : ℕ → Bool
+      new j = remembers (kw j) (remembersBy (kw j) j r) v
+
+      go : (j : ℕ) (e : Bool) → eqb k j ≡ e → cond e (new k) (memoryBy ls r j) ≡ memoryBy ls (worked k v ∷ r) j
+      go j true e =
+          let p : k ≡ j = equal-ranks k j e in
+          rw (← p) (rw (worked-same (kw k) k r v, c) (sym (and-true (new k))))
+      go j false e = rw (worked-other (kw j) k j r v e)
+
+  -- a line that is not cancelled was locked or released
+  pub lock-locked : (k : ℕ) (b : Bool) (r : Record) → k < 32 → cancelledBy ls r k ≡ false → set (byRank (lockedBy ls r)) k b ≡ byRank (lockedBy ls (locks k b ∷ r))
+  lock-locked k b r h c = byRank-set (lockedBy ls r) (lockedBy ls (locks k b ∷ r)) k b h (λ j d. go j (eqb k j) refl)
+    where
+      go : (j : ℕ) (e : Bool) → eqb k j ≡ e → cond e b (lockedBy ls r j) ≡ orElse (only e b) (isLocked j r) && not (cancelledBy ls r j)
+      go j true e = let p : k ≡ j = equal-ranks k j e in let q : cancelledBy ls r j ≡ false = rw p at c in rw q (sym (and-true b))
+      go j false e = refl
+
+  -- a line of the set was cancelled
+  module _ (k : ℕ) (r : Record) (h : k < 32) (c : ltb k (ls .count) ≡ true) where
+    counted-too : (j : ℕ) → eqb k j ≡ true → ltb j (ls .count) ≡ true
+    counted-too j e = let p : k ≡ j = equal-ranks k j e in rw p at c
+
+    pub cancel-cancelled : set (byRank (cancelledBy ls r)) k true ≡ byRank (cancelledBy ls (cancels k ∷ r))
+    cancel-cancelled = byRank-set (cancelledBy ls r) (cancelledBy ls (cancels k ∷ r)) k true h (λ j d. go j (eqb k j) refl)
+      where
+        go : (j : ℕ) (e : Bool) → eqb k j ≡ e → cond e true (cancelledBy ls r j) ≡ orElse (only e true) (isCancelled (getD (ls .items) j noLine .ids) j r) && ltb j (ls .count)
+        go j true e = rw (counted-too j e)
+        go j false e = refl
+
+    cleared-flag : (f : ℕ → Bool) (j : ℕ) (e : Bool) → eqb k j ≡ e →
+        cond e false (f j && not (cancelledBy ls r j)) ≡ f j && not (orElse (only e true) (isCancelled (getD (ls .items) j noLine .ids) j r) && ltb j (ls .count))
+    cleared-flag f j true e = rw (counted-too j e) (sym (and-false (f j)))
+    cleared-flag f j false e = refl
+
+    pub cancel-locked : set (byRank (lockedBy ls r)) k false ≡ byRank (lockedBy ls (cancels k ∷ r))
+    cancel-locked = byRank-set (lockedBy ls r) (lockedBy ls (cancels k ∷ r)) k false h (λ j d. cleared-flag (λ i. isLocked i r) j (eqb k j) refl)
+
+    pub cancel-memory : set (byRank (memoryBy ls r)) k false ≡ byRank (memoryBy ls (cancels k ∷ r))
+    cancel-memory = byRank-set (memoryBy ls r) (memoryBy ls (cancels k ∷ r)) k false h (λ j d. cleared-flag (λ i. remembersBy (getD (ls .items) i noLine .keyword) i r) j (eqb k j) refl)
+
+  -- a reset
+  pub reset-locked : (r : Record) → replicate 32 false ≡ byRank (lockedBy ls (resets ∷ r))
+  reset-locked r = byRank-none (lockedBy ls (resets ∷ r)) (λ j b. refl)
+
+  pub reset-memory : (r : Record) → replicate 32 false ≡ byRank (memoryBy ls (resets ∷ r))
+  reset-memory r = byRank-none (memoryBy ls (resets ∷ r)) (λ j b. rw (none-remembers (getD (ls .items) j noLine .keyword) j (resets ∷ r) refl refl))
+
+  reset-length : (cs : List Bool) (n : ℕ) → length (resetCancelled (ls .items) cs n) ≡ length cs
+  unfolding resetCancelled
+  reset-length cs zero = refl
+  reset-length cs (suc n) = length-set (resetCancelled (ls .items) cs n) n _ ∙ reset-length cs n
+
+  -- the first n ranks are those below n
+  reset-at : (cs : List Bool) (n j : ℕ) → n ≤ length cs →
+      getD (resetCancelled (ls .items) cs n) j false ≡ cond (ltb j n) (getD cs j false || not (getD (ls .items) j noLine .ids)) (getD cs j false)
+  unfolding resetCancelled
+  reset-at cs zero j h = rw (leb·suc-zero j)
+  reset-at cs (suc n) j h =
+      getD-set (resetCancelled (ls .items) cs n) n j _ (rw (reset-length cs n) (omega arith))
+      ∙ go (eqb n j) (ltb j n) (ltb j (suc n)) refl refl refl (reset-at cs n j (omega arith))
+    where
+      new : ℕ → Bool
+      new i = getD cs i false || not (getD (ls .items) i noLine .ids)
+
+      go : (e b c : Bool) → eqb n j ≡ e → ltb j n ≡ b → ltb j (suc n) ≡ c → getD (resetCancelled (ls .items) cs n) j false ≡ cond b (new j) (getD cs j false) →
+          cond e (new n) (getD (resetCancelled (ls .items) cs n) j false) ≡ cond c (new j) (getD cs j false)
+      go true b true e p q i = let w : n ≡ j = equal-ranks n j e in rw w
+      go true b false e p q i = let w : n ≡ j = equal-ranks n j e in let g : suc n ≤ j = nltb→le j (suc n) (rw q tt) in absurd (omega arith)
+      go false true true e p q i = i
+      go false true false e p q i = let g : j < n = below j n p in let f : suc n ≤ j = nltb→le j (suc n) (rw q tt) in absurd (omega arith)
+      go false false true e p q i = let g : n ≤ j = nltb→le j n (rw p tt) in let f : j < suc n = below j (suc n) q in let w : j ≢ n = other-rank n j e in absurd (omega arith)
+      go false false false e p q i = i
+
+  pub reset-cancelled : (r : Record) → ls .count ≤ 32 → resetCancelled (ls .items) (byRank (cancelledBy ls r)) (ls .count) ≡ byRank (cancelledBy ls (resets ∷ r))
+  reset-cancelled r n =
+      as-byRank _ (cancelledBy ls (resets ∷ r)) (reset-length (byRank (cancelledBy ls r)) (ls .count) ∙ length-byRank (cancelledBy ls r))
+      (λ j b. reset-at (byRank (cancelledBy ls r)) (ls .count) j (rw (length-byRank (cancelledBy ls r)) n)
+      ∙ rw (byRank-at (cancelledBy ls r) j b) (go (getD (ls .items) j noLine .ids) (isCancelled (getD (ls .items) j noLine .ids) j r) (ltb j (ls .count))))
+    where
+      go : (i c b : Bool) → cond b (c && b || not i) (c && b) ≡ orElse (only (not i) true) c && b
+      go true true true = refl
+      go true true false = refl
+      go true false true = refl
+      go true false false = refl
+      go false true true = refl
+      go false true false = refl
+      go false false true = refl
+      go false false false = refl
+
+  -- nothing is written down yet
+  pub new-locked : replicate 32 false ≡ byRank (lockedBy ls [])
+  new-locked = byRank-none (lockedBy ls []) (λ j b. refl)
+
+  pub new-cancelled : replicate 32 false ≡ byRank (cancelledBy ls [])
+  new-cancelled = byRank-none (cancelledBy ls []) (λ j b. refl)
+
+  pub new-memory : replicate 32 false ≡ byRank (memoryBy ls [])
+  new-memory = byRank-none (memoryBy ls []) (λ j b. rw (none-remembers (getD (ls .items) j noLine .keyword) j [] refl refl))

@@ -1,0 +1,78 @@
+-- A refusal or an alarm returns what was given, for each call; and it adds nothing to the record. Assumes nothing.
+use mathlib.Core.Path.{_≡_, refl}
+use mathlib.Core.Logic.{_≢_}
+use mathlib.Core.Bool.{Bool, true, false}
+use mathlib.Core.List.{List, [], _∷_}
+use Prim.Native.Nat.{ℕ}
+use lib.Dec.{eqb}
+use lib.IntN.{ℤ}
+use lib.ListN.{length}
+use Rattle.code.specs.Reading.{Answer, good, stop}
+use Rattle.engine.specs.declared.state.State.{State}
+use Rattle.engine.specs.declared.calls.Called.{Called}
+use Rattle.engine.specs.declared.calls.Found.{Found}
+use Rattle.engine.specs.Set.{soundLines}
+use Rattle.engine.specs.Sound.{isSound}
+use Rattle.engine.specs.Turn.{Entry, Turned}
+use Rattle.engine.specs.Beat.{unsoundCode, beatOf, answered, buffered, beatAnswer, beatBuffer}
+use Rattle.engine.specs.Calls.{withLocked, withCancelled, found, called, lockedCall, lockCall, unlockCall, cancelCall, resetState, resetCall}
+use Rattle.demands.specs.Run.{Call, doBeat, doLock, doUnlock, doCancel, doReset, Now, entriesOf, noted, step}
+use Rattle.demands.specs.FlagLaws.{equal-ranks}
+
+-- a beat with a code other than 0: the state as given, no orders, no line acted, the buffer as given
+pub beat-refused : (s : List ℕ) (st : State) (m : Bool) (word : ℕ) (lent : List ℤ) (b : List ℕ) → let x = beatAnswer s st m word lent b in
+    x .code ≢ 0 → (x .state ≡ st) × (x .orders ≡ 0) × (x .acted ≡ 0) × (beatBuffer s st m word lent b ≡ b) × (entriesOf (beatOf s st m word lent (length b)) ≡ [])
+unfolding beatAnswer beatBuffer
+beat-refused s st m word lent b = go (beatOf s st m word lent (length b))
+  where
+    go : (a : Answer Turned) → answered st a .code ≢ 0 → (answered st a .state ≡ st) × (answered st a .orders ≡ 0) × (answered st a .acted ≡ 0) × (buffered b a ≡ b) × (entriesOf a ≡ [])
+    go (good t) h = absurd (h refl)
+    go (stop c) h = (refl, refl, refl, refl, refl)
+
+called-refused : (st : State) (f : Found) (change : ℕ → State) → called st f change .code ≢ 0 → called st f change .state ≡ st
+unfolding called
+called-refused st f change = go (eqb (f .code) 0)
+  where
+    go : (a : Bool) → let c : Called = elim a [ true ↦ record { code = 0; state = change (f .rank) } | false ↦ record { code = f .code; state = st } ] in c .code ≢ 0 → c .state ≡ st
+    go true h = absurd (h refl)
+    go false h = refl
+
+-- lock, unlock, cancel and reset with a code other than 0: the state as given
+pub lock-refused : (s : List ℕ) (st : State) (n : ℕ) → lockCall s st n .code ≢ 0 → lockCall s st n .state ≡ st
+unfolding lockCall lockedCall
+lock-refused s st n = called-refused st (found s st n) (λ k. withLocked st k true)
+
+pub unlock-refused : (s : List ℕ) (st : State) (n : ℕ) → unlockCall s st n .code ≢ 0 → unlockCall s st n .state ≡ st
+unfolding unlockCall lockedCall
+unlock-refused s st n = called-refused st (found s st n) (λ k. withLocked st k false)
+
+pub cancel-refused : (s : List ℕ) (st : State) (n : ℕ) → cancelCall s st n .code ≢ 0 → cancelCall s st n .state ≡ st
+unfolding cancelCall
+cancel-refused s st n = called-refused st (found s st n) (λ k. withCancelled st k)
+
+pub reset-refused : (s : List ℕ) (st : State) → resetCall s st .code ≢ 0 → resetCall s st .state ≡ st
+unfolding resetCall
+reset-refused s st = go (isSound s st)
+  where
+    go : (a : Bool) → let c : Called = elim a [ true ↦ record { code = 0; state = resetState (soundLines s .items) (soundLines s .count) st } | false ↦ record { code = unsoundCode; state = st } ] in c .code ≢ 0 → c .state ≡ st
+    go true h = absurd (h refl)
+    go false h = refl
+
+-- in a run: a call that is answered with a code other than 0 changes no state and adds nothing to the record
+noted-refused : (c : ℕ) (e : Entry) (r : List Entry) → c ≢ 0 → noted c e r ≡ r
+noted-refused c e r h = go (eqb c 0) refl
+  where
+    go : (a : Bool) → eqb c 0 ≡ a → (let x : List Entry = elim a [ true ↦ e ∷ r | false ↦ r ] in x ≡ r)
+    go true p = absurd (h (equal-ranks c 0 p))
+    go false p = refl
+
+abbrev pub lastCode : Now State → ℕ
+lastCode n = elim (n .told) [ [] ↦ 0 | x ∷ xs ↦ x .1 .code ]
+
+pub step-refused : (s : List ℕ) (c : Call) (n : Now State) → lastCode (step s c n) ≢ 0 → (step s c n .kept ≡ n .kept) × (step s c n .written ≡ n .written)
+unfolding step
+step-refused s (doBeat m word lent b) n h = let p = beat-refused s (n .kept) m word lent b h in (p .0, rw (p .4))
+step-refused s (doLock k) n h = (lock-refused s (n .kept) k h, noted-refused _ _ (n .written) h)
+step-refused s (doUnlock k) n h = (unlock-refused s (n .kept) k h, noted-refused _ _ (n .written) h)
+step-refused s (doCancel k) n h = (cancel-refused s (n .kept) k h, noted-refused _ _ (n .written) h)
+step-refused s doReset n h = (reset-refused s (n .kept) h, noted-refused _ _ (n .written) h)

@@ -1,0 +1,252 @@
+-- The engine's run from a load on, and the run of a control that keeps no flags: it has the variables and the record, and decides by the rule alone.
+-- Definitions only; assumes nothing.
+use mathlib.Core.Bool.{Bool, true, false, cond, not, _&&_, _||_}
+use mathlib.Core.List.{List, [], _∷_, _++_}
+use Prim.Native.Nat.{ℕ, zero, suc, _+_, _/_}
+use lib.Dec.{eqb, ltb}
+use lib.IntN.{ℤ}
+use lib.ListN.{length, getD, drop}
+use Rattle.code.specs.Token.{WHEN, FROM, EVERY}
+use Rattle.code.specs.Reading.{Answer, good, stop, _>>=_}
+use Rattle.code.specs.Working.{isYes, conditionValue}
+use Rattle.code.specs.declared.check.Line.{Line}
+use Rattle.engine.specs.declared.set.Lines.{Lines}
+use Rattle.engine.specs.declared.state.State.{State}
+use Rattle.engine.specs.declared.beat.Beaten.{Beaten}
+use Rattle.engine.specs.declared.calls.Called.{Called}
+use Rattle.engine.specs.Set.{maxLines, noLine, rankIn, soundLines}
+use Rattle.engine.specs.State.{powerOn, inputCount, beatCells}
+use Rattle.engine.specs.Sound.{isSound}
+use Rattle.engine.specs.Action.{Vars, World, fromGot}
+use Rattle.engine.specs.Turn.{Entry, beatIn, worked, locks, cancels, resets, Turned, doTurn}
+use Rattle.engine.specs.Beat.{unsoundCode, shortBuffer, wrongNumbers, bufferSize, areInputs, beatOf, buffered, beatAnswer, beatBuffer}
+use Rattle.engine.specs.Calls.{unknownLine, lockCall, unlockCall, cancelCall, resetState, resetCall}
+use Rattle.demands.specs.Record.{Record, after, isCancelled, isLocked, wasTrue, everTrue, isAutomatic, takesByRule, triesByRule, actsByRule}
+
+-- ---- the calls after a load, and what the caller sees of each
+
+-- a beat in AUTOMATIC or not, with the input word, the 14 numbers and the order buffer; and the host's calls, which name a line by its number
+pub data Call : Type 0 where
+  doBeat : Bool → ℕ → List ℤ → List ℕ → Call
+  doLock : ℕ → Call
+  doUnlock : ℕ → Call
+  doCancel : ℕ → Call
+  doReset : Call
+
+-- the code, the number of orders, the word of the lines that acted, and the order buffer afterwards (0, 0 and none of a host's call)
+pub record Reply : Type 0 where
+  pub code : ℕ
+  pub orders : ℕ
+  pub acted : ℕ
+  pub buffer : List ℕ
+
+abbrev pub coded : ℕ → Reply
+coded c = record { code = c; orders = 0; acted = 0; buffer = [] }
+
+-- where a run stands: what the control keeps, the record, and the calls so far with their replies, newest first
+pub record Now (S : Type 0) : Type 0 where
+  pub kept : S
+  pub written : Record
+  pub told : List (Call × Reply)
+
+-- what a beat adds to the record: a failed one nothing
+abbrev pub entriesOf : Answer Turned → List Entry
+entriesOf (good t) = t .entries
+entriesOf (stop c) = []
+
+-- what a host's call adds: a refused one nothing
+abbrev pub noted : ℕ → Entry → Record → Record
+noted c e r = elim (eqb c 0) [ true ↦ e ∷ r | false ↦ r ]
+
+-- the rank of the line with the number n
+abbrev pub rankOf : List ℕ → ℕ → ℕ
+rankOf s n = rankIn (soundLines s .numbers) n 0
+
+-- ---- the engine's run
+
+-- a host's call that gave x and is written down as e
+abbrev pub hosted : Call → Called → Entry → Now State → Now State
+hosted c x e n = record { kept = x .state; written = noted (x .code) e (n .written); told = (c, coded (x .code)) ∷ n .told }
+
+-- a beat that gave x, left the buffer b and wrote down es
+abbrev pub beaten : Call → Beaten → List ℕ → List Entry → Now State → Now State
+beaten c x b es n = record {
+  kept = x .state;
+  written = after es (n .written);
+  told = (c, record { code = x .code; orders = x .orders; acted = x .acted; buffer = b }) ∷ n .told;
+}
+
+-- one call of the engine, as its definitions have it
+unfoldable pub step : List ℕ → Call → Now State → Now State
+step s (doBeat m word lent b) n =
+    beaten (doBeat m word lent b) (beatAnswer s (n .kept) m word lent b) (beatBuffer s (n .kept) m word lent b) (entriesOf (beatOf s (n .kept) m word lent (length b))) n
+step s (doLock k) n = hosted (doLock k) (lockCall s (n .kept) k) (locks (rankOf s k) true) n
+step s (doUnlock k) n = hosted (doUnlock k) (unlockCall s (n .kept) k) (locks (rankOf s k) false) n
+step s (doCancel k) n = hosted (doCancel k) (cancelCall s (n .kept) k) (cancels (rankOf s k)) n
+step s doReset n = hosted doReset (resetCall s (n .kept)) resets n
+
+-- the calls, one after the other
+unfoldable pub runFrom : List ℕ → List Call → Now State → Now State
+runFrom s [] n = n
+runFrom s (c ∷ cs) n = runFrom s cs (step s c n)
+
+-- after a load: the state of power-on, and nothing written down
+abbrev pub loaded : Now State
+loaded = record { kept = powerOn; written = []; told = [] }
+
+-- the engine's run of these calls over the set s, from the load on
+abbrev pub run : List ℕ → List Call → Now State
+run s cs = runFrom s cs loaded
+
+-- ---- what the record says of locks, cancels and memory
+
+-- a value for each of the first n ranks
+unfoldable pub ranks : (ℕ → Bool) → ℕ → List Bool
+ranks f zero = []
+ranks f (suc n) = f 0 ∷ ranks (λ k. f (suc k)) n
+
+-- so for each of the 32 ranks
+unfoldable pub byRank : (ℕ → Bool) → List Bool
+byRank f = ranks f maxLines
+
+-- a line of the set is cancelled
+abbrev pub cancelledBy : Lines → Record → ℕ → Bool
+cancelledBy ls r k = isCancelled (getD (ls .items) k noLine .ids) k r && ltb k (ls .count)
+
+-- it is locked, and not cancelled
+abbrev pub lockedBy : Lines → Record → ℕ → Bool
+lockedBy ls r k = isLocked k r && not (cancelledBy ls r k)
+
+-- what a line with this keyword has to remember: WHEN and FROM, that its condition was true once; EVERY, that it was true when last worked
+abbrev pub remembersBy : ℕ → ℕ → Record → Bool
+remembersBy kw k r = cond (eqb kw WHEN || eqb kw FROM) (everTrue k r) (cond (eqb kw EVERY) (wasTrue k r) false)
+
+-- it remembers something, and is not cancelled
+abbrev pub memoryBy : Lines → Record → ℕ → Bool
+memoryBy ls r k = remembersBy (getD (ls .items) k noLine .keyword) k r && not (cancelledBy ls r k)
+
+-- ---- the control that keeps no flags
+
+-- all that it keeps beside the record are the variables: R, the cells, which timers run
+abbrev pub variablesOf : State → Vars
+variablesOf st = record { r = st .r; cells = st .cells; runs = st .runs }
+
+-- the state that the variables and the record make up
+unfoldable pub stateBy : Lines → Vars → Record → State
+stateBy ls v r = record {
+  r = v .r;
+  cells = v .cells;
+  runs = v .runs;
+  locked = byRank (lockedBy ls r);
+  cancelled = byRank (cancelledBy ls r);
+  memory = byRank (memoryBy ls r);
+}
+
+-- a beat begins with the variables alone
+unfoldable pub begunBy : Vars → ℕ → List ℤ → World
+begunBy v word lent = record {
+  vars = record { r = v .r; cells = beatCells word lent (v .runs) (v .cells); runs = v .runs };
+  locked = [];
+  memory = [];
+  acted = 0;
+  orders = [];
+}
+
+-- and leaves the variables alone
+unfoldable pub endedBy : World → Vars
+endedBy x = record { r = x .vars .r; cells = drop inputCount (x .vars .cells); runs = x .vars .runs }
+
+module _ (s : List ℕ) (ls : Lines) where
+  -- the condition, worked if the rule says so; then the actions, if the rule says so (a LOCK in text asks the record which lines are cancelled)
+  unfoldable pub tryByRule : Line → ℕ → Record → World → Answer Turned
+  tryByRule l k r x =
+      elim (triesByRule (l .keyword) k r) [
+        | true ↦
+            fromGot (conditionValue s (x .vars .r) (x .vars .cells) (l .condition)) >>= λ a.
+            doTurn s (ls .numbers) (byRank (cancelledBy ls r)) (isAutomatic r) l k x (worked k (isYes (a .0)) ∷ []) (actsByRule (l .keyword) k r (isYes (a .0)))
+        | false ↦ doTurn s (ls .numbers) (byRank (cancelledBy ls r)) (isAutomatic r) l k x [] (actsByRule (l .keyword) k r false)
+      ]
+
+  -- its turn, if the rule says that it takes one
+  unfoldable pub turnByRule : Line → ℕ → Record → World → Answer Turned
+  turnByRule l k r x = elim (takesByRule l k r) [ true ↦ tryByRule l k r x | false ↦ good (record { world = x; entries = [] }) ]
+
+  -- the turns of m lines from rank k on; each sees what was written down before it
+  unfoldable pub turnsByRule : ℕ → ℕ → Record → World → Answer Turned
+  turnsByRule zero k r x = good (record { world = x; entries = [] })
+  turnsByRule (suc m) k r x =
+      turnByRule (getD (ls .items) k noLine) k r x >>= λ t.
+      turnsByRule m (k + 1) (after (t .entries) r) (t .world) >>= λ u.
+      good (record { world = u .world; entries = t .entries ++ u .entries })
+
+-- a beat: 22 is asked of the set, the variables and what the record gives of locks, cancels and memory, then 20 and 21; its first entry is its mode
+unfoldable pub beatByRule : List ℕ → Vars → Record → Bool → ℕ → List ℤ → ℕ → Answer Turned
+beatByRule s v r m word lent size =
+    elim (isSound s (stateBy (soundLines s) v r)) [
+      | true ↦
+          elim (ltb size bufferSize) [
+            | true ↦ stop shortBuffer
+            | false ↦
+                elim (areInputs lent) [
+                  | true ↦
+                      turnsByRule s (soundLines s) (soundLines s .count) 0 (beatIn m ∷ r) (begunBy v word lent) >>= λ t.
+                      good (record { world = t .world; entries = beatIn m ∷ t .entries })
+                  | false ↦ stop wrongNumbers
+                ]
+          ]
+      | false ↦ stop unsoundCode
+    ]
+
+-- the code of a call that names a line: 22, then 40 for a line that is not in the set or that the record says is cancelled
+unfoldable pub codeByRule : List ℕ → Vars → Record → ℕ → ℕ
+codeByRule s v r n =
+    elim (isSound s (stateBy (soundLines s) v r)) [
+      | true ↦
+          elim (ltb (rankOf s n) (soundLines s .count)) [
+            | true ↦ elim (isCancelled (getD (soundLines s .items) (rankOf s n) noLine .ids) (rankOf s n) r) [ true ↦ unknownLine | false ↦ 0 ]
+            | false ↦ unknownLine
+          ]
+      | false ↦ unsoundCode
+    ]
+
+-- a host's call with the code k changes no variables
+abbrev pub hostedByRule : Call → ℕ → Entry → Now Vars → Now Vars
+hostedByRule c k e n = record { kept = n .kept; written = noted k e (n .written); told = (c, coded k) ∷ n .told }
+
+-- a failed beat leaves all as it was
+abbrev pub beatenByRule : Call → Answer Turned → List ℕ → Now Vars → Now Vars
+beatenByRule c (good t) b n = record {
+  kept = endedBy (t .world);
+  written = after (t .entries) (n .written);
+  told = (c, record { code = 0; orders = length (t .world .orders) / 8; acted = t .world .acted; buffer = buffered b (good t) }) ∷ n .told;
+}
+beatenByRule c (stop k) b n = record { kept = n .kept; written = n .written; told = (c, record { code = k; orders = 0; acted = 0; buffer = b }) ∷ n .told }
+
+-- what the engine's reset leaves of the variables
+abbrev pub cleared : Vars → Lines → Record → Vars
+cleared v ls r = variablesOf (resetState (ls .items) (ls .count) (stateBy ls v r))
+
+-- a reset: one entry, and the variables cleared
+unfoldable pub resetByRule : List ℕ → Now Vars → Now Vars
+resetByRule s n =
+    elim (isSound s (stateBy (soundLines s) (n .kept) (n .written))) [
+      | true ↦ record { kept = cleared (n .kept) (soundLines s) (n .written); written = resets ∷ n .written; told = (doReset, coded 0) ∷ n .told }
+      | false ↦ record { kept = n .kept; written = n .written; told = (doReset, coded unsoundCode) ∷ n .told }
+    ]
+
+-- one call by the rule
+unfoldable pub stepByRule : List ℕ → Call → Now Vars → Now Vars
+stepByRule s (doBeat m word lent b) n = beatenByRule (doBeat m word lent b) (beatByRule s (n .kept) (n .written) m word lent (length b)) b n
+stepByRule s (doLock k) n = hostedByRule (doLock k) (codeByRule s (n .kept) (n .written) k) (locks (rankOf s k) true) n
+stepByRule s (doUnlock k) n = hostedByRule (doUnlock k) (codeByRule s (n .kept) (n .written) k) (locks (rankOf s k) false) n
+stepByRule s (doCancel k) n = hostedByRule (doCancel k) (codeByRule s (n .kept) (n .written) k) (cancels (rankOf s k)) n
+stepByRule s doReset n = resetByRule s n
+
+-- the calls, one after the other
+unfoldable pub runByRuleFrom : List ℕ → List Call → Now Vars → Now Vars
+runByRuleFrom s [] n = n
+runByRuleFrom s (c ∷ cs) n = runByRuleFrom s cs (stepByRule s c n)
+
+-- the run of these calls by the rule alone, from the load on
+abbrev pub runByRule : List ℕ → List Call → Now Vars
+runByRule s cs = runByRuleFrom s cs (record { kept = variablesOf powerOn; written = []; told = [] })

@@ -1,0 +1,28 @@
+-- `beat::act` meets its contract: what the actions did, with the line's bit in the word.
+use borrow.Author.Needs.{needs}
+use native.Mathlib.Omega.{arith}
+use denote.Ref.{now}
+use Rattle.engine.specs.Action.{actionsOf}
+use Rattle.engine.specs.Turn.{doTurn, counted}
+use Rattle.engine.specs.Held.{worldOf}
+use Rattle.engine.proofs.TurnLaws.{done-turned}
+use Rattle.engine.proofs.beat.act.Statement.{statement}
+use Rattle.engine.proofs.beat.act.Tie as tie
+
+pub act-spec : {M : Type 1} → statement M
+unfolding doTurn
+act-spec =
+    tie.close
+    (tie.spec
+    (λ c. search needs)
+    (λ c κs. search needs)
+    (λ c.
+    let a = c .before .before .before .before .before .args in
+    let d = c .actions in
+    let o = d .last .1 .1 .1 in (
+      λ k es automatic e.
+          done-turned (d .result) (o .0) (o .1 .0) (o .1 .1 .0)
+          (actionsOf (now (a .code)) (now (a .numbers)) (now (a .cancelled)) (a .l .number) 8 (counted (worldOf (now (a .r)) (now (a .cells)) (now (a .out)) (a .flags)) k) (a .l .actions))
+          es (rw e at (d .ensures .0)),
+      (omega arith, d .ensures .1 .1),
+    )))

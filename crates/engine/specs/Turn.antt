@@ -1,0 +1,88 @@
+-- A turn, by keyword (document 01, "A beat"). Definitions only.
+use mathlib.Core.Bool.{Bool, true, false, cond, not, _&&_, _||_}
+use mathlib.Core.List.{List, [], _∷_, _++_, map}
+use Prim.Native.Nat.{ℕ, zero, suc, _+_, _^_}
+use lib.Dec.{eqb}
+use lib.IntN.{ℤ}
+use lib.ListN.{getD, set}
+use Rattle.code.specs.Token.{WHEN, WHENEVER, FROM, EVERY}
+use Rattle.code.specs.Reading.{Answer, good, stop, _>>=_}
+use Rattle.code.specs.Working.{isYes, conditionValue}
+use Rattle.code.specs.declared.check.Line.{Line}
+use Rattle.engine.specs.Set.{noLine}
+use Rattle.engine.specs.Action.{World, Note, fromGot, actionsOf}
+
+-- ---- by keyword, where m is the line's memory and v what its condition gives
+
+-- a WHEN or FROM line that has acted works its condition no more
+unfoldable pub tries : ℕ → Bool → Bool
+tries kw m = cond (eqb kw WHEN || eqb kw FROM) (not m) (eqb kw WHENEVER || eqb kw EVERY)
+
+-- no keyword: acts at each turn; WHENEVER: when true; WHEN: at its first true turn only; FROM: at its first true turn and every later one;
+-- EVERY: when true, and its turn before was false or there was none
+unfoldable pub acts : ℕ → Bool → Bool → Bool
+acts kw m v = cond (eqb kw WHENEVER) v (cond (eqb kw WHEN || eqb kw EVERY) (v && not m) (cond (eqb kw FROM) (v || m) true))
+
+-- what is remembered of a condition that was worked: WHEN and FROM, that it was true once; EVERY, what it gave
+unfoldable pub remembers : ℕ → Bool → Bool → Bool
+remembers kw m v = cond (eqb kw WHEN || eqb kw FROM) (m || v) (cond (eqb kw EVERY) v m)
+
+-- ---- a turn
+
+-- what is written down: the condition of the line of a rank was worked and gave this; it was locked or released
+pub data Entry : Type 0 where
+  beatIn : Bool → Entry
+  worked : ℕ → Bool → Entry
+  locks : ℕ → Bool → Entry
+  cancels : ℕ → Entry
+  resets : Entry
+
+abbrev pub lockEntry : Note → Entry
+lockEntry n = locks (n .0) (n .1)
+
+-- a turn's outcome, and what is written down of it
+pub record Turned : Type 0 where
+  pub world : World
+  pub entries : List Entry
+
+abbrev pub remembered : World → ℕ → Bool → World
+remembered x k m = record { vars = x .vars; locked = x .locked; memory = set (x .memory) k m; acted = x .acted; orders = x .orders }
+
+-- the line of rank k acted: its bit in the word
+abbrev pub counted : World → ℕ → World
+counted x k = record { vars = x .vars; locked = x .locked; memory = x .memory; acted = x .acted + 2 ^ k; orders = x .orders }
+
+module _ (s numbers : List ℕ) (cancelled : List Bool) (automatic : Bool) where
+  -- in the set, not cancelled and not locked at that moment; an ID line also needs AUTOMATIC
+  unfoldable pub takesTurn : Line → ℕ → World → Bool
+  takesTurn l k x = not (getD cancelled k false) && (not (getD (x .locked) k false) && (l .ids || automatic))
+
+  -- its actions, if it acts
+  unfoldable pub doTurn : Line → ℕ → World → List Entry → Bool → Answer Turned
+  doTurn l k x es false = good (record { world = x; entries = es })
+  doTurn l k x es true =
+      actionsOf s numbers cancelled (l .number) 8 (counted x k) (l .actions) >>= λ d.
+      good (record { world = d .world; entries = es ++ map lockEntry (d .notes) })
+
+  -- the condition, worked; then the actions
+  unfoldable pub tryTurn : Line → ℕ → World → Answer Turned
+  tryTurn l k x =
+      elim (tries (l .keyword) (getD (x .memory) k false)) [
+        | true ↦
+            fromGot (conditionValue s (x .vars .r) (x .vars .cells) (l .condition)) >>= λ a.
+            doTurn l k (remembered x k (remembers (l .keyword) (getD (x .memory) k false) (isYes (a .0)))) (worked k (isYes (a .0)) ∷ [])
+            (acts (l .keyword) (getD (x .memory) k false) (isYes (a .0)))
+        | false ↦ doTurn l k x [] (acts (l .keyword) (getD (x .memory) k false) false)
+      ]
+
+  -- the turn of the line of rank k
+  unfoldable pub turnOf : Line → ℕ → World → Answer Turned
+  turnOf l k x = elim (takesTurn l k x) [ true ↦ tryTurn l k x | false ↦ good (record { world = x; entries = [] }) ]
+
+  -- the turns of m lines from rank k on, by rising number
+  unfoldable pub turnsFrom : List Line → ℕ → ℕ → World → Answer Turned
+  turnsFrom ls zero k x = good (record { world = x; entries = [] })
+  turnsFrom ls (suc m) k x =
+      turnOf (getD ls k noLine) k x >>= λ t.
+      turnsFrom ls m (k + 1) (t .world) >>= λ u.
+      good (record { world = u .world; entries = t .entries ++ u .entries })

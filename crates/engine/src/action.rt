@@ -1,0 +1,605 @@
+// The actions of a line: assignments, POS, FA, MOV, M, SETAL, LOCK and UNLOCK, each by its own rule. The first alarm ends them.
+//
+// R, the cells of the beat and the orders so far are lent and written in place; a beat that ends in an alarm throws them away.
+ghost use mathlib.Core.Path.{_≡_};
+ghost use mathlib.Core.Bool.{true, false};
+ghost use Prim.Native.Nat.{ℕ, _+_, _≤_, _<_};
+ghost use lib.ListN.{length};
+ghost use mathlib.Core.List.{List};
+ghost use lib.IntN.{ℤ, pos};
+ghost use Rattle.code.specs.Token.{isFifo};
+ghost use Rattle.code.specs.Variables.{isInside};
+ghost use Rattle.code.specs.Working.{rightValue};
+ghost use Rattle.engine.specs.Action.{changeAnswer, changed, runAt, withRunAt, changeFifo, writeFifo, writeCell, writeTo, fromGot, alarmOf, did, ordered, driveOrder, takenAt, assignmentOf, driveOf, lockOf, commandOf, actionOf, actionsOf};
+ghost use Rattle.engine.specs.Held.{varsOf, worldOf, IsChanged, IsCelled, IsWritten, IsWorked, IsTaken, IsOrder, IsDone, Within};
+use crate::set::LINES;
+use crate::set::rank_in;
+use crate::state::TIMERS;
+use code::check::is_removal;
+use code::token::END;
+use code::token::FA;
+use code::token::FIFO1;
+use code::token::LOCK;
+use code::token::M;
+use code::token::MARKER;
+use code::token::OUT;
+use code::token::PARAM;
+use code::token::POS;
+use code::token::R;
+use code::token::SETAL;
+use code::token::SIZE;
+use code::token::TIMER;
+use code::token::index_at;
+use code::token::is_drive;
+use code::token::is_fifo;
+use code::token::is_variable;
+use code::token::token_at;
+use code::token::whole_of;
+use code::variables::CELLS;
+use code::variables::COUNT_CELLS;
+use code::variables::RS;
+use code::variables::RUNS;
+use code::variables::UNSOUND;
+use code::variables::cell_of;
+use code::variables::count_of;
+use code::variables::is_inside;
+use code::work::right_side;
+use values::arithmetic::Worked;
+use values::arithmetic::feed;
+use values::arithmetic::output;
+use values::arithmetic::sign;
+use values::arithmetic::whole_units;
+use values::fifo::Moved;
+use values::fifo::PLACES;
+use values::fifo::append;
+use values::fifo::empty;
+use values::fifo::remove;
+use values::order::Kind;
+use values::order::Order;
+use values::order::put;
+use values::time::Millis;
+use values::time::Timer;
+use values::time::written;
+
+// The bytes of the orders of a beat: 32 lines of eight actions.
+pub const ORDERS: usize = 2048;
+// The actions of a line.
+pub const ACTIONS: usize = 8;
+
+// What a beat under way holds beside R, the cells and the orders: which timers run, which lines are locked, their memory, the word of those that acted, and
+// the count of orders.
+pub struct Flags {
+    pub runs: [bool; TIMERS],
+    pub locked: [bool; LINES],
+    pub memory: [bool; LINES],
+    pub acted: u64,
+    pub count: usize,
+}
+
+// What a write gives.
+pub struct Wrote {
+    pub good: bool,
+    pub alarm: u8,
+    pub runs: [bool; TIMERS],
+}
+
+// What stands right of =, worked: its value and the place behind it.
+pub struct Took {
+    pub good: bool,
+    pub alarm: u8,
+    pub value: i32,
+    pub next: usize,
+}
+
+// The order that a drive gives.
+pub struct Ordered {
+    pub good: bool,
+    pub alarm: u8,
+    pub order: Order,
+}
+
+// What actions did: the flags and the place behind them, or an alarm.
+pub struct Done {
+    pub good: bool,
+    pub alarm: u8,
+    pub next: usize,
+    pub flags: Flags,
+}
+
+// ---- writing
+
+// A FIFO's part and count: 0 appends, 1 removes, else empties by a written value.
+fn change(part: &mut [i32], op: u8, count: u8, v: i32) -> Moved
+    ensures { λ x. ⌜ x ≡ changeAnswer op (now (part .entry)) count v ⌝ }
+    ensures { λ x. ⌜ now (part .exit) ≡ changed op (now (part .entry)) count v ⌝ }
+{
+    if op == 0 {
+        return append(part, count, v);
+    }
+    if op == 1 {
+        return remove(part, count);
+    }
+    empty(part, count, v)
+}
+
+// The run of R from place `start` on is changed so.
+fn change_run(r: &mut [i32], start: usize, op: u8, count: u8, v: i32) -> Moved
+    requires { ⌜ start + 16 ≤ length (now r) ⌝ }
+    ensures { λ x. ⌜ x ≡ changeAnswer op (runAt start (now (r .entry))) count v ⌝ }
+    ensures { λ x. ⌜ now (r .exit) ≡ withRunAt start (now (r .entry)) (changed op (runAt start (now (r .entry))) count v) ⌝ }
+{
+    let end = start + PLACES;
+    change(&mut r[start..end], op, count, v)
+}
+
+// The FIFO with the word w is changed, in R and in its count.
+fn change_fifo(r: &mut [i32; RS], cells: &mut [i32; CELLS], op: u8, w: u32, v: i32) -> Worked
+    requires { ⌜ isFifo w ≡ true ⌝ }
+    ensures { λ x. ⌜ IsChanged x (now (r .exit)) (now (cells .exit)) (changeFifo (now (r .entry)) (now (cells .entry)) op w v) ⌝ }
+{
+    let k = (w - FIFO1) as usize;
+    let at = COUNT_CELLS + k;
+    let count = count_of(cells[at]);
+    match change_run(r, RUNS + PLACES * k, op, count, v) {
+        Moved::Done(u, n) => {
+            cells[at] = n as i32;
+            Worked::Value(u)
+        }
+        Moved::Alarm(a) => Worked::Alarm(a),
+        Moved::Unfit => Worked::Alarm(UNSOUND),
+    }
+}
+
+fn written_so(runs: [bool; TIMERS]) -> Wrote
+    ensures { λ x. ⌜ x ≡ record { good = true; alarm = 0; runs = runs } ⌝ }
+{
+    Wrote {
+        good: true,
+        alarm: 0,
+        runs: runs,
+    }
+}
+
+fn not_written(alarm: u8, runs: [bool; TIMERS]) -> Wrote
+    ensures { λ x. ⌜ x ≡ record { good = false; alarm = alarm; runs = runs } ⌝ }
+{
+    Wrote {
+        good: false,
+        alarm: alarm,
+        runs: runs,
+    }
+}
+
+// Writing FIFO [0] appends, writing [4] empties.
+fn write_fifo(
+    r: &mut [i32; RS],
+    cells: &mut [i32; CELLS],
+    runs: [bool; TIMERS],
+    w: u32,
+    i: u32,
+    v: i32,
+) -> Wrote
+    requires { ⌜ isFifo w ≡ true ⌝ }
+    ensures { λ x. ⌜ IsWritten x (now (r .exit)) (now (cells .exit)) (writeFifo (varsOf (now (r .entry)) (now (cells .entry)) runs) w i v) ⌝ }
+{
+    if i == 0 {
+        return match change_fifo(r, cells, 0, w, v) {
+            Worked::Value(_) => written_so(runs),
+            Worked::Alarm(a) => not_written(a, runs),
+        };
+    }
+    if i != 4 {
+        return not_written(UNSOUND, runs);
+    }
+    match change_fifo(r, cells, 2, w, v) {
+        Worked::Value(_) => written_so(runs),
+        Worked::Alarm(a) => not_written(a, runs),
+    }
+}
+
+// Outputs, markers, parameters and timers, each by its own rule.
+fn write_cell(cells: &mut [i32; CELLS], runs: [bool; TIMERS], w: u32, i: u32, v: i32) -> Wrote
+    requires { ⌜ (isInside w i ≡ true) × ((isFifo w ≡ false) × (w ≡ 37 → ⊥)) ⌝ }
+    ensures { λ x. ⌜ IsCelled x (now (cells .exit)) (writeCell (now (cells .entry)) runs w i v) ⌝ }
+{
+    let at = cell_of(w, i);
+    if w == MARKER {
+        cells[at] = whole_units(v);
+        return written_so(runs);
+    }
+    if w == PARAM {
+        cells[at] = v;
+        return written_so(runs);
+    }
+    if w == OUT {
+        return match output(v) {
+            Worked::Value(u) => {
+                cells[at] = u;
+                written_so(runs)
+            }
+            Worked::Alarm(a) => not_written(a, runs),
+        };
+    }
+    if w != TIMER {
+        return not_written(UNSOUND, runs);
+    }
+    let n = i as usize;
+    let before = cells[at];
+    let ran = runs[n];
+    let t = written(
+        Timer {
+            time: Millis(before),
+            runs: ran,
+        },
+        v,
+    );
+    let time = t.time.0;
+    cells[at] = time;
+    let mut now_runs = runs;
+    now_runs[n] = t.runs;
+    written_so(now_runs)
+}
+
+// The variable w[i] is written.
+fn write(
+    r: &mut [i32; RS],
+    cells: &mut [i32; CELLS],
+    runs: [bool; TIMERS],
+    w: u32,
+    i: u32,
+    v: i32,
+) -> Wrote
+    ensures { λ x. ⌜ IsWritten x (now (r .exit)) (now (cells .exit)) (writeTo (varsOf (now (r .entry)) (now (cells .entry)) runs) w i v) ⌝ }
+{
+    if !is_inside(w, i) {
+        return not_written(UNSOUND, runs);
+    }
+    if w == R {
+        let at = i as usize;
+        r[at] = v;
+        return written_so(runs);
+    }
+    if is_fifo(w) {
+        return write_fifo(r, cells, runs, w, i, v);
+    }
+    write_cell(cells, runs, w, i, v)
+}
+
+// ---- right sides
+
+fn not_taken(alarm: u8) -> Took
+    ensures { λ x. ⌜ x ≡ record { good = false; alarm = alarm; value = pos 0; next = 0 } ⌝ }
+{
+    Took {
+        good: false,
+        alarm: alarm,
+        value: 0,
+        next: 0,
+    }
+}
+
+// The number of an alarm that working gave.
+pub fn alarm_of(v: i32) -> u8
+    ensures { λ x. ⌜ x ≡ alarmOf v ⌝ }
+{
+    if v < 0 {
+        return UNSOUND;
+    }
+    if 255 < v {
+        return UNSOUND;
+    }
+    v as u8
+}
+
+// The right side at place p, worked; it changes nothing.
+fn work(code: &[u32; SIZE], r: &[i32; RS], cells: &[i32; CELLS], p: usize) -> Took
+    ensures { λ x. ⌜ IsWorked x (fromGot (rightValue (now (code .entry)) (now (r .entry)) (now (cells .entry)) p)) ⌝ }
+{
+    let g = right_side(code, r, cells, p);
+    let good = g.good;
+    if !good {
+        return not_taken(alarm_of(g.value));
+    }
+    Took {
+        good: true,
+        alarm: 0,
+        value: g.value,
+        next: g.next,
+    }
+}
+
+// The right side of an assignment at place p: FIFO [0] as the whole right side removes the oldest.
+fn take(
+    code: &[u32; SIZE],
+    r: &mut [i32; RS],
+    cells: &mut [i32; CELLS],
+    runs: [bool; TIMERS],
+    p: usize,
+) -> Took
+    requires { ⌜ p < 4136 ⌝ }
+    ensures { λ x. ⌜ IsTaken x (now (r .exit)) (now (cells .exit)) runs (takenAt (now (code .entry)) (varsOf (now (r .entry)) (now (cells .entry)) runs) p) ⌝ }
+{
+    if !is_removal(code, p) {
+        return work(code, r, cells, p);
+    }
+    match change_fifo(r, cells, 1, token_at(code, p), 0) {
+        Worked::Value(v) => Took {
+            good: true,
+            alarm: 0,
+            value: v,
+            next: p + 4,
+        },
+        Worked::Alarm(a) => not_taken(a),
+    }
+}
+
+// ---- actions
+
+pub fn did_all(next: usize, flags: Flags) -> Done
+    ensures { λ x. ⌜ x ≡ record { good = true; alarm = 0; next = next; flags = flags } ⌝ }
+{
+    Done {
+        good: true,
+        alarm: 0,
+        next: next,
+        flags: flags,
+    }
+}
+
+pub fn not_done(alarm: u8, flags: Flags) -> Done
+    ensures { λ x. ⌜ x ≡ record { good = false; alarm = alarm; next = 0; flags = flags } ⌝ }
+{
+    Done {
+        good: false,
+        alarm: alarm,
+        next: 0,
+        flags: flags,
+    }
+}
+
+// variable = sum.
+fn assign(
+    code: &[u32; SIZE],
+    r: &mut [i32; RS],
+    cells: &mut [i32; CELLS],
+    flags: Flags,
+    w: u32,
+    p: usize,
+) -> Done
+    requires { ⌜ p < 4130 ⌝ }
+    ensures { λ x. ⌜ ((out : List ℕ) → IsDone x (now (r .exit)) (now (cells .exit)) out (assignmentOf (now (code .entry)) (worldOf (now (r .entry)) (now (cells .entry)) out flags) w p)) × Within 0 x flags ⌝ }
+{
+    let runs = flags.runs;
+    let t = take(code, r, cells, runs, p + 5);
+    let good = t.good;
+    if !good {
+        return not_done(t.alarm, flags);
+    }
+    let x = write(r, cells, runs, w, index_at(code, w, p), t.value);
+    let written = x.good;
+    if !written {
+        return not_done(x.alarm, flags);
+    }
+    let mut next = flags;
+    let now_runs = x.runs;
+    next.runs = now_runs;
+    did_all(t.next, next)
+}
+
+// An order goes behind those of the beat so far.
+fn add_order(out: &mut [u8; ORDERS], flags: Flags, o: Order, next: usize) -> Done
+    requires { ⌜ flags .count < 256 ⌝ }
+    ensures { λ x. ⌜ ((r c : List ℤ) → IsDone x r c (now (out .exit)) (did next (ordered (worldOf r c (now (out .entry)) flags) o))) × Within 1 x flags ⌝ }
+{
+    let at = flags.count * 8;
+    put(out, at, o);
+    let mut f = flags;
+    f.count = flags.count + 1;
+    did_all(next, f)
+}
+
+// The order of POS, FA or MOV.
+fn drive_order(number: u8, w: u32, axis: u8, v: i32) -> Ordered
+    ensures { λ x. ⌜ IsOrder x (driveOrder number w axis v) ⌝ }
+{
+    if w == POS {
+        return Ordered {
+            good: true,
+            alarm: 0,
+            order: Order {
+                kind: Kind::Pos,
+                line: number,
+                target: axis,
+                value: v,
+            },
+        };
+    }
+    if w == FA {
+        return match feed(v) {
+            Worked::Value(u) => Ordered {
+                good: true,
+                alarm: 0,
+                order: Order {
+                    kind: Kind::Fa,
+                    line: number,
+                    target: axis,
+                    value: u,
+                },
+            },
+            Worked::Alarm(a) => Ordered {
+                good: false,
+                alarm: a,
+                order: Order {
+                    kind: Kind::Fa,
+                    line: number,
+                    target: axis,
+                    value: v,
+                },
+            },
+        };
+    }
+    Ordered {
+        good: true,
+        alarm: 0,
+        order: Order {
+            kind: Kind::Mov,
+            line: number,
+            target: axis,
+            value: sign(v),
+        },
+    }
+}
+
+// POS[axis]=, FA[axis]=, MOV[axis]= and a sum; an axis that no byte holds is in no sound set.
+fn drive(
+    code: &[u32; SIZE],
+    r: &[i32; RS],
+    cells: &[i32; CELLS],
+    out: &mut [u8; ORDERS],
+    flags: Flags,
+    number: u8,
+    w: u32,
+    p: usize,
+) -> Done
+    requires { ⌜ (p < 4130) × (flags .count < 256) ⌝ }
+    ensures { λ x. ⌜ IsDone x (now (r .entry)) (now (cells .entry)) (now (out .exit)) (driveOf (now (code .entry)) number (worldOf (now (r .entry)) (now (cells .entry)) (now (out .entry)) flags) w p) × Within 1 x flags ⌝ }
+{
+    let axis = index_at(code, w, p);
+    if 255 < axis {
+        return not_done(UNSOUND, flags);
+    }
+    let t = work(code, r, cells, p + 5);
+    let good = t.good;
+    if !good {
+        return not_done(t.alarm, flags);
+    }
+    let d = drive_order(number, w, axis as u8, t.value);
+    let ordered = d.good;
+    if !ordered {
+        return not_done(d.alarm, flags);
+    }
+    let o = d.order;
+    add_order(out, flags, o, t.next)
+}
+
+// LOCK and UNLOCK take effect at once; naming a cancelled line, they do nothing.
+fn set_lock(cancelled: &[bool; LINES], flags: Flags, on: bool, k: usize, next: usize) -> Done
+    ensures { λ x. ⌜ ((r c : List ℤ) (out : List ℕ) → IsDone x r c out (lockOf (now (cancelled .entry)) (worldOf r c out flags) on k next)) × Within 0 x flags ⌝ }
+{
+    if LINES <= k {
+        return not_done(UNSOUND, flags);
+    }
+    if cancelled[k] {
+        return did_all(next, flags);
+    }
+    let mut f = flags;
+    f.locked[k] = on;
+    did_all(next, f)
+}
+
+// M= and a number; SETAL, LOCK, UNLOCK and a number in brackets.
+fn command(
+    code: &[u32; SIZE],
+    numbers: &[u8; LINES],
+    cancelled: &[bool; LINES],
+    out: &mut [u8; ORDERS],
+    flags: Flags,
+    number: u8,
+    w: u32,
+    p: usize,
+) -> Done
+    requires { ⌜ (p < 4130) × (flags .count < 256) ⌝ }
+    ensures { λ x. ⌜ ((r c : List ℤ) → IsDone x r c (now (out .exit)) (commandOf (now (code .entry)) (now (numbers .entry)) (now (cancelled .entry)) number (worldOf r c (now (out .entry)) flags) w p)) × Within 1 x flags ⌝ }
+{
+    let n = whole_of(token_at(code, p + 2));
+    if w == M {
+        return add_order(
+            out,
+            flags,
+            Order {
+                kind: Kind::M,
+                line: number,
+                target: 0,
+                value: n as i32,
+            },
+            p + 3,
+        );
+    }
+    if w == SETAL {
+        return add_order(
+            out,
+            flags,
+            Order {
+                kind: Kind::Setal,
+                line: number,
+                target: 0,
+                value: n as i32,
+            },
+            p + 4,
+        );
+    }
+    set_lock(cancelled, flags, w == LOCK, rank_in(numbers, n), p + 4)
+}
+
+// The action at place p, of the line with that number.
+fn action(
+    code: &[u32; SIZE],
+    numbers: &[u8; LINES],
+    cancelled: &[bool; LINES],
+    r: &mut [i32; RS],
+    cells: &mut [i32; CELLS],
+    out: &mut [u8; ORDERS],
+    flags: Flags,
+    number: u8,
+    p: usize,
+) -> Done
+    requires { ⌜ flags .count < 256 ⌝ }
+    ensures { λ x. ⌜ IsDone x (now (r .exit)) (now (cells .exit)) (now (out .exit)) (actionOf (now (code .entry)) (now (numbers .entry)) (now (cancelled .entry)) number (worldOf (now (r .entry)) (now (cells .entry)) (now (out .entry)) flags) p) × Within 1 x flags ⌝ }
+{
+    let w = token_at(code, p);
+    if w == END {
+        return not_done(UNSOUND, flags);
+    }
+    if is_variable(w) {
+        return assign(code, r, cells, flags, w, p);
+    }
+    if is_drive(w) {
+        return drive(code, r, cells, out, flags, number, w, p);
+    }
+    command(code, numbers, cancelled, out, flags, number, w, p)
+}
+
+// The actions from place p on, left to right: at most eight.
+pub fn actions(
+    code: &[u32; SIZE],
+    numbers: &[u8; LINES],
+    cancelled: &[bool; LINES],
+    r: &mut [i32; RS],
+    cells: &mut [i32; CELLS],
+    out: &mut [u8; ORDERS],
+    flags: Flags,
+    number: u8,
+    p: usize,
+) -> Done
+    requires { ⌜ flags .count ≤ 248 ⌝ }
+    ensures { λ x. ⌜ IsDone x (now (r .exit)) (now (cells .exit)) (now (out .exit)) (actionsOf (now (code .entry)) (now (numbers .entry)) (now (cancelled .entry)) number 8 (worldOf (now (r .entry)) (now (cells .entry)) (now (out .entry)) flags) p) × Within 8 x flags ⌝ }
+{
+    let mut f = flags;
+    let mut i = p;
+    let mut left: usize = ACTIONS;
+    while 0 < left {
+        let d = action(code, numbers, cancelled, r, cells, out, f, number, i);
+        let good = d.good;
+        if !good {
+            return d;
+        }
+        i = d.next;
+        if token_at(code, i) == END {
+            return d;
+        }
+        let g = d.flags;
+        f = g;
+        left -= 1;
+    }
+    not_done(UNSOUND, f)
+}
