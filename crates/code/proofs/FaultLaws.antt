@@ -9,9 +9,9 @@ use lib.ListN.{getD}
 use borrow.Author.Tests.{not-false, eq-eqb, ne-eqb}
 use Rattle.code.specs.declared.check.Look.{Look}
 use Rattle.code.specs.declared.check.Line.{Line}
-use Rattle.code.specs.Token.{END, IDS, isFactor, isTerm, isFifo, isKeyword, isWhole, whole}
+use Rattle.code.specs.Token.{END, EQUALS, OPEN, CLOSE, IDS, M, isFactor, isTerm, isFifo, isCall, isKeyword, isWhole, whole}
 use Rattle.code.specs.Reading.{Read, read, ends, then, isIndexed, indexAt, expressionAt}
-use Rattle.code.specs.Fault.{sight, shownFault, shownRead, lower, unless, faultFor, isRemoval, assignmentAt, commandAt, actionAt, countFault, actionsAt, numberOf, faultyLine, lineParts, bodyAt, restAt}
+use Rattle.code.specs.Fault.{sight, shownFault, shownRead, lower, unless, faultFor, isRemoval, codeFault, callFault, assignmentAt, commandAt, actionAt, countFault, actionsAt, numberOf, faultyLine, lineParts, bodyAt, restAt}
 use Rattle.code.proofs.Between.{tested}
 use Rattle.code.proofs.Shown.{fault-ends, fault-read, is-end, is-read, stays, behind}
 
@@ -31,6 +31,40 @@ outside-first false k l = simp (lower, ne-eqb k 0 (omega arith)) (omega arith)
 pub removal : (s : List ℕ) (p w t : ℕ) → w ≡ getD s p 0 → t ≡ getD s (p + 4) 0 → isFifo w && (isIndexed s w p && (eqb (indexAt s w p) 0 && not (isFactor t || isTerm t))) ≡ isRemoval s p
 unfolding isRemoval
 removal s p w t e f = rw (e, f)
+
+-- M=, or SETAL, LOCK or UNLOCK: the word w at p, by the test that told
+module _ (s : List ℕ) (kw w p : ℕ) where
+  pub no-command : isWhole (getD s (p + 2) 0) ≡ false → ends 5 ≡ commandAt s kw w p
+  unfolding commandAt
+  no-command h = sym (simp (commandAt, h))
+
+  module _ (h : isWhole (getD s (p + 2) 0) ≡ true) where
+    module _ (m : w ≡ M) where
+      pub no-code : (getD s (p + 1) 0 ≡ EQUALS → ⊥) → ends 5 ≡ commandAt s kw w p
+      unfolding commandAt
+      no-code ne = sym (simp (commandAt, h, eq-eqb _ _ m, ne-eqb _ _ ne))
+
+      pub a-code : getD s (p + 1) 0 ≡ EQUALS → read (codeFault kw (whole (getD s (p + 2) 0))) (p + 3) ≡ commandAt s kw w p
+      unfolding commandAt
+      a-code e = sym (simp (commandAt, h, eq-eqb _ _ m, eq-eqb _ _ e))
+
+    module _ (m : w ≡ M → ⊥) where
+      pub no-call : isCall w ≡ false → ends 5 ≡ commandAt s kw w p
+      unfolding commandAt
+      no-call f = sym (simp (commandAt, h, ne-eqb _ _ m, f))
+
+      module _ (f : isCall w ≡ true) where
+        pub no-open : (getD s (p + 1) 0 ≡ OPEN → ⊥) → ends 5 ≡ commandAt s kw w p
+        unfolding commandAt
+        no-open ne = sym (simp (commandAt, h, ne-eqb _ _ m, f, ne-eqb _ _ ne))
+
+        pub no-close : getD s (p + 1) 0 ≡ OPEN → (getD s (p + 3) 0 ≡ CLOSE → ⊥) → ends 5 ≡ commandAt s kw w p
+        unfolding commandAt
+        no-close e ne = sym (simp (commandAt, h, ne-eqb _ _ m, f, eq-eqb _ _ e, ne-eqb _ _ ne))
+
+        pub a-call : getD s (p + 1) 0 ≡ OPEN → getD s (p + 3) 0 ≡ CLOSE → read (callFault w (whole (getD s (p + 2) 0))) (p + 4) ≡ commandAt s kw w p
+        unfolding commandAt
+        a-call e g = sym (simp (commandAt, h, ne-eqb _ _ m, f, eq-eqb _ _ e, eq-eqb _ _ g))
 
 command-none : (s : List ℕ) (kw p : ℕ) → commandAt s kw 0 p ≡ ends 5
 unfolding commandAt

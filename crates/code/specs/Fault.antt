@@ -7,9 +7,9 @@ use lib.ListN.{getD, drop}
 use Rattle.values.specs.Value.{top}
 use Rattle.code.specs.declared.check.Look.{Look}
 use Rattle.code.specs.declared.check.Line.{Line}
-use Rattle.code.specs.Token.{END, EQUALS, OPEN, CLOSE, IDS, WHEN, EVERY, DO, OUT, TIMER, R, M, SETAL, between, isVariable, isFifo, isDrive, isCall, isKeyword, isId, isFactor, isTerm, isLogic, isWhole, whole, thousandths}
+use Rattle.code.specs.Token.{setSize, END, EQUALS, OPEN, CLOSE, IDS, WHEN, EVERY, DO, OUT, TIMER, R, M, SETAL, between, isVariable, isFifo, isDrive, isCall, isKeyword, isId, isFactor, isTerm, isLogic, isWhole, whole, thousandths}
 use Rattle.code.specs.Reading.{good, Read, read, ends, then, Meaning, isIndexed, indexAt, sumAt, expressionAt}
-use Rattle.code.specs.Variables.{setSize, isInside}
+use Rattle.code.specs.Index.{isInside}
 
 -- ---- codes
 

@@ -1,19 +1,6 @@
--- A line as tokens: what it is and means. Token, Tree, Reading, Meaning, Variables, Working, Fault and TreeFault are the definitions. That writing and reading agree is shown
--- in Agreement.. and LineTokens; Table computes worked lines of the documents.
+-- A line as tokens: Token what a token is, Index which indices a variable has, Reading how tokens are read, in any meaning, Fault the faults 4 to 10 and the parts of a line.
+-- Definitions only; that the reading is the grammar of document 01 is shown in the crate grammar.
 pub mod Token
-pub mod Tree
+pub mod Index
 pub mod Reading
-pub mod Meaning
-pub mod Variables
-pub mod Working
 pub mod Fault
-pub mod TreeFault
-pub mod AgreementLaws
-pub mod Agreement
-pub mod AgreementRead
-pub mod TreeFaultLaws
-pub mod AgreementFault
-pub mod LineTokens
-pub mod AgreementEnds
-pub mod AgreementLine
-pub mod Table

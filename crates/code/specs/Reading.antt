@@ -1,5 +1,5 @@
 -- The reading of tokens by recursive descent, over any meaning of expressions: a meaning and the place after it, or the code that ends the reading.
--- `k` is the count of tokens left; it falls at each bracket and sign. Definitions only; that reading and writing agree is shown in Agreement.
+-- `k` is the count of tokens left; it falls at each bracket and sign. Definitions only; that reading and writing agree is shown in the crate grammar.
 use mathlib.Core.Bool.{Bool, true, false, cond, _&&_}
 use mathlib.Core.List.{List}
 use Prim.Native.Nat.{ℕ, zero, suc, _+_}

@@ -4,6 +4,10 @@ use mathlib.Core.Bool.{Bool, true, false, _&&_, not}
 use Prim.Native.Nat.{ℕ, _+_, _-_, _*_, _/_, _%_}
 use lib.Dec.{eqb, leb}
 
+-- the places of a set: how many lines, where each of 32 starts, and the tokens of 4,096 bytes of text with an end to each line
+abbrev pub setSize : ℕ
+setSize = 4130
+
 -- ---- the table: signs, words, variables, actions, axes
 
 abbrev pub END : ℕ

@@ -7,6 +7,7 @@ ghost use Prim.Native.Nat.{_<_};
 ghost use lib.ListN.{drop};
 ghost use Rattle.code.specs.Reading.{read, ends, upTo, then, readOperand, readProduct, readSum, readExpression, readClose, readVariable, readTruth};
 ghost use Rattle.code.specs.Fault.{lower, opensTooMany, wantingFault, numberFault, readFault, joinSights, sight, shown, shownSight, signedSight, shownFault, shownRead, faultFor, isWritable, writeFault, codeFault, callFault, idFault, isRemoval, assignedAt, assignmentAt, commandAt, actionAt, countFault, actionsAt, numberOf, faultyLine, lineParts, bodyAt, restAt, lineAt};
+use crate::index::is_inside;
 use crate::token::CLOSE;
 use crate::token::DO;
 use crate::token::END;
@@ -42,7 +43,6 @@ use crate::token::is_variable;
 use crate::token::is_whole;
 use crate::token::token_at;
 use crate::token::whole_of;
-use crate::variables::is_inside;
 use values::arithmetic::TOP;
 
 // The codes.
@@ -158,10 +158,11 @@ fn code_fault(keyword: u32, n: u32) -> u8
     if 99 < n {
         return OUTSIDE;
     }
-    if keyword == WHEN {
-        return 0;
+    if (keyword == WHEN) | (keyword == EVERY) {
+        0
+    } else {
+        CODE_ALONE
     }
-    if keyword == EVERY { 0 } else { CODE_ALONE }
 }
 
 fn call_fault(w: u32, n: u32) -> u8

@@ -198,10 +198,7 @@ pub fn is_logic(t: u32) -> bool
 pub fn is_row(first: u32, t: u32) -> bool
     ensures { λ r. ⌜ r ≡ isRow first t ⌝ }
 {
-    if !is_logic(t) {
-        return false;
-    }
-    t == first
+    if is_logic(t) { t == first } else { false }
 }
 
 // Whether a token is a number written without a point.

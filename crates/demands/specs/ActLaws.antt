@@ -11,7 +11,7 @@ use lib.Dec.{eqb}
 use lib.IntN.{ℤ}
 use lib.ListN.{getD}
 use Rattle.code.specs.Reading.{Answer, good, stop, _>>=_}
-use Rattle.code.specs.Working.{isYes, conditionValue}
+use Rattle.working.specs.Working.{isYes, conditionValue}
 use Rattle.code.specs.declared.check.Line.{Line}
 use Rattle.engine.specs.declared.set.Lines.{Lines}
 use Rattle.engine.specs.Set.{noLine}

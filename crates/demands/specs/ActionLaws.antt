@@ -9,7 +9,7 @@ use lib.Dec.{eqb, ltb}
 use lib.ListN.{getD, set}
 use Rattle.code.specs.Token.{END, M, SETAL, LOCK, isVariable, isDrive, whole}
 use Rattle.code.specs.Reading.{Answer, good, stop, _>>=_, indexAt}
-use Rattle.code.specs.Working.{rightValue}
+use Rattle.working.specs.Working.{rightValue}
 use Rattle.engine.specs.Set.{maxLines, rankIn}
 use Rattle.engine.specs.Action.{World, Note, Did, fromGot, driveOrder, takenAt, writeTo, assignmentOf, lockOf, commandOf, driveOf, actionOf, actionsOf}
 use Rattle.demands.specs.FlagLaws.{below}

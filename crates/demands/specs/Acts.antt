@@ -5,7 +5,7 @@ use Prim.Native.Nat.{ℕ, _/_, _%_, _^_}
 use lib.Dec.{eqb}
 use lib.IntN.{ℤ}
 use Rattle.code.specs.Reading.{Answer, good, stop}
-use Rattle.code.specs.Working.{isYes, conditionValue}
+use Rattle.working.specs.Working.{isYes, conditionValue}
 use Rattle.code.specs.declared.check.Line.{Line}
 use Rattle.engine.specs.Action.{World, fromGot}
 use Rattle.demands.specs.Record.{Record, takesByRule, triesByRule, actsByRule}

@@ -9,9 +9,10 @@ use Rattle.code.specs.Token.{END, EQUALS, SAME, OPEN, CLOSE, LEFT, RIGHT, ID, I
 use Rattle.values.specs.Value.{inRange, valued, lessThan, equalTo, wholeUnits, outputOf}
 use Rattle.values.specs.Time.{grownTimer}
 use Rattle.code.specs.Reading.{isIndex, indexOf, isIndexed, indexAt, joined, more, readProduct, readSum, readRest, readExpression, readVariable, operandFrom, readOperand, sumAt, expressionAt}
-use Rattle.code.specs.Variables.{isInside, cellOf, variableValue}
+use Rattle.code.specs.Index.{isInside}
+use Rattle.working.specs.Variables.{cellOf, variableValue}
 use Rattle.code.specs.Fault.{lower, opensTooMany, wantingFault, numberFault, readFault, joinSights, sight, isWritable, writeFault, codeFault, idFault, callFault, countFault, numberOf, isRemoval, assignedAt, assignmentAt, commandAt, actionAt, actionsAt, lineParts, bodyAt, restAt, lineAt}
-use Rattle.code.specs.Working.{joinTruths, joinValues, valueOver, conditionValue, rightValue}
+use Rattle.working.specs.Working.{joinTruths, joinValues, valueOver, conditionValue, rightValue}
 use Rattle.engine.specs.Set.{linesFrom, linesRead, rankIn, namesKnown, allKnown, namedLines, soundLines}
 use Rattle.engine.specs.State.{powerOn, grownCells, inputCells, beatCells}
 use Rattle.engine.specs.Sound.{allRanged, isCell, areCells, allZero, isFifoSound, isFlag, areFlags, stateSound, isSound}

@@ -12,8 +12,8 @@ use code::token::OPEN;
 use code::token::R;
 use code::token::RIGHT;
 use code::token::SIZE;
-use code::work::right_side;
 use libc::STDOUT_FILENO;
+use working::work::right_side;
 
 // The signs, and the places where they and the brackets begin.
 const SIGNS: usize = 4000;

@@ -20,7 +20,7 @@ use Rattle.values.proofs.Signed.{back}
 use Rattle.code.specs.Token.{END, FIFO1, isFifo}
 use Rattle.code.specs.Reading.{Answer, good, stop, _>>=_}
 use Rattle.code.specs.Fault.{isRemoval}
-use Rattle.code.specs.Variables.{counts, countAt, asCount, run}
+use Rattle.working.specs.Variables.{counts, countAt, asCount, run}
 use Rattle.engine.specs.declared.action.Done.{Done}
 use Rattle.engine.specs.Action.{World, Did, changeAnswer, changed, moved, changeFifo, actionOf, actionsOf}
 use Rattle.engine.specs.Held.{IsDone}

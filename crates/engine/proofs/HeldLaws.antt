@@ -9,7 +9,7 @@ use Rattle.values.specs.declared.arithmetic.Worked.{Worked}
 use Rattle.values.specs.declared.arithmetic.Worked.the-variants.{Value, Alarm}
 use Rattle.values.specs.declared.order.Order.{Order}
 use Rattle.code.specs.Reading.{Answer, good, stop, _>>=_}
-use Rattle.code.specs.declared.work.Got.{Got}
+use Rattle.working.specs.declared.work.Got.{Got}
 use Rattle.engine.specs.declared.action.Flags.{Flags}
 use Rattle.engine.specs.declared.action.Wrote.{Wrote}
 use Rattle.engine.specs.declared.action.Took.{Took}

@@ -11,8 +11,7 @@ use lib.ListN.{length, drop, getD, set, replicate, drop-of-length-le}
 use lib.Seq.{drop-cons}
 use borrow.Author.Tests.{ltb-true, ltb-false, lt-ltb, le-ltb, eq-eqb, ne-eqb}
 use Rattle.code.specs.declared.check.Line.{Line}
-use Rattle.code.specs.Token.{END, whole}
-use Rattle.code.specs.Variables.{setSize}
+use Rattle.code.specs.Token.{END, whole, setSize}
 use Rattle.code.specs.Fault.{lineAt}
 use Rattle.engine.specs.declared.set.Lines.{Lines}
 use Rattle.engine.specs.Set.{lineCount, lineOf, noLine, noLines, linesFrom, linesRead, rankIn, isLock, namesKnown, allKnown, namedLines, soundLines}

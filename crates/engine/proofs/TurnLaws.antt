@@ -9,7 +9,7 @@ use native.Mathlib.Omega.{arith}
 use lib.IntN.{ℤ}
 use lib.ListN.{getD}
 use Rattle.code.specs.Reading.{Answer, good, stop, _>>=_}
-use Rattle.code.specs.Working.{isYes, conditionValue}
+use Rattle.working.specs.Working.{isYes, conditionValue}
 use Rattle.code.specs.declared.check.Line.{Line}
 use Rattle.engine.specs.declared.action.Done.{Done}
 use Rattle.engine.specs.Set.{noLine}

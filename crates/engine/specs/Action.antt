@@ -17,10 +17,11 @@ use Rattle.values.specs.declared.order.Kind.{Kind}
 use Rattle.values.specs.declared.order.Kind.the-variants as K
 use Rattle.code.specs.Token.{END, OUT, MARKER, PARAM, R, TIMER, FIFO1, POS, FA, M, SETAL, LOCK, isVariable, isFifo, isDrive, whole}
 use Rattle.code.specs.Reading.{Answer, good, stop, _>>=_, indexAt}
-use Rattle.code.specs.Variables.{isInside, cellOf, counts, countAt, runStart, run}
+use Rattle.code.specs.Index.{isInside}
+use Rattle.working.specs.Variables.{cellOf, counts, countAt, runStart, run}
 use Rattle.code.specs.Fault.{isRemoval}
-use Rattle.code.specs.Working.{fromWorked, rightValue}
-use Rattle.code.specs.declared.work.Got.{Got}
+use Rattle.working.specs.Working.{fromWorked, rightValue}
+use Rattle.working.specs.declared.work.Got.{Got}
 use Rattle.engine.specs.Set.{maxLines, rankIn}
 
 -- the variables of a beat under way: R, the cells, which timers run

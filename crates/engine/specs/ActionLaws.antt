@@ -10,11 +10,10 @@ use lib.ListN.{getD}
 use borrow.Author.Tests.{eqb-true, eqb-false, leb-true, le-leb, ltb-true}
 use Rattle.values.specs.Value.{notAllowed, inRange, lessThan, feedOf}
 use Rattle.values.specs.Numbers.{clash}
-use Rattle.code.specs.Token.{END, EQUALS, OPEN, CLOSE, LEFT, RIGHT, IN, IM, POS, FA, MOV, M, SETAL, LOCK, UNLOCK, X, W, between, isVariable, isAxis, hasAxis, isFifo, isDrive, isCall, isWhole, whole}
+use Rattle.code.specs.Token.{END, EQUALS, OPEN, CLOSE, LEFT, RIGHT, IN, IM, POS, FA, MOV, M, SETAL, LOCK, UNLOCK, X, W, between, isVariable, isAxis, hasAxis, isFifo, isDrive, isCall, isWhole, whole, setSize}
 use Rattle.code.specs.Reading.{Answer, good, stop, _>>=_, Read, read, ends, then, isIndex, indexOf, isIndexed, indexAt, sumAt, expressionAt}
-use Rattle.code.specs.Variables.{setSize}
 use Rattle.code.specs.Fault.{outside, lower, Sight, wanting, sight, faultFor, writeFault, idFault, callFault, isRemoval, assignedAt, assignmentAt, commandAt, actionAt}
-use Rattle.code.specs.Working.{fromWorked, told, valueOver, rightValue, conditionValue}
+use Rattle.working.specs.Working.{fromWorked, told, valueOver, rightValue, conditionValue}
 use Rattle.engine.specs.Set.{maxLines, rankIn, isKnown, isLock, soundLines}
 use Rattle.engine.specs.Action.{Vars, World, Taken, Did, fromGot, changeFifo, writeTo, driveOrder, lockOf, takenAt, assignmentOf, driveOf, commandOf, actionOf}
 use Rattle.engine.specs.Cases.{either, ifNot, eitherBoth, and-left, and-right, and-true, Holds, holds-then}

@@ -16,7 +16,7 @@ use Rattle.values.specs.TimeLaws.{Timed}
 use Rattle.values.specs.Fifo.{places, Unused}
 use Rattle.values.specs.FifoLaws.{PlacesRanged}
 use Rattle.values.specs.Numbers.{clash}
-use Rattle.code.specs.Variables.{asCount}
+use Rattle.working.specs.Variables.{asCount}
 use Rattle.engine.specs.declared.state.State.{State}
 use Rattle.engine.specs.Set.{soundLines}
 use Rattle.engine.specs.State.{stateCells, powerOn}

@@ -8,9 +8,8 @@ use lib.Dec.{eqb, leb}
 use lib.ListN.{length, getD, drop}
 use borrow.Author.Tests.{eqb-true, leb-true}
 use Rattle.values.specs.Numbers.{clash}
-use Rattle.code.specs.Token.{END, EQUALS, DO, ID, IDS, WHEN, EVERY, isNumber, isKeyword, isId, isWhole}
+use Rattle.code.specs.Token.{END, EQUALS, DO, ID, IDS, WHEN, EVERY, isNumber, isKeyword, isId, isWhole, setSize}
 use Rattle.code.specs.Reading.{good, _>>=_, Read, read, ends, then, expressionAt}
-use Rattle.code.specs.Variables.{setSize}
 use Rattle.code.specs.Fault.{tooMany, lower, sight, faultFor, countFault, actionAt, actionsAt, opensTooMany, faultyLine, lineParts, bodyAt, restAt, lineAt}
 use Rattle.code.specs.declared.check.Line.{Line}
 use Rattle.engine.specs.Set.{namesKnown, soundLines}

@@ -5,8 +5,7 @@ use mathlib.Core.List.{List, [], _∷_}
 use Prim.Native.Nat.{ℕ, zero, suc, _+_}
 use lib.Dec.{eqb, leb, ltb}
 use lib.ListN.{getD, set, replicate}
-use Rattle.code.specs.Token.{END, LOCK, UNLOCK, between, whole}
-use Rattle.code.specs.Variables.{setSize}
+use Rattle.code.specs.Token.{END, LOCK, UNLOCK, between, whole, setSize}
 use Rattle.code.specs.Fault.{lineAt, faultyLine}
 use Rattle.code.specs.declared.check.Line.{Line}
 use Rattle.engine.specs.declared.set.Lines.{Lines}

@@ -10,7 +10,7 @@ use lib.ListN.{length, getD, set, replicate, length-set, getD-replicate, List·g
 use lib.Seq.{getD-set-same, getD-set-other}
 use borrow.Author.Tests.{eqb-true, ltb-true, ltb-false}
 use Rattle.values.specs.Numbers.{clash}
-use Rattle.code.specs.Variables.{setSize}
+use Rattle.code.specs.Token.{setSize}
 use Rattle.code.specs.declared.check.Line.{Line}
 use Rattle.engine.specs.declared.set.Lines.{Lines}
 use Rattle.engine.specs.Set.{maxLines, lineCount, lineOf, emptySet, noLine, noLines, linesFrom, linesRead, rankIn, namesKnown, allKnown, namedLines, soundLines}

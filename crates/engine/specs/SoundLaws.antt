@@ -16,10 +16,9 @@ use Rattle.values.specs.Time.{timer}
 use Rattle.values.specs.TimeLaws.{grown-keeps}
 use Rattle.values.specs.FifoLaws.{PlacesRanged}
 use Rattle.values.specs.Numbers.{clash}
-use Rattle.code.specs.Token.{WHEN, WHENEVER, FROM, EVERY, isKeyword}
+use Rattle.code.specs.Token.{WHEN, WHENEVER, FROM, EVERY, isKeyword, setSize}
 use Rattle.code.specs.Reading.{Answer, good, stop}
-use Rattle.code.specs.Variables.{setSize}
-use Rattle.code.specs.Working.{isYes, conditionValue}
+use Rattle.working.specs.Working.{isYes, conditionValue}
 use Rattle.engine.specs.declared.state.State.{State}
 use Rattle.engine.specs.declared.calls.Called.{Called}
 use Rattle.engine.specs.Set.{lineOf, soundLines}

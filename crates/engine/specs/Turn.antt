@@ -7,7 +7,7 @@ use lib.IntN.{ℤ}
 use lib.ListN.{getD, set}
 use Rattle.code.specs.Token.{WHEN, WHENEVER, FROM, EVERY}
 use Rattle.code.specs.Reading.{Answer, good, stop, _>>=_}
-use Rattle.code.specs.Working.{isYes, conditionValue}
+use Rattle.working.specs.Working.{isYes, conditionValue}
 use Rattle.code.specs.declared.check.Line.{Line}
 use Rattle.engine.specs.Set.{noLine}
 use Rattle.engine.specs.Action.{World, Note, fromGot, actionsOf}

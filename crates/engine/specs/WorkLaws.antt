@@ -19,9 +19,10 @@ use Rattle.values.specs.declared.fifo.Seen.{Seen}
 use Rattle.values.specs.declared.fifo.Seen.the-variants as S
 use Rattle.code.specs.Token.{MINUS, PLUS, TIMES, OVER, MARKER, PARAM, R, TIMER, FIFO1, FIFO4, isLogic, isFifo, thousandths}
 use Rattle.code.specs.Reading.{Answer, good}
-use Rattle.code.specs.Variables.{lastIndex, isInside, cellOf, run, countAt, fromSeen, fifoValue, fifoAt, variableValue}
+use Rattle.code.specs.Index.{lastIndex, isInside}
+use Rattle.working.specs.Variables.{cellOf, run, countAt, fromSeen, fifoValue, fifoAt, variableValue}
 use Rattle.code.specs.Fault.{outside, readOnly, lower, unless, wanting, Sight, numberFault, readFault, joinSights, sight}
-use Rattle.code.specs.Working.{fromWorked, yesNo, isYes, joinTruths, joinValues, valueOver}
+use Rattle.working.specs.Working.{fromWorked, yesNo, isYes, joinTruths, joinValues, valueOver}
 use Rattle.engine.specs.Action.{alarmOf}
 use Rattle.engine.specs.Cases.{either, ifNot, either-cond, and-left, Not22}
 use Rattle.engine.specs.CellLaws.{run-ranged}

@@ -23,9 +23,10 @@ use Rattle.values.specs.declared.fifo.Moved.{Moved}
 use Rattle.values.specs.declared.fifo.Moved.the-variants as M
 use Rattle.code.specs.Token.{OUT, MARKER, PARAM, R, TIMER, FIFO1, isFifo}
 use Rattle.code.specs.Reading.{good, _>>=_}
-use Rattle.code.specs.Variables.{runStart, firstIndex, lastIndex, isInside, cellOf, cellCount, counts, countAt, run, asCount}
+use Rattle.code.specs.Index.{firstIndex, lastIndex, isInside}
+use Rattle.working.specs.Variables.{runStart, cellOf, cellCount, counts, countAt, run, asCount}
 use Rattle.code.specs.Fault.{outside, readOnly, lower, unless, isWritable, writeFault}
-use Rattle.code.specs.Working.{fromWorked}
+use Rattle.working.specs.Working.{fromWorked}
 use Rattle.engine.specs.State.{inputCount, stateCells}
 use Rattle.engine.specs.Sound.{isCell, isOutput}
 use Rattle.engine.specs.Action.{Vars, Changed, Celled, withRunAt, moved, writeTimer, changeAnswer, changed, changeFifo, writeFifo, writeCell, writeInside, writeTo}

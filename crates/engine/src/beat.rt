@@ -29,10 +29,10 @@ use code::token::FROM;
 use code::token::SIZE;
 use code::token::WHEN;
 use code::token::WHENEVER;
-use code::variables::CELLS;
-use code::variables::RS;
-use code::work::condition;
 use values::arithmetic::is_equal;
+use working::variables::CELLS;
+use working::variables::RS;
+use working::work::condition;
 
 pub const UNSOUND: u8 = 22;
 

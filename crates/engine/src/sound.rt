@@ -11,9 +11,6 @@ use crate::state::STATE_CELLS;
 use crate::state::State;
 use crate::state::TIMER_AT;
 use code::token::SIZE;
-use code::variables::RS;
-use code::variables::RUNS;
-use code::variables::count_of;
 use values::arithmetic::Worked;
 use values::arithmetic::in_range;
 use values::arithmetic::is_equal;
@@ -21,6 +18,9 @@ use values::arithmetic::is_less;
 use values::arithmetic::output;
 use values::arithmetic::whole_units;
 use values::fifo::PLACES;
+use working::variables::RS;
+use working::variables::RUNS;
+use working::variables::count_of;
 
 const PARAM_AT: usize = 48;
 

@@ -9,12 +9,12 @@ ghost use lib.ListN.{length, take, drop};
 ghost use Rattle.values.specs.Value.{unit};
 ghost use Rattle.engine.specs.State.{powerOn, grownCells, inputCells, beatCells};
 use crate::set::LINES;
-use code::variables::CELLS;
-use code::variables::RS;
 use values::arithmetic::UNIT;
 use values::time::Millis;
 use values::time::Timer;
 use values::time::grown;
+use working::variables::CELLS;
+use working::variables::RS;
 
 // The cells of a state: outputs 0..15, markers 16..47, parameters 48..79, timers 80..87, counts of the FIFOs 88..91. In a beat the input cells stand
 // before them: inputs, analogues, positions.

@@ -1,7 +1,7 @@
 -- The answer of a working as one number: a value is itself, an alarm k is -2^40 - k, below every value. Definitions only.
 use mathlib.Core.Bool.{true, false}
 use lib.IntN.{ℤ, negsuc, _-ℤ_}
-use Rattle.code.specs.declared.work.Got.{Got}
+use Rattle.working.specs.declared.work.Got.{Got}
 
 -- -2^40
 abbrev pub alarms : ℤ

@@ -1,15 +1,15 @@
-// Calls of the control for programs in Rust or C. Each is a thin shell over a proved call, asks nothing of its caller but arrays of the
-// right length, and begins with the name of its crate.
+// Calls of the control for programs in Rust or C. Each is a thin shell over a proved call and asks nothing of its caller but arrays of the
+// right length. What begins with `code_` is lent a set's tokens.
 ghost use mathlib.Core.Path.{_≡_};
-ghost use Rattle.code.specs.Working.{conditionValue, rightValue};
+ghost use Rattle.working.specs.Working.{conditionValue, rightValue};
 ghost use Rattle.code.specs.Fault.{lineAt};
 ghost use Rattle.exports.specs.Packed.{packed};
 use code::check;
 use code::token::SIZE;
-use code::variables::CELLS;
-use code::variables::RS;
-use code::work;
-use code::work::Got;
+use working::variables::CELLS;
+use working::variables::RS;
+use working::work;
+use working::work::Got;
 
 // An alarm k is -2^40 - k, below every value.
 const ALARMS: i64 = -1099511627776;

@@ -6,7 +6,7 @@ use reference::random::Random;
 use reference::state::State;
 use reference::value::{Value, TOP, UNIT};
 
-/// The first cell of each sort of variable: crates/code/specs/Variables.
+/// The first cell of each sort of variable: crates/working/specs/Variables.
 const INA: usize = 16;
 const OUT: usize = 30;
 const MARKER: usize = 46;

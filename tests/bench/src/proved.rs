@@ -1,6 +1,6 @@
 //! The proved calls of the crate `exports`. They ask nothing of their caller; the array types give the lengths.
 
-/// Places of a set, of R, and of the cells of all other variables: crates/code/specs/Variables.
+/// Places of a set (crates/code/specs/Token), of R, and of the cells of all other variables (crates/working/specs/Variables).
 pub const SIZE: usize = 4130;
 pub const RS: usize = 164;
 pub const CELLS: usize = 122;

@@ -1,5 +1,5 @@
 -- `check::code_fault` meets its contract: each return by the tests that led to it.
-use borrow.Author.Tests.{le-leb, lt-leb, eq-eqb, ne-eqb}
+use borrow.Author.Tests.{le-leb, lt-leb}
 use mathlib.Core.Path.{sym}
 use native.Mathlib.Omega.{arith}
 use mathlib.Core.Bool.{_||_}
@@ -16,6 +16,5 @@ code-fault-spec =
     tie.close
     (tie.spec
     (λ c. sym (simp (codeFault, lt-leb _ _ (c .if1 .taken)) (outside-first (eqb (c .before .args .keyword) WHEN || eqb (c .before .args .keyword) EVERY) 9 (omega arith))))
-    (λ c. simp (codeFault, le-leb _ _ (c .before .if1 .left), eq-eqb _ _ (c .if2 .taken), none-first))
-    (λ c. simp (codeFault, le-leb _ _ (c .before .before .if1 .left), ne-eqb _ _ (c .before .if2 .left), eq-eqb _ _ (c .if3 .taken), none-first))
-    (λ c. simp (codeFault, le-leb _ _ (c .before .before .if1 .left), ne-eqb _ _ (c .before .if2 .left), ne-eqb _ _ (c .if3 .left), none-first)))
+    (λ c. simp (codeFault, le-leb _ _ (c .before .if1 .left), c .if2 .taken, none-first))
+    (λ c. simp (codeFault, le-leb _ _ (c .before .if1 .left), c .if2 .left, none-first)))

@@ -1,6 +1,5 @@
--- `token::is_row` meets its contract: each return by the tests that led to it.
+-- `token::is_row` meets its contract: each return by the test that led to it.
 use borrow.Author.Needs.{needs}
-use borrow.Author.Tests.{not-true, not-false}
 use mathlib.Core.Path.{sym, _∙_}
 use Rattle.code.proofs.token.is_row.Statement.{statement}
 use Rattle.code.proofs.token.is_row.Tie as tie
@@ -10,5 +9,5 @@ is-row-spec =
     tie.close
     (tie.spec
     (λ c κs. search needs)
-    (λ c. rw (sym (c .before .is-logic .ensures) ∙ not-true _ (c .if1 .taken)))
-    (λ c. rw (sym (c .before .is-logic .ensures) ∙ not-false _ (c .if1 .left))))
+    (λ c. rw (sym (c .before .is-logic .ensures) ∙ c .if1 .taken))
+    (λ c. rw (sym (c .before .is-logic .ensures) ∙ c .if1 .left)))

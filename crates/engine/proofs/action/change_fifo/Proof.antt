@@ -8,7 +8,7 @@ use mir.ValLaws.{toZ-pos}
 use Rattle.values.specs.declared.arithmetic.Worked.the-variants.{Value}
 use Rattle.values.proofs.Signed.{back}
 use Rattle.code.specs.Token.{FIFO1, FIFO4}
-use Rattle.code.specs.Variables.{run}
+use Rattle.working.specs.Variables.{run}
 use Rattle.code.proofs.Between.{inside}
 use Rattle.engine.specs.Action.{changed, moved, changeFifo}
 use Rattle.engine.proofs.ActionLaws.{fifo-changes}

@@ -11,7 +11,7 @@ use mir.Syntax.{w32}
 use Rattle.values.specs.declared.order.Order.{Order}
 use Rattle.values.proofs.Signed.{back}
 use Rattle.code.specs.Reading.{Answer, good, indexAt}
-use Rattle.code.specs.Working.{rightValue}
+use Rattle.working.specs.Working.{rightValue}
 use Rattle.engine.specs.Action.{fromGot, driveOrder, driveOf}
 use Rattle.engine.specs.Held.{IsOrder}
 use Rattle.engine.proofs.HeldLaws.{worked-good, worked-stop, order-good, order-stop, same-flags}

@@ -10,7 +10,7 @@ use mir.Syntax.{w32}
 use Rattle.values.proofs.Signed.{back}
 use Rattle.code.specs.Fault.{isRemoval}
 use Rattle.code.specs.Reading.{Answer}
-use Rattle.code.specs.Working.{rightValue}
+use Rattle.working.specs.Working.{rightValue}
 use Rattle.engine.specs.Action.{Changed, fromGot, changeFifo, takenAt}
 use Rattle.engine.specs.Held.{IsChanged}
 use Rattle.engine.proofs.HeldLaws.{worked-taken, changed-good, changed-stop}

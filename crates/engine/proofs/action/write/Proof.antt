@@ -7,8 +7,8 @@ use native.Mathlib.Omega.{arith}
 use denote.Ref.{now}
 use mir.Syntax.{w32}
 use Rattle.values.proofs.Signed.{back}
-use Rattle.code.specs.Variables.{isInside}
-use Rattle.code.proofs.Cells.{last-inside}
+use Rattle.code.specs.Index.{isInside}
+use Rattle.code.proofs.Indices.{last-inside}
 use Rattle.engine.specs.Action.{writeCell, writeInside, writeTo}
 use Rattle.engine.proofs.HeldLaws.{celled-written}
 use Rattle.engine.proofs.action.write.Statement.{statement}

@@ -7,7 +7,8 @@ use native.Mathlib.Omega.{arith}
 use mir.Syntax.{w32}
 use Rattle.values.specs.Value.{wholeUnits, outputOf}
 use Rattle.values.proofs.Signed.{back}
-use Rattle.code.proofs.Cells.{last-inside, cell-inside}
+use Rattle.code.proofs.Indices.{last-inside}
+use Rattle.working.proofs.Cells.{cell-inside}
 use Rattle.engine.specs.Action.{writeCell}
 use Rattle.engine.proofs.action.write_cell.Statement.{statement}
 use Rattle.engine.proofs.action.write_cell.Tie as tie

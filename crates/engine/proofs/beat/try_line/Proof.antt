@@ -12,7 +12,7 @@ use mir.Syntax.{w32}
 use Rattle.values.specs.Value.{equalTo}
 use Rattle.values.proofs.Signed.{back}
 use Rattle.code.specs.Reading.{good, stop}
-use Rattle.code.specs.Working.{isYes, conditionValue}
+use Rattle.working.specs.Working.{isYes, conditionValue}
 use Rattle.engine.specs.Action.{World, alarmOf, fromGot}
 use Rattle.engine.specs.Turn.{worked, tries, acts, remembers}
 use Rattle.engine.specs.Held.{worldOf}

@@ -8,8 +8,8 @@ use lib.Dec.{leb}
 use lib.IntN.{ℤ, pos}
 use mir.Syntax.{w32}
 use Rattle.values.proofs.Signed.{back}
-use Rattle.code.proofs.Told.{both}
-use Rattle.code.specs.Variables.{asCount}
+use Rattle.working.proofs.Told.{both}
+use Rattle.working.specs.Variables.{asCount}
 use Rattle.values.specs.Value.{inRange, lessThan, equalTo, wholeUnits}
 use Rattle.engine.specs.Sound.{isOutput, isCell}
 use Rattle.engine.proofs.sound.is_cell.Statement.{statement}

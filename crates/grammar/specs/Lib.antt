@@ -1,0 +1,14 @@
+-- The grammar of a line. Tree, Meaning and TreeFault are the definitions; that writing and reading agree is shown in Agreement.. and LineTokens; the files named ..Laws hold what
+-- these need; Table computes worked lines of the documents.
+pub mod Tree
+pub mod Meaning
+pub mod TreeFault
+pub mod AgreementLaws
+pub mod Agreement
+pub mod AgreementRead
+pub mod TreeFaultLaws
+pub mod AgreementFault
+pub mod LineTokens
+pub mod AgreementEnds
+pub mod AgreementLine
+pub mod Table

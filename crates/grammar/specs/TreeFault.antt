@@ -1,0 +1,108 @@
+-- Faults 6 to 10 of a line as a tree, and what the check tells of a line that is written as it (document 01, "Lines of text" and "Codes"). Definitions only.
+use mathlib.Core.Path.{_≡_}
+use mathlib.Core.Logic.{_⊎_}
+use mathlib.Core.Bool.{Bool, true, false, cond, _&&_}
+use mathlib.Core.List.{List, [], _∷_}
+use Prim.Native.Nat.{ℕ, suc, _+_, _-_, _≤_}
+use lib.Dec.{eqb}
+use lib.ListN.{length}
+use Rattle.code.specs.declared.check.Line.{Line as Told}
+use Rattle.code.specs.Token.{IDS, IM, isFifo, axisOf}
+use Rattle.grammar.specs.Tree.{Operand, number, variable, position, truth, bracket, minus, not, product, Factors, noFactor, factor, Sum, sum, Terms, noTerm, term, Action, assign, assignPosition, drive, code, call, Condition, always, under, Line, line, conditionTokens, lineTokens}
+use Rattle.code.specs.Reading.{Answer, good, stop}
+use Rattle.grammar.specs.Meaning.{sumMeaning, expressionMeaning}
+use Rattle.code.specs.Fault.{confused, tooMany, lower, Sight, wanting, sight, writeFault, codeFault, idFault, callFault, countFault, faultyLine}
+
+-- ---- 6 to 8 in an expression
+
+-- where a yes/no (true) or a number (false) is wanted
+abbrev pub wantedFault : Bool → Answer Sight → ℕ
+wantedFault t (good a) = lower (wanting t a) (a .fault)
+wantedFault t (stop k) = k
+
+-- a right side: a number is wanted
+unfoldable pub rightFault : Sum → ℕ
+rightFault a = wantedFault false (sumMeaning sight a)
+
+-- ---- 6 to 9 in an action
+
+-- FIFO [0]
+abbrev pub isFifoZero : Operand → Bool
+isFifoZero (number n) = false
+isFifoZero (variable w v i) = isFifo w && eqb i 0
+isFifoZero (position x v) = false
+isFifoZero (truth b) = false
+isFifoZero (bracket e) = false
+isFifoZero (minus a) = false
+isFifoZero (not a) = false
+
+-- no operator follows
+abbrev pub isAlone : Factors → Terms → Bool
+isAlone noFactor noTerm = true
+isAlone noFactor (term o v a r) = false
+isAlone (factor o v a r) t = false
+
+-- FIFO [0] as a whole, unbracketed right side
+unfoldable pub isRemovalTree : Sum → Bool
+isRemovalTree (sum (product a r) t) = isFifoZero a && isAlone r t
+
+-- the right side of an assignment to a variable
+unfoldable pub assignedFault : Sum → ℕ
+assignedFault a = cond (isRemovalTree a) 0 (rightFault a)
+
+-- an action of a line with the keyword kw
+unfoldable pub actionFault : ℕ → Action → ℕ
+actionFault kw (assign w v i a) = lower (writeFault w i) (assignedFault a)
+actionFault kw (assignPosition x v a) = lower (writeFault IM (axisOf x)) (assignedFault a)
+actionFault kw (drive w v x u a) = rightFault a
+actionFault kw (code n) = codeFault kw n
+actionFault kw (call w v n) = callFault w n
+
+-- one or more actions
+unfoldable pub actionsFault : ℕ → Action → List Action → ℕ
+actionsFault kw a [] = actionFault kw a
+actionsFault kw a (b ∷ r) = lower (actionFault kw a) (actionsFault kw b r)
+
+-- ---- 6 to 10 in a line
+
+-- the keyword's token, or 0
+abbrev pub keywordOf : Condition → ℕ
+keywordOf always = 0
+keywordOf (under w v e) = w
+
+-- a condition: a yes/no is wanted
+abbrev pub conditionFault : Condition → ℕ
+conditionFault always = 0
+conditionFault (under w v e) = wantedFault true (expressionMeaning sight e)
+
+-- the lowest fault of a line's number, condition and actions, and of more than eight actions
+unfoldable pub lineFault : Line → ℕ
+lineFault (line w v n c a r) =
+    lower (lower (idFault n) (conditionFault c)) (lower (actionsFault (keywordOf c) a r) (countFault (suc (length r))))
+
+-- what such a fault is: 0 for none, or one of 6 to 10
+abbrev pub Proper : ℕ → Type 0
+Proper n = (n ≡ 0) ⊎ ((confused ≤ n) × (n ≤ tooMany))
+
+-- ---- what the check tells
+
+-- where the condition lies of a line that is written from p on; 0 if it has none
+abbrev pub conditionPlace : ℕ → Condition → ℕ
+conditionPlace p always = 0
+conditionPlace p (under w v e) = p + 4
+
+-- the parts of a line without a fault that is written from p on
+unfoldable pub partsFrom : ℕ → Line → Told
+partsFrom p (line w v n c a r) = record {
+  fault = 0;
+  number = n;
+  ids = eqb w IDS;
+  keyword = keywordOf c;
+  condition = conditionPlace p c;
+  actions = p + (length (conditionTokens c) + 4);
+  end = p + (length (lineTokens (line w v n c a r)) - 1);
+}
+
+-- its lowest fault, or its parts
+unfoldable pub toldFrom : ℕ → Line → Told
+toldFrom p l = elim (eqb (lineFault l) 0) [ true ↦ partsFrom p l | false ↦ faultyLine (lineFault l) ]
