@@ -13,8 +13,8 @@ use lib.ListN.{getD}
 use Rattle.code.specs.Reading.{Answer, good, stop, _>>=_}
 use Rattle.working.specs.Working.{isYes, conditionValue}
 use Rattle.code.specs.declared.check.Line.{Line}
-use Rattle.engine.specs.declared.set.Lines.{Lines}
-use Rattle.engine.specs.Set.{noLine}
+use Rattle.state.specs.declared.set.Lines.{Lines}
+use Rattle.state.specs.Set.{noLine}
 use Rattle.engine.specs.Action.{World, Note, fromGot, actionsOf}
 use Rattle.engine.specs.Turn.{Entry, worked, locks, lockEntry, Turned, counted, doTurn}
 use Rattle.demands.specs.Record.{Record, after, only, orElse, isAutomatic, wasTrue, everTrue, takesByRule, triesByRule, actsByRule}

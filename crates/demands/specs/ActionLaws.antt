@@ -10,7 +10,7 @@ use lib.ListN.{getD, set}
 use Rattle.code.specs.Token.{END, M, SETAL, LOCK, isVariable, isDrive, whole}
 use Rattle.code.specs.Reading.{Answer, good, stop, _>>=_, indexAt}
 use Rattle.working.specs.Working.{rightValue}
-use Rattle.engine.specs.Set.{maxLines, rankIn}
+use Rattle.state.specs.Set.{maxLines, rankIn}
 use Rattle.engine.specs.Action.{World, Note, Did, fromGot, driveOrder, takenAt, writeTo, assignmentOf, lockOf, commandOf, driveOf, actionOf, actionsOf}
 use Rattle.demands.specs.FlagLaws.{below}
 

@@ -13,13 +13,14 @@ use Rattle.code.specs.Index.{isInside}
 use Rattle.working.specs.Variables.{cellOf, variableValue}
 use Rattle.code.specs.Fault.{lower, opensTooMany, wantingFault, numberFault, readFault, joinSights, sight, isWritable, writeFault, codeFault, idFault, callFault, countFault, numberOf, isRemoval, assignedAt, assignmentAt, commandAt, actionAt, actionsAt, lineParts, bodyAt, restAt, lineAt}
 use Rattle.working.specs.Working.{joinTruths, joinValues, valueOver, conditionValue, rightValue}
-use Rattle.engine.specs.Set.{linesFrom, linesRead, rankIn, namesKnown, allKnown, namedLines, soundLines}
-use Rattle.engine.specs.State.{powerOn, grownCells, inputCells, beatCells}
-use Rattle.engine.specs.Sound.{allRanged, isCell, areCells, allZero, isFifoSound, isFlag, areFlags, stateSound, isSound}
+use Rattle.state.specs.Set.{linesFrom, linesRead, rankIn, namesKnown, allKnown, namedLines, soundLines}
+use Rattle.state.specs.State.{powerOn}
+use Rattle.engine.specs.Cells.{grownCells, inputCells, beatCells}
+use Rattle.state.specs.Sound.{allRanged, isCell, areCells, allZero, isFifoSound, isFlag, areFlags, stateSound, isSound}
 use Rattle.engine.specs.Action.{writeCell, writeInside, writeTo, lockOf, takenAt, assignmentOf, commandOf, actionOf, actionsOf}
 use Rattle.engine.specs.Turn.{tries, acts, remembers, takesTurn, doTurn, tryTurn, turnOf, turnsFrom}
 use Rattle.engine.specs.Beat.{areInputs, begun, ended, beatOf, beatAnswer, beatBuffer}
-use Rattle.engine.specs.Calls.{foundAt, found, called, lockedCall, lockCall, unlockCall, cancelCall, resetCancelled, zeroed, resetState, resetCall}
+use Rattle.state.specs.Calls.{foundAt, found, called, lockedCall, lockCall, unlockCall, cancelCall, resetCancelled, zeroed, resetState, resetCall}
 use Rattle.demands.specs.Run.{Call, doBeat, doLock, doUnlock, doCancel, doReset, run, step, runFrom}
 
 abbrev n : ℕ → ℕ

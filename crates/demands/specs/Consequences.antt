@@ -13,16 +13,16 @@ use Rattle.code.specs.Token.{WHEN, EVERY}
 use Rattle.code.specs.Reading.{Answer, good, stop, _>>=_}
 use Rattle.working.specs.Working.{isYes, conditionValue}
 use Rattle.code.specs.declared.check.Line.{Line}
-use Rattle.engine.specs.declared.set.Lines.{Lines}
-use Rattle.engine.specs.declared.state.State.{State}
-use Rattle.engine.specs.declared.calls.Found.{Found}
-use Rattle.engine.specs.declared.calls.Called.{Called}
-use Rattle.engine.specs.Set.{noLine, soundLines}
-use Rattle.engine.specs.Sound.{isSound}
+use Rattle.state.specs.declared.set.Lines.{Lines}
+use Rattle.state.specs.declared.state.State.{State}
+use Rattle.state.specs.declared.calls.Found.{Found}
+use Rattle.state.specs.declared.calls.Called.{Called}
+use Rattle.state.specs.Set.{noLine, soundLines}
+use Rattle.state.specs.Sound.{isSound}
 use Rattle.engine.specs.Action.{Vars, World, Note, Did, fromGot, actionsOf}
 use Rattle.engine.specs.Turn.{Entry, beatIn, worked, locks, cancels, resets, Turned, counted, doTurn, turnsFrom}
 use Rattle.engine.specs.Beat.{bufferSize, areInputs, begun, beatOf, answered, beatAnswer}
-use Rattle.engine.specs.Calls.{withLocked, found, called, lockedCall, lockCall, unlockCall}
+use Rattle.state.specs.Calls.{withLocked, found, called, lockedCall, lockCall, unlockCall}
 use Rattle.demands.specs.Record.{Record, after, isAutomatic, everTrue, wasTrue, takesByRule, triesByRule, actsByRule}
 use Rattle.demands.specs.Run.{Call, doBeat, doLock, doUnlock, doCancel, doReset, Now, coded, noted, rankOf, codeByRule, cleared, run, stateBy, begunBy, byRank, cancelledBy, tryByRule, turnByRule, turnsByRule, beatByRule, stepByRule, resetByRule, runByRuleFrom, runByRule, beatenByRule}
 use Rattle.demands.specs.Acts.{isActed, conditionNow, triesNow, actsNow, actedSince}

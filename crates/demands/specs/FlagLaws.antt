@@ -10,10 +10,10 @@ use lib.ListN.{length, getD, set, replicate, length-set, length-replicate, getD-
 use lib.Seq.{getD-set-same, getD-set-other, ext-getD}
 use Rattle.code.specs.Token.{WHEN, FROM, EVERY}
 use Rattle.code.specs.declared.check.Line.{Line}
-use Rattle.engine.specs.declared.set.Lines.{Lines}
-use Rattle.engine.specs.Set.{maxLines, noLine, noLines, lineCount, lineOf, linesFrom, linesRead, allKnown, namedLines, soundLines}
+use Rattle.state.specs.declared.set.Lines.{Lines}
+use Rattle.state.specs.Set.{maxLines, noLine, noLines, lineCount, lineOf, linesFrom, linesRead, allKnown, namedLines, soundLines}
 use Rattle.engine.specs.Turn.{worked, locks, cancels, resets, remembers}
-use Rattle.engine.specs.Calls.{resetCancelled}
+use Rattle.state.specs.Calls.{resetCancelled}
 use Rattle.demands.specs.Record.{Record, only, orElse, isCancelled, isLocked, wasTrue, everTrue}
 use Rattle.demands.specs.Run.{ranks, byRank, cancelledBy, lockedBy, remembersBy, memoryBy}
 

@@ -8,14 +8,14 @@ use lib.Dec.{eqb}
 use lib.IntN.{ℤ}
 use lib.ListN.{length}
 use Rattle.code.specs.Reading.{Answer, good, stop}
-use Rattle.engine.specs.declared.state.State.{State}
-use Rattle.engine.specs.declared.calls.Called.{Called}
-use Rattle.engine.specs.declared.calls.Found.{Found}
-use Rattle.engine.specs.Set.{soundLines}
-use Rattle.engine.specs.Sound.{isSound}
+use Rattle.state.specs.declared.state.State.{State}
+use Rattle.state.specs.declared.calls.Called.{Called}
+use Rattle.state.specs.declared.calls.Found.{Found}
+use Rattle.state.specs.Set.{soundLines}
+use Rattle.state.specs.Sound.{unsoundCode, isSound}
 use Rattle.engine.specs.Turn.{Entry, Turned}
-use Rattle.engine.specs.Beat.{unsoundCode, beatOf, answered, buffered, beatAnswer, beatBuffer}
-use Rattle.engine.specs.Calls.{withLocked, withCancelled, found, called, lockedCall, lockCall, unlockCall, cancelCall, resetState, resetCall}
+use Rattle.engine.specs.Beat.{beatOf, answered, buffered, beatAnswer, beatBuffer}
+use Rattle.state.specs.Calls.{withLocked, withCancelled, found, called, lockedCall, lockCall, unlockCall, cancelCall, resetState, resetCall}
 use Rattle.demands.specs.Run.{Call, doBeat, doLock, doUnlock, doCancel, doReset, Now, entriesOf, noted, step}
 use Rattle.demands.specs.FlagLaws.{equal-ranks}
 

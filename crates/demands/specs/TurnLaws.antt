@@ -10,8 +10,8 @@ use Rattle.code.specs.Token.{WHEN, WHENEVER, FROM, EVERY}
 use Rattle.code.specs.Reading.{Answer, good, stop, _>>=_}
 use Rattle.working.specs.Working.{isYes, conditionValue}
 use Rattle.code.specs.declared.check.Line.{Line}
-use Rattle.engine.specs.declared.set.Lines.{Lines}
-use Rattle.engine.specs.Set.{noLine}
+use Rattle.state.specs.declared.set.Lines.{Lines}
+use Rattle.state.specs.Set.{noLine}
 use Rattle.engine.specs.Action.{World, Note, Did, fromGot, actionsOf}
 use Rattle.engine.specs.Turn.{Entry, worked, locks, lockEntry, Turned, counted, tries, acts, takesTurn, doTurn, tryTurn, turnOf, turnsFrom}
 use Rattle.demands.specs.Record.{Record, after, isAutomatic, isCancelled, isLocked, wasTrue, everTrue, takesByRule, triesByRule, actsByRule}

@@ -25,8 +25,8 @@ use Rattle.engine.specs.declared.action.Done.{Done}
 use Rattle.engine.specs.Action.{World, Did, changeAnswer, changed, moved, changeFifo, actionOf, actionsOf}
 use Rattle.engine.specs.Held.{IsDone}
 
--- a number that is not below 0 and not above 255 is a byte
-pub byte : (z : ℤ) → ltZ z (pos 0) ≡ false → ltZ (pos 255) z ≡ false → T (nonNeg z) × Fits w8 (natAbs z)
+-- a number that is not below 1 and not above 255 is a byte
+pub byte : (z : ℤ) → ltZ z (pos 1) ≡ false → ltZ (pos 255) z ≡ false → T (nonNeg z) × Fits w8 (natAbs z)
 byte (pos n) h k = (tt, omega (arith, ltb-false 255 n k))
 byte (negsuc n) h k = absurd (let q : _≡_ {A = ℕ} 0 1 = cc in omega arith)
 

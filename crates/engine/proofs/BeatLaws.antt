@@ -1,5 +1,5 @@
 -- Laws of a beat: what it comes to by its checks, and what it answers.
-use mathlib.Core.Path.{_≡_, sym, ap, _∙_}
+use mathlib.Core.Path.{_≡_, refl, sym, ap, _∙_}
 use mathlib.Core.Bool.{Bool, true, false}
 use mathlib.Core.List.{List, _∷_, _++_}
 use Prim.Native.Nat.{ℕ, _*_, _/_, _<_, _≤_}
@@ -10,11 +10,11 @@ use lib.ListN.{length, take, drop}
 use Rattle.code.specs.Reading.{Answer, good, stop, _>>=_}
 use Rattle.engine.specs.declared.action.Flags.{Flags}
 use Rattle.engine.specs.declared.beat.Beaten.{Beaten}
-use Rattle.engine.specs.declared.state.State.{State}
-use Rattle.engine.specs.Set.{soundLines}
-use Rattle.engine.specs.Sound.{stateSound, isSound}
+use Rattle.state.specs.declared.state.State.{State}
+use Rattle.state.specs.Set.{soundLines}
+use Rattle.state.specs.Sound.{unsoundCode, stateSound, isSound}
 use Rattle.engine.specs.Turn.{Entry, beatIn, Turned, turnsFrom}
-use Rattle.engine.specs.Beat.{unsoundCode, shortBuffer, wrongNumbers, bufferSize, areInputs, begun, ended, beatOf, answered, buffered, beatAnswer, beatBuffer}
+use Rattle.engine.specs.Beat.{shortBuffer, wrongNumbers, bufferSize, areInputs, begun, ended, beatOf, answered, buffered}
 use Rattle.engine.specs.Held.{worldOf}
 use Rattle.engine.proofs.ActionLaws.{first-true}
 
@@ -55,29 +55,30 @@ module _ (s : List ℕ) (st : State) (automatic : Bool) (word : ℕ) (lent : Lis
           unfolding beatOf
           turns-beat = simp (beatOf, sound, le-ltb size bufferSize l, i)
 
-          pub turns-stopped : {k : ℕ} → turnsOf ≡ stop k → beatOf s st automatic word lent size ≡ stop k
-          turns-stopped t = turns-beat ∙ ap (λ (y : Answer Turned). y >>= λ t. good (record { world = t .world; entries = beatIn automatic ∷ t .entries })) t
+          -- what the turns came to is what the beat comes to, but for what is written down
+          pub turns-told : (b : List ℕ) {x : Beaten} {o : List ℕ} → x ≡ answered st turnsOf → o ≡ buffered b turnsOf → (x ≡ answered st (beatOf s st automatic word lent size)) × (o ≡ buffered b (beatOf s st automatic word lent size))
+          turns-told b p q = rw turns-beat (p ∙ go turnsOf .0, q ∙ go turnsOf .1)
+            where
+              go : (y : Answer Turned) → let z : Answer Turned = y >>= λ t. good (record { world = t .world; entries = beatIn automatic ∷ t .entries }) in (answered st y ≡ answered st z) × (buffered b y ≡ buffered b z)
+              go (good t) = (refl, refl)
+              go (stop k) = (refl, refl)
 
-          pub turns-done : {t : Turned} → turnsOf ≡ good t → beatOf s st automatic word lent size ≡ good (record { world = t .world; entries = beatIn automatic ∷ t .entries })
-          turns-done t = turns-beat ∙ ap (λ (y : Answer Turned). y >>= λ t. good (record { world = t .world; entries = beatIn automatic ∷ t .entries })) t
-
-module _ (s : List ℕ) (st : State) (automatic : Bool) (word : ℕ) (lent : List ℤ) (b : List ℕ) where
-  pub refuses : {x : Beaten} {k : ℕ} → x ≡ record { code = k; orders = 0; acted = 0; state = st } → beatOf s st automatic word lent (length b) ≡ stop k → (x ≡ beatAnswer s st automatic word lent b) × (b ≡ beatBuffer s st automatic word lent b)
-  unfolding beatAnswer beatBuffer
+-- what a beat that comes to y answers
+module _ (st : State) (b : List ℕ) (y : Answer Turned) where
+  pub refuses : {x : Beaten} {k : ℕ} → x ≡ record { code = k; orders = 0; acted = 0; state = st } → y ≡ stop k → (x ≡ answered st y) × (b ≡ buffered b y)
   refuses x e = (x ∙ ap (answered st) (sym e), ap (buffered b) (sym e))
 
   -- the first 8 bytes for each order are those of the orders
-  module _ (r c : List ℤ) (out : List ℕ) (f : Flags) (es : List Entry) (e : beatOf s st automatic word lent (length b) ≡ good (record { world = worldOf r c out f; entries = es })) (l : length (take (f .count * 8) out) ≡ f .count * 8) where
+  module _ (r c : List ℤ) (out : List ℕ) (f : Flags) (es : List Entry) (e : y ≡ good (record { world = worldOf r c out f; entries = es })) (l : length (take (f .count * 8) out) ≡ f .count * 8) where
     bytes : f .count * 8 ≡ 8 * f .count
     bytes = omega arith
 
     written : length (take (8 * f .count) out) ≡ 8 * f .count
     written = rw bytes at l
 
-    pub answers : {kept : List ℤ} → kept ≡ drop 30 c → _≡_ {A = Beaten} (record { code = 0; orders = f .count; acted = f .acted; state = record { r = r; cells = kept; runs = f .runs; locked = f .locked; cancelled = st .cancelled; memory = f .memory } }) (beatAnswer s st automatic word lent b)
-    unfolding beatAnswer ended
-    answers k = let m : 8 * f .count / 8 ≡ f .count = omega arith in rw (e, written, m, k)
+    pub answers : {x : Beaten} {next : State} {kept : List ℤ} → x ≡ record { code = 0; orders = f .count; acted = f .acted; state = next } → next ≡ record { r = r; cells = kept; runs = f .runs; locked = f .locked; cancelled = st .cancelled; memory = f .memory } → kept ≡ drop 30 c → x ≡ answered st y
+    unfolding ended
+    answers p n k = let m : 8 * f .count / 8 ≡ f .count = omega arith in p ∙ rw (n, e, written, m, k)
 
-    pub writes : {o : List ℕ} → o ≡ take (f .count * 8) out ++ drop (f .count * 8) b → o ≡ beatBuffer s st automatic word lent b
-    unfolding beatBuffer
+    pub writes : {o : List ℕ} → o ≡ take (f .count * 8) out ++ drop (f .count * 8) b → o ≡ buffered b y
     writes o = o ∙ rw (e, written, bytes)

@@ -14,7 +14,7 @@ use Rattle.values.specs.Value.{unit}
 use Rattle.values.specs.Time.{timer, grownTimer}
 use Rattle.values.specs.declared.time.Timer.{Timer}
 use Rattle.values.proofs.Lists.{put}
-use Rattle.engine.specs.State.{grownCells, inputCell, inputCells}
+use Rattle.engine.specs.Cells.{grownCells, inputCell, inputCells}
 
 -- ---- timers
 

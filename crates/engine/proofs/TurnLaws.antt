@@ -12,7 +12,7 @@ use Rattle.code.specs.Reading.{Answer, good, stop, _>>=_}
 use Rattle.working.specs.Working.{isYes, conditionValue}
 use Rattle.code.specs.declared.check.Line.{Line}
 use Rattle.engine.specs.declared.action.Done.{Done}
-use Rattle.engine.specs.Set.{noLine}
+use Rattle.state.specs.Set.{noLine}
 use Rattle.engine.specs.Action.{World, Did, fromGot}
 use Rattle.engine.specs.Turn.{Entry, worked, Turned, lockEntry, tries, acts, remembers, remembered, doTurn, tryTurn, turnOf, turnsFrom}
 use Rattle.engine.specs.Held.{worldOf, IsDone, IsTurned}
@@ -43,27 +43,18 @@ next-bit k e = rw (e, add-one k, two-pow-succ k) (omega arith)
 -- ---- the turn of a line that is tried
 
 module _ (s numbers : List ℕ) (cancelled : List Bool) (automatic : Bool) (l : Line) (k : ℕ) (x : World) where
-  pub rests : tries (l .keyword) (getD (x .memory) k false) ≡ false → acts (l .keyword) (getD (x .memory) k false) false ≡ false → tryTurn s numbers cancelled automatic l k x ≡ good (record { world = x; entries = [] })
-  unfolding tryTurn doTurn
-  rests t a = simp (tryTurn, t, a)
-
-  pub goes : tries (l .keyword) (getD (x .memory) k false) ≡ false → acts (l .keyword) (getD (x .memory) k false) false ≡ true → tryTurn s numbers cancelled automatic l k x ≡ doTurn s numbers cancelled automatic l k x [] true
+  pub untried : tries (l .keyword) (getD (x .memory) k false) ≡ false → tryTurn s numbers cancelled automatic l k x ≡ doTurn s numbers cancelled automatic l k x [] (acts (l .keyword) (getD (x .memory) k false) false)
   unfolding tryTurn
-  goes t a = simp (tryTurn, t, a)
+  untried t = simp (tryTurn, t)
 
   module _ (t : tries (l .keyword) (getD (x .memory) k false) ≡ true) where
     pub stops : {a : ℕ} → fromGot (conditionValue s (x .vars .r) (x .vars .cells) (l .condition)) ≡ stop a → tryTurn s numbers cancelled automatic l k x ≡ stop a
     unfolding tryTurn
     stops e = simp (tryTurn, t, e)
 
-    module _ {v : ℤ} {q : ℕ} (e : fromGot (conditionValue s (x .vars .r) (x .vars .cells) (l .condition)) ≡ good (v, q)) where
-      pub rests-worked : acts (l .keyword) (getD (x .memory) k false) (isYes v) ≡ false → tryTurn s numbers cancelled automatic l k x ≡ good (record { world = remembered x k (remembers (l .keyword) (getD (x .memory) k false) (isYes v)); entries = worked k (isYes v) ∷ [] })
-      unfolding tryTurn doTurn
-      rests-worked a = simp (tryTurn, t, e) (rw a)
-
-      pub goes-worked : acts (l .keyword) (getD (x .memory) k false) (isYes v) ≡ true → tryTurn s numbers cancelled automatic l k x ≡ doTurn s numbers cancelled automatic l k (remembered x k (remembers (l .keyword) (getD (x .memory) k false) (isYes v))) (worked k (isYes v) ∷ []) true
-      unfolding tryTurn
-      goes-worked a = simp (tryTurn, t, e) (rw a)
+    pub tried-so : {v : ℤ} {q : ℕ} → fromGot (conditionValue s (x .vars .r) (x .vars .cells) (l .condition)) ≡ good (v, q) → tryTurn s numbers cancelled automatic l k x ≡ doTurn s numbers cancelled automatic l k (remembered x k (remembers (l .keyword) (getD (x .memory) k false) (isYes v))) (worked k (isYes v) ∷ []) (acts (l .keyword) (getD (x .memory) k false) (isYes v))
+    unfolding tryTurn
+    tried-so e = simp (tryTurn, t, e)
 
 -- ---- turns in a row
 

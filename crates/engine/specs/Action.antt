@@ -22,7 +22,7 @@ use Rattle.working.specs.Variables.{cellOf, counts, countAt, runStart, run}
 use Rattle.code.specs.Fault.{isRemoval}
 use Rattle.working.specs.Working.{fromWorked, rightValue}
 use Rattle.working.specs.declared.work.Got.{Got}
-use Rattle.engine.specs.Set.{maxLines, rankIn}
+use Rattle.state.specs.Set.{maxLines, rankIn}
 
 -- the variables of a beat under way: R, the cells, which timers run
 pub record Vars : Type 0 where
@@ -160,9 +160,9 @@ did q x = good (record { world = x; next = q; notes = [] })
 abbrev pub withVars : World → Vars → World
 withVars x v = record { vars = v; locked = x .locked; memory = x .memory; acted = x .acted; orders = x .orders }
 
--- the number of an alarm that working gave
+-- the number of an alarm that working gave, never 0
 unfoldable pub alarmOf : ℤ → ℕ
-alarmOf v = cond (lessThan v (pos 0)) unsound (cond (lessThan (pos 255) v) unsound (natAbs v))
+alarmOf v = cond (lessThan v (pos 1)) unsound (cond (lessThan (pos 255) v) unsound (natAbs v))
 
 abbrev pub fromGot : Got → Answer (ℤ × ℕ)
 fromGot g = elim (g .good) [ true ↦ good (g .value, g .next) | false ↦ stop (alarmOf (g .value)) ]

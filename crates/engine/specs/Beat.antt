@@ -6,16 +6,13 @@ use lib.Dec.{eqb, ltb}
 use lib.IntN.{ℤ}
 use lib.ListN.{length, drop}
 use Rattle.code.specs.Reading.{Answer, good, stop, _>>=_}
-use Rattle.engine.specs.declared.state.State.{State}
+use Rattle.state.specs.declared.state.State.{State}
 use Rattle.engine.specs.declared.beat.Beaten.{Beaten}
-use Rattle.engine.specs.Set.{soundLines}
-use Rattle.engine.specs.State.{inputCount, beatCells}
-use Rattle.engine.specs.Sound.{isSound, allRanged}
+use Rattle.state.specs.Set.{soundLines}
+use Rattle.engine.specs.Cells.{inputCount, beatCells}
+use Rattle.state.specs.Sound.{unsoundCode, isSound, allRanged}
 use Rattle.engine.specs.Action.{World}
 use Rattle.engine.specs.Turn.{Entry, beatIn, Turned, turnsFrom}
-
-abbrev pub unsoundCode : ℕ
-unsoundCode = 22
 
 abbrev pub shortBuffer : ℕ
 shortBuffer = 20

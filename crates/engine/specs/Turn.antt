@@ -9,7 +9,7 @@ use Rattle.code.specs.Token.{WHEN, WHENEVER, FROM, EVERY}
 use Rattle.code.specs.Reading.{Answer, good, stop, _>>=_}
 use Rattle.working.specs.Working.{isYes, conditionValue}
 use Rattle.code.specs.declared.check.Line.{Line}
-use Rattle.engine.specs.Set.{noLine}
+use Rattle.state.specs.Set.{noLine}
 use Rattle.engine.specs.Action.{World, Note, fromGot, actionsOf}
 
 -- ---- by keyword, where m is the line's memory and v what its condition gives
@@ -29,7 +29,8 @@ remembers kw m v = cond (eqb kw WHEN || eqb kw FROM) (m || v) (cond (eqb kw EVER
 
 -- ---- a turn
 
--- what is written down: the condition of the line of a rank was worked and gave this; it was locked or released
+-- what is written down: a beat began, in AUTOMATIC or not; the condition of the line of a rank was worked and gave this; it was locked or released;
+-- it was cancelled; a reset
 pub data Entry : Type 0 where
   beatIn : Bool → Entry
   worked : ℕ → Bool → Entry

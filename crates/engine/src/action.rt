@@ -12,9 +12,6 @@ ghost use Rattle.code.specs.Index.{isInside};
 ghost use Rattle.working.specs.Working.{rightValue};
 ghost use Rattle.engine.specs.Action.{changeAnswer, changed, runAt, withRunAt, changeFifo, writeFifo, writeCell, writeTo, fromGot, alarmOf, did, ordered, driveOrder, takenAt, assignmentOf, driveOf, lockOf, commandOf, actionOf, actionsOf};
 ghost use Rattle.engine.specs.Held.{varsOf, worldOf, IsChanged, IsCelled, IsWritten, IsWorked, IsTaken, IsOrder, IsDone, Within};
-use crate::set::LINES;
-use crate::set::rank_in;
-use crate::state::TIMERS;
 use code::check::is_removal;
 use code::index::is_inside;
 use code::token::END;
@@ -36,6 +33,9 @@ use code::token::is_fifo;
 use code::token::is_variable;
 use code::token::token_at;
 use code::token::whole_of;
+use state::set::LINES;
+use state::set::rank_in;
+use state::state::TIMERS;
 use values::arithmetic::Worked;
 use values::arithmetic::feed;
 use values::arithmetic::output;
@@ -282,7 +282,7 @@ fn not_taken(alarm: u8) -> Took
 pub fn alarm_of(v: i32) -> u8
     ensures { λ x. ⌜ x ≡ alarmOf v ⌝ }
 {
-    if v < 0 {
+    if v < 1 {
         return UNSOUND;
     }
     if 255 < v {
@@ -433,7 +433,7 @@ fn drive_order(number: u8, w: u32, axis: u8, v: i32) -> Ordered
                     kind: Kind::Fa,
                     line: number,
                     target: axis,
-                    value: v,
+                    value: 0,
                 },
             },
         };
@@ -588,7 +588,8 @@ pub fn actions(
     let mut i = p;
     let mut left: usize = ACTIONS;
     while 0 < left {
-        let d = action(code, numbers, cancelled, r, cells, out, f, number, i);
+        let before = f;
+        let d = action(code, numbers, cancelled, r, cells, out, before, number, i);
         let good = d.good;
         if !good {
             return d;

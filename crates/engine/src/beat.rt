@@ -5,7 +5,7 @@ ghost use mathlib.Core.List.{List, _++_};
 ghost use Prim.Native.Nat.{ℕ, _+_, _*_, _^_, _≤_, _<_};
 ghost use lib.ListN.{length, take, drop};
 ghost use Rattle.engine.specs.Turn.{Entry, tries, acts, remembers, doTurn, tryTurn, turnOf, turnsFrom};
-ghost use Rattle.engine.specs.Beat.{areInputs, beatAnswer, beatBuffer};
+ghost use Rattle.engine.specs.Beat.{areInputs, begun, answered, buffered, beatAnswer, beatBuffer};
 ghost use Rattle.engine.specs.Held.{worldOf, IsTurned};
 use crate::action::Done;
 use crate::action::Flags;
@@ -14,21 +14,22 @@ use crate::action::actions;
 use crate::action::alarm_of;
 use crate::action::did_all;
 use crate::action::not_done;
-use crate::set::LINES;
-use crate::set::Lines;
-use crate::set::sound_lines;
-use crate::sound::all_ranged;
-use crate::sound::is_state_sound;
-use crate::state::NUMBERS;
-use crate::state::State;
-use crate::state::beat_cells;
-use crate::state::kept_cells;
+use crate::cells::NUMBERS;
+use crate::cells::beat_cells;
+use crate::cells::kept_cells;
 use code::check::Line;
 use code::token::EVERY;
 use code::token::FROM;
 use code::token::SIZE;
 use code::token::WHEN;
 use code::token::WHENEVER;
+use state::set::LINES;
+use state::set::Lines;
+use state::set::sound_lines;
+use state::sound::all_ranged;
+use state::sound::is_state_sound;
+use state::state::STATE_CELLS;
+use state::state::State;
 use values::arithmetic::is_equal;
 use working::variables::CELLS;
 use working::variables::RS;
@@ -100,7 +101,7 @@ fn remembers_now(keyword: u32, memory: bool, v: bool) -> bool
 
 // ---- a turn
 
-// The line of rank k acts; `bit` is its bit in the word.
+// The actions of the line of rank k, if it acts; `bit` is its bit in the word.
 fn act(
     code: &[u32; SIZE],
     numbers: &[u8; LINES],
@@ -111,10 +112,14 @@ fn act(
     flags: Flags,
     l: Line,
     bit: u64,
+    yes: bool,
 ) -> Done
     requires { ⌜ (flags .count ≤ 248) × (flags .acted + bit < 4294967296) ⌝ }
-    ensures { λ x. ⌜ ((k : ℕ) (es : List Entry) (automatic : Bool) → bit ≡ 2 ^ k → IsTurned x (now (r .exit)) (now (cells .exit)) (now (out .exit)) (doTurn (now (code .entry)) (now (numbers .entry)) (now (cancelled .entry)) automatic l k (worldOf (now (r .entry)) (now (cells .entry)) (now (out .entry)) flags) es true)) × ((x .flags .count ≤ flags .count + 8) × (x .flags .acted ≡ flags .acted + bit)) ⌝ }
+    ensures { λ x. ⌜ ((k : ℕ) (es : List Entry) (automatic : Bool) → bit ≡ 2 ^ k → IsTurned x (now (r .exit)) (now (cells .exit)) (now (out .exit)) (doTurn (now (code .entry)) (now (numbers .entry)) (now (cancelled .entry)) automatic l k (worldOf (now (r .entry)) (now (cells .entry)) (now (out .entry)) flags) es yes)) × ((x .flags .count ≤ flags .count + 8) × (x .flags .acted ≤ flags .acted + bit)) ⌝ }
 {
+    if !yes {
+        return did_all(0, flags);
+    }
     let mut f = flags;
     f.acted = flags.acted + bit;
     let number = l.number;
@@ -151,10 +156,8 @@ fn try_line(
     let memory = memories[k];
     let keyword = l.keyword;
     if !tries_now(keyword, memory) {
-        if !acts_now(keyword, memory, false) {
-            return did_all(0, flags);
-        }
-        return act(code, numbers, cancelled, r, cells, out, flags, l, bit);
+        let yes = acts_now(keyword, memory, false);
+        return act(code, numbers, cancelled, r, cells, out, flags, l, bit, yes);
     }
     let g = condition(code, r, cells, l.condition);
     let good = g.good;
@@ -165,10 +168,8 @@ fn try_line(
     let remembered = remembers_now(keyword, memory, v);
     let mut f = flags;
     f.memory[k] = remembered;
-    if !acts_now(keyword, memory, v) {
-        return did_all(0, f);
-    }
-    act(code, numbers, cancelled, r, cells, out, f, l, bit)
+    let yes = acts_now(keyword, memory, v);
+    act(code, numbers, cancelled, r, cells, out, f, l, bit, yes)
 }
 
 // The turn of the line of rank k: none if it is cancelled or locked at that moment; an ID line also needs AUTOMATIC.
@@ -285,6 +286,94 @@ fn refused(code: u8, state: State) -> Beaten
     }
 }
 
+// The flags as a beat begins.
+fn first_flags(state: State) -> Flags
+    ensures { λ x. ⌜ x ≡ record { runs = state .runs; locked = state .locked; memory = state .memory; acted = 0; count = 0 } ⌝ }
+{
+    let runs = state.runs;
+    let locked = state.locked;
+    let memory = state.memory;
+    Flags {
+        runs: runs,
+        locked: locked,
+        memory: memory,
+        acted: 0,
+        count: 0,
+    }
+}
+
+// The state that the turns left.
+fn next_state(r: [i32; RS], cells: [i32; STATE_CELLS], cancelled: [bool; LINES], f: Flags) -> State
+    ensures { λ x. ⌜ x ≡ record { r = r; cells = cells; runs = f .runs; locked = f .locked; cancelled = cancelled; memory = f .memory } ⌝ }
+{
+    let runs = f.runs;
+    let locked = f.locked;
+    let memory = f.memory;
+    State {
+        r: r,
+        cells: cells,
+        runs: runs,
+        locked: locked,
+        cancelled: cancelled,
+        memory: memory,
+    }
+}
+
+// The answer of a beat that came to its end.
+fn finished(state: State, f: Flags) -> Beaten
+    requires { ⌜ (f .count ≤ 256) × (f .acted < 4294967296) ⌝ }
+    ensures { λ x. ⌜ x ≡ record { code = 0; orders = f .count; acted = f .acted; state = state } ⌝ }
+{
+    Beaten {
+        code: 0,
+        orders: f.count as u32,
+        acted: f.acted as u32,
+        state: state,
+    }
+}
+
+// The turns of a beat that no check refuses: its orders go to the buffer and its state is answered; an alarm undoes all of it.
+fn all_turns(
+    set: &[u32; SIZE],
+    lines: Lines,
+    state: State,
+    automatic: bool,
+    inputs: u16,
+    lent: &[i32],
+    orders: &mut [u8],
+) -> Beaten
+    requires { ⌜ (lines .count ≤ 32) × ((length (now lent) ≡ 14) × (2048 ≤ length (now orders))) ⌝ }
+    ensures { λ x. ⌜ x ≡ answered state (turnsFrom (now (set .entry)) (lines .numbers) (state .cancelled) automatic (lines .items) (lines .count) 0 (begun state inputs (now (lent .entry)))) ⌝ }
+    ensures { λ x. ⌜ now (orders .exit) ≡ buffered (now (orders .entry)) (turnsFrom (now (set .entry)) (lines .numbers) (state .cancelled) automatic (lines .items) (lines .count) 0 (begun state inputs (now (lent .entry)))) ⌝ }
+{
+    let mut r = state.r;
+    let runs = state.runs;
+    let state_cells = state.cells;
+    let mut cells = beat_cells(inputs, lent, runs, state_cells);
+    let mut out = [0u8; ORDERS];
+    let cancelled = state.cancelled;
+    let flags = first_flags(state);
+    let d = turns(
+        set,
+        lines,
+        &cancelled,
+        automatic,
+        &mut r,
+        &mut cells,
+        &mut out,
+        flags,
+    );
+    let f = d.flags;
+    let kept = kept_cells(&cells);
+    let next = next_state(r, kept, cancelled, f);
+    let good = d.good;
+    if !good {
+        return refused(d.alarm, state);
+    }
+    copy_orders(orders, &out, f.count * 8);
+    finished(next, f)
+}
+
 // One beat. On any code the state is as given, there are no orders and the word is 0, and no byte of the buffer has changed.
 pub fn beat(
     set: &[u32; SIZE],
@@ -311,53 +400,5 @@ pub fn beat(
     if !are_inputs(lent) {
         return refused(WRONG_NUMBERS, state);
     }
-    let mut r = state.r;
-    let runs = state.runs;
-    let state_cells = state.cells;
-    let mut cells = beat_cells(inputs, lent, runs, state_cells);
-    let mut out = [0u8; ORDERS];
-    let locked = state.locked;
-    let cancelled = state.cancelled;
-    let memory = state.memory;
-    let flags = Flags {
-        runs: runs,
-        locked: locked,
-        memory: memory,
-        acted: 0,
-        count: 0,
-    };
-    let d = turns(
-        set,
-        lines,
-        &cancelled,
-        automatic,
-        &mut r,
-        &mut cells,
-        &mut out,
-        flags,
-    );
-    let good = d.good;
-    if !good {
-        return refused(d.alarm, state);
-    }
-    let f = d.flags;
-    copy_orders(orders, &out, f.count * 8);
-    let kept = kept_cells(&cells);
-    let now_runs = f.runs;
-    let now_locked = f.locked;
-    let now_memory = f.memory;
-    let next = State {
-        r: r,
-        cells: kept,
-        runs: now_runs,
-        locked: now_locked,
-        cancelled: cancelled,
-        memory: now_memory,
-    };
-    Beaten {
-        code: 0,
-        orders: f.count as u32,
-        acted: f.acted as u32,
-        state: next,
-    }
+    all_turns(set, lines, state, automatic, inputs, lent, orders)
 }

@@ -1,9 +1,6 @@
-// The engine: a set and a state, whether they are sound, one beat, and the host's calls.
+// The engine: one beat, over a set and a state of the crate `state`.
 //
-// A set is lent, a state goes in by value and comes back. No public call asks anything of its caller: what is not sound is answered 22.
-pub mod action;
+// A set is lent, a state goes in by value and comes back. The beat asks nothing of its caller: what is not sound is answered 22.
+mod action;
 pub mod beat;
-pub mod calls;
-pub mod set;
-pub mod sound;
-pub mod state;
+mod cells;

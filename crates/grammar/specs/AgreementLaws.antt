@@ -7,25 +7,12 @@ use native.Mathlib.Omega.{arith}
 use lib.Dec.{T, eqb, leb}
 use lib.ListN.{length, getD, length-append}
 use borrow.Author.Tests.{leb-true, leb-false, le-leb, lt-leb, eq-eqb, eqb-true}
+use Rattle.values.specs.Choice.{holds, told-so, both}
 use Rattle.code.specs.Token.{NUMBER, LEFT, RIGHT, IM, between, isNumber, isVariable, isNumbered, hasAxis, isAxis, isWhole, load, whole, wholeToken, axisOf, FIFO4, IN}
 use Rattle.code.specs.Reading.{Answer, good, stop, Read, read, ends, _>>=_, then, upTo, isIndex, indexOf, isIndexed, indexAt}
 use Rattle.grammar.specs.Meaning.{Stands}
 
 -- ---- tests
-
--- a test as a type and as an equation
-pub holds : (b : Bool) → T b → b ≡ true
-holds true h = refl
-holds false h = absurd h
-
-pub told-so : (b : Bool) → b ≡ true → T b
-told-so true h = tt
-told-so false h = absurd (false≢true h)
-
--- a test of two parts
-pub both : (a b : Bool) → (a && b) ≡ true → (a ≡ true) × (b ≡ true)
-both true b h = (refl, h)
-both false b h = absurd (false≢true h)
 
 -- a token in a range, and outside of it
 pub bounds : (low high t : ℕ) → T (between low high t) → (low ≤ t) × (t ≤ high)
@@ -39,30 +26,6 @@ before low high t h = rw (lt-leb low t h)
 
 pub beyond : (low high t : ℕ) → high < t → between low high t ≡ false
 beyond low high t h = rw (lt-leb t high h) (and-false (leb low t))
-
--- ---- choices
-
--- by whether a test holds
-pub decide : (P : Type 0) (b : Bool) → (b ≡ true → P) → (b ≡ false → P) → P
-decide P true f g = f refl
-decide P false f g = g refl
-
--- which way a choice went
-pub choice : {X : Type 0} (P : Type 0) (b : Bool) (x y z : X) → elim b as (λ _. X) [ true ↦ x | false ↦ y ] ≡ z → (b ≡ true → x ≡ z → P) → (b ≡ false → y ≡ z → P) → P
-choice P true x y z h f g = f refl h
-choice P false x y z h f g = g refl h
-
--- where the test is known: the one side, and the other
-pub chosen : {X : Type 0} (b : Bool) (x y : X) → b ≡ true → elim b as (λ _. X) [ true ↦ x | false ↦ y ] ≡ x
-chosen b x y h = rw h
-
-pub refused : {X : Type 0} (b : Bool) (x y : X) → b ≡ false → elim b as (λ _. X) [ true ↦ x | false ↦ y ] ≡ y
-refused b x y h = rw h
-
--- two choices by one test agree where it fails, and where it holds if their sides there do
-pub same-choice : {X : Type 0} (b : Bool) (x y z : X) → (b ≡ true → x ≡ z) → _≡_ {A = X} (elim b as (λ _. X) [ true ↦ x | false ↦ y ]) (elim b as (λ _. X) [ true ↦ z | false ↦ y ])
-same-choice true x y z h = h refl
-same-choice false x y z h = refl
 
 -- ---- steps of the reader
 

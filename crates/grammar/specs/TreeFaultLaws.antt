@@ -8,6 +8,7 @@ use native.Mathlib.Omega.{arith}
 use lib.Dec.{T, eqb, leb, eqb·suc-zero}
 use lib.ListN.{length}
 use borrow.Author.Tests.{ne-eqb}
+use Rattle.values.specs.Choice.{both, decide}
 use Rattle.code.specs.Token.{between, IM, isFifo, thousandths, axisOf, EVERY, SETAL, WHEN}
 use Rattle.values.specs.Value.{top}
 use Rattle.code.specs.Index.{isInside}
@@ -16,7 +17,7 @@ use Rattle.code.specs.Reading.{Answer, good, stop, read, _>>=_, upTo}
 use Rattle.grammar.specs.Meaning.{operandMeaning, productMeaning, factorsMeaning, sumMeaning, termsMeaning, expressionMeaning, sumsMeaning}
 use Rattle.code.specs.Fault.{confused, outside, readOnly, codeAlone, tooMany, lower, unless, Sight, wantingFault, wanting, numberFault, readFault, joinSights, sight, faultFor, isWritable, writeFault, codeFault, idFault, callFault, countFault, numberOf}
 use Rattle.grammar.specs.TreeFault.{Proper, wantedFault, rightFault, isRemovalTree, assignedFault, actionFault, actionsFault, keywordOf, conditionFault, lineFault}
-use Rattle.grammar.specs.AgreementLaws.{both, bounds, decide}
+use Rattle.grammar.specs.AgreementLaws.{bounds}
 
 -- ---- the lower of two faults
 

@@ -4,8 +4,9 @@ use borrow.Author.Tests.{ne-eqb}
 use mathlib.Core.Path.{refl, sym, ap, _∙_}
 use mir.Syntax.{w32}
 use Rattle.values.specs.Value.{feedOf, signOf}
+use Rattle.values.specs.declared.order.Kind.the-variants as K
 use Rattle.values.proofs.Signed.{back}
-use Rattle.engine.specs.Action.{driveOrder}
+use Rattle.engine.specs.Action.{orderOf, driveOrder}
 use Rattle.engine.proofs.action.drive_order.Statement.{statement}
 use Rattle.engine.proofs.action.drive_order.Tie as tie
 
@@ -14,7 +15,7 @@ unfolding driveOrder
 drive-order-spec =
     tie.close
     (tie.spec
-    (λ c. rw (c .if1 .taken) (refl, rw (back w32 (c .before .fits .v))))
+    (λ c. let a = c .before .args in rw (c .if1 .taken) (refl, ap (orderOf (a .number) K.Pos (a .axis)) (back w32 (c .before .fits .v))))
     (λ c κs. search needs)
     (λ c. search needs)
     (λ c. search needs)

@@ -1,4 +1,4 @@
--- `beat::try_line` meets its contract: by whether the line tries, what its condition gave, and whether it acts.
+-- `beat::try_line` meets its contract: by whether the line tries, and what its condition gave.
 use borrow.Author.Needs.{needs}
 use borrow.Author.Tests.{not-true, not-false}
 use mathlib.Core.Path.{_≡_, refl, sym, ap, _∙_}
@@ -17,7 +17,7 @@ use Rattle.engine.specs.Action.{World, alarmOf, fromGot}
 use Rattle.engine.specs.Turn.{worked, tries, acts, remembers}
 use Rattle.engine.specs.Held.{worldOf}
 use Rattle.engine.proofs.HeldLaws.{got-good, got-stop}
-use Rattle.engine.proofs.TurnLaws.{room, rests, goes, stops, rests-worked, goes-worked}
+use Rattle.engine.proofs.TurnLaws.{room, untried, stops, tried-so}
 use Rattle.engine.proofs.beat.try_line.Statement.{statement}
 use Rattle.engine.proofs.beat.try_line.Tie as tie
 
@@ -33,11 +33,11 @@ tried : (c : tie.Else1) → let a = c .before .before .before .args in tries (a 
 tried c = sym (c .before .tries-now .ensures) ∙ not-false _ (c .if1 .left)
 
 -- what the condition gave
-gave : (c : tie.Else3) → let g = c .before .condition .result in let a = c .before .before .before .before .before .before .before .args in fromGot (conditionValue (now (a .code)) (now (a .r)) (now (a .cells)) (a .l .condition)) ≡ good (g .value, g .next)
-gave c = rw (← c .before .condition .ensures) (got-good (c .before .condition .result) (not-false _ (c .if3 .left)))
+gave : (c : tie.Else2) → let g = c .before .condition .result in let a = c .before .before .before .before .before .before .before .args in fromGot (conditionValue (now (a .code)) (now (a .r)) (now (a .cells)) (a .l .condition)) ≡ good (g .value, g .next)
+gave c = rw (← c .before .condition .ensures) (got-good (c .before .condition .result) (not-false _ (c .if2 .left)))
 
-failed : (c : tie.Then3) → let a = c .before .before .before .before .before .before .before .args in fromGot (conditionValue (now (a .code)) (now (a .r)) (now (a .cells)) (a .l .condition)) ≡ stop (alarmOf (c .before .condition .result .value))
-failed c = rw (← c .before .condition .ensures) (got-stop (c .before .condition .result) (not-true _ (c .if3 .taken)))
+failed : (c : tie.Then2) → let a = c .before .before .before .before .before .before .before .args in fromGot (conditionValue (now (a .code)) (now (a .r)) (now (a .cells)) (a .l .condition)) ≡ stop (alarmOf (c .before .condition .result .value))
+failed c = rw (← c .before .condition .ensures) (got-stop (c .before .condition .result) (not-true _ (c .if2 .taken)))
 
 yes : (c : tie.After-is-equal) → not (c .is-equal .result) ≡ isYes (c .before .before .before .condition .result .value)
 yes c = ap not (c .is-equal .ensures ∙ ap (λ (z : ℤ). equalTo z (pos 0)) (back w32 (record { sfits = c .before .struct-told2 .given .1 .0 .1 })))
@@ -49,19 +49,13 @@ try-line-spec =
     (λ c. search needs)
     (λ c κs. search needs)
     (λ c κs. search needs)
-    (λ c κs. search needs)
+    (λ c κs. let p = c .before .before .before .before .before .before .before .pre in (omega arith, room _ (p .0) (p .1 .0) (p .1 .1 .1)))
     (λ c.
-    let n = c .before .before .before in
+    let m = c .before .before .before .before in
+    let n = m .before in
     let s = n .before .before .before in
     let a = s .args in
-    (λ automatic. rw (rests (now (a .code)) (now (a .numbers)) (now (a .cancelled)) automatic (a .l) (a .k) (world s) (not-tried n) (sym (c .before .before .acts-now .ensures) ∙ not-true _ (c .before .if2 .taken)), c .did-all .ensures) (refl, refl), rw (c .did-all .ensures) (omega arith, omega arith)))
-    (λ c κs. let p = c .before .before .before .before .before .before .before .before .pre in (omega arith, room _ (p .0) (p .1 .0) (p .1 .1 .1)))
-    (λ c.
-    let i = c .before .before .before .before in
-    let n = i .before .before in
-    let s = n .before .before .before in
-    let a = s .args in
-    (λ automatic. rw (goes (now (a .code)) (now (a .numbers)) (now (a .cancelled)) automatic (a .l) (a .k) (world s) (not-tried n) (sym (i .before .acts-now .ensures) ∙ not-false _ (i .if2 .left))) (c .act .ensures .0 (a .k) [] automatic (s .pre .1 .0)), (c .act .ensures .1 .0, omega arith)))
+    (λ automatic. rw (untried (now (a .code)) (now (a .numbers)) (now (a .cancelled)) automatic (a .l) (a .k) (world s) (not-tried n)) (rw (m .acts-now .ensures) at (c .act .ensures .0 (a .k) [] automatic (s .pre .1 .0))), c .act .ensures .1))
     (λ c κs. search needs)
     (λ c κs. search needs)
     (λ c κs. search needs)
@@ -75,28 +69,16 @@ try-line-spec =
     (λ c κs. search needs)
     (λ c. search needs)
     (λ c κs. search needs)
-    (λ c κs. search needs)
-    (λ c.
-    let m = c .before .before .before in
-    let q = m .before in
-    let i = q .before .before in
-    let n = i .before .before .before .before in
-    let s = n .before .before .before in
-    let a = s .args in
-    let y = yes q in
-    let u = c .before .before .acts-now2 .ensures ∙ ap (acts (a .l .keyword) (getD (a .flags .memory) (a .k) false)) y in
-    let v = m .remembers-now .ensures ∙ ap (remembers (a .l .keyword) (getD (a .flags .memory) (a .k) false)) y in
-    (λ automatic. rw (rests-worked (now (a .code)) (now (a .numbers)) (now (a .cancelled)) automatic (a .l) (a .k) (world s) (tried n) (gave i) (sym u ∙ not-true _ (c .before .if4 .taken)), c .did-all2 .ensures, v) (refl, refl), rw (c .did-all2 .ensures) (omega arith, omega arith)))
-    (λ c κs. let p = c .before .before .before .before .before .before .before .before .before .before .before .before .before .before .before .pre in (omega arith, room _ (p .0) (p .1 .0) (p .1 .1 .1)))
+    (λ c κs. let p = c .before .before .before .before .before .before .before .before .before .before .before .before .before .before .pre in (omega arith, room _ (p .0) (p .1 .0) (p .1 .1 .1)))
     (λ c.
     let j = c .before .before .before .before in
-    let m = j .before .before in
+    let m = j .before in
     let q = m .before in
     let i = q .before .before in
     let n = i .before .before .before .before in
     let s = n .before .before .before in
     let a = s .args in
     let y = yes q in
-    let u = j .before .acts-now2 .ensures ∙ ap (acts (a .l .keyword) (getD (a .flags .memory) (a .k) false)) y in
+    let u = j .acts-now2 .ensures ∙ ap (acts (a .l .keyword) (getD (a .flags .memory) (a .k) false)) y in
     let v = m .remembers-now .ensures ∙ ap (remembers (a .l .keyword) (getD (a .flags .memory) (a .k) false)) y in
-    (λ automatic. rw (goes-worked (now (a .code)) (now (a .numbers)) (now (a .cancelled)) automatic (a .l) (a .k) (world s) (tried n) (gave i) (sym u ∙ not-false _ (j .if4 .left))) (rw v at (c .act2 .ensures .0 (a .k) (worked (a .k) (isYes (i .before .condition .result .value)) ∷ []) automatic (s .pre .1 .0))), (c .act2 .ensures .1 .0, omega arith))))
+    (λ automatic. rw (tried-so (now (a .code)) (now (a .numbers)) (now (a .cancelled)) automatic (a .l) (a .k) (world s) (tried n) (gave i)) (rw (u, v) at (c .act2 .ensures .0 (a .k) (worked (a .k) (isYes (i .before .condition .result .value)) ∷ []) automatic (s .pre .1 .0))), c .act2 .ensures .1)))

@@ -10,7 +10,7 @@ use lib.ListN.{getD}
 use denote.Ref.{now}
 use Rattle.code.specs.Reading.{Answer, good}
 use Rattle.engine.specs.declared.action.Done.{Done}
-use Rattle.engine.specs.Set.{noLine}
+use Rattle.state.specs.Set.{noLine}
 use Rattle.engine.specs.Turn.{Entry, Turned, turnOf, turnsFrom}
 use Rattle.engine.specs.Held.{worldOf, IsTurned}
 use Rattle.engine.proofs.TurnLaws.{doubled, room, word-fits, next-bit, passed, turned-good, turned-stop, all-pass, turns-none, turns-stop, turns-on}

@@ -1,0 +1,467 @@
+-- Laws of sound states, place by place: the computed tests of Sound say it of every cell, every FIFO and every line; and which changes keep it. Nothing is assumed.
+use mathlib.Core.Path.{_≡_, refl, sym, ap, _∙_}
+use mathlib.Core.Bool.{Bool, true, false, cond, not, _&&_}
+use mathlib.Core.List.{List, [], _∷_, _++_}
+use Prim.Native.Nat.{ℕ, zero, suc, _+_, _*_, _-_, _≤_, _<_}
+use native.Mathlib.Decide.{ℕ-discrete, decLt}
+use native.Mathlib.Omega.{arith}
+use lib.Dec.{ltb}
+use lib.IntN.{ℤ, pos}
+use lib.ListN.{length, getD, set, take, drop, replicate, length-append, length-take, length-drop, length-replicate, getD-replicate, List·getD-append, List·getD-eq-default}
+use lib.Seq.{length-take-le, drop-at, drop-set-lt, getD-take, getD-drop, getD-append-add, getD-set-same, getD-set-other, set-out}
+use borrow.Author.Tests.{lt-ltb, le-ltb, le-leb, leb-true, not-true}
+use Rattle.values.specs.Choice.{and-left, and-right, and-true}
+use Rattle.values.specs.Value.{inRange, lessThan, equalTo, wholeUnits, outputOf}
+use Rattle.values.specs.ValueLaws.{abs-range, equal-same, same-equal}
+use Rattle.values.specs.TimeLaws.{Timed}
+use Rattle.values.specs.Fifo.{places, Unused}
+use Rattle.values.specs.FifoLaws.{PlacesRanged}
+use Rattle.values.specs.Numbers.{clash}
+use Rattle.working.specs.Variables.{asCount}
+use Rattle.state.specs.declared.state.State.{State}
+use Rattle.state.specs.Set.{soundLines}
+use Rattle.state.specs.State.{stateCells, powerOn}
+use Rattle.state.specs.Sound.{allRanged, isOutput, isCell, areCells, allZero, fifoRun, isFifoSound, isFlag, areFlags, stateSound, isSound}
+use Rattle.engine.specs.Action.{withRunAt}
+
+-- ---- lists, place by place
+
+-- what holds of a value and of every place holds after the value is set
+pub set-each : {A : Type 0} (P : ℕ → A → Type 0) (xs : List A) (n : ℕ) (v d : A) → P n v → ((i : ℕ) → P i (getD xs i d)) → (i : ℕ) → P i (getD (set xs n v) i d)
+set-each P xs n v d e p i = by-place (ℕ-discrete i n) (decLt n (length xs))
+  where
+    by-place : Dec (i ≡ n) → Dec (n < length xs) → P i (getD (set xs n v) i d)
+    by-place (yes q) (yes l) = rw (q, getD-set-same xs n v d l) e
+    by-place (yes q) (no l) = rw (set-out xs n v (omega (arith, l))) (p i)
+    by-place (no q) m = rw (getD-set-other xs n i v d q) (p i)
+
+-- every place of a list of one value holds it, where that is the default too
+pub same-each : {A : Type 0} (n i : ℕ) (v : A) → getD (replicate n v) i v ≡ v
+same-each n i v = by-place (decLt i n)
+  where
+    by-place : Dec (i < n) → getD (replicate n v) i v ≡ v
+    by-place (yes l) = getD-replicate n i v v l
+    by-place (no l) = List·getD-eq-default (replicate n v) v {n = i} (rw length-replicate (omega (arith, l)))
+
+-- a place in the second of two lists
+pub append-behind : {A : Type 0} (xs ys : List A) (i : ℕ) (d : A) → length xs ≤ i → getD (xs ++ ys) i d ≡ getD ys (i - length xs) d
+append-behind xs ys i d l =
+    let e : length xs + (i - length xs) ≡ i = omega arith in
+    rw e at (getD-append-add xs ys (i - length xs) d)
+
+-- 0 is in range
+pub zero-in-range : inRange (pos 0) ≡ true
+zero-in-range = abs-range (pos 0) (omega arith)
+
+-- ---- every value within range
+
+-- the test says it of every place
+pub ranged-each : (xs : List ℤ) → allRanged xs ≡ true → PlacesRanged xs
+unfolding allRanged
+ranged-each [] h i = zero-in-range
+ranged-each (v ∷ vs) h zero = and-left (inRange v) (allRanged vs) h
+ranged-each (v ∷ vs) h (suc i) = ranged-each vs (and-right (inRange v) (allRanged vs) h) i
+
+-- and every place makes the test true
+pub each-ranged : (xs : List ℤ) → PlacesRanged xs → allRanged xs ≡ true
+unfolding allRanged
+each-ranged [] h = refl
+each-ranged (v ∷ vs) h = and-true (h 0) (each-ranged vs (λ i. h (suc i)))
+
+-- ---- every cell
+
+by-kind : (a b c d : Bool) → cond a true (cond b true (cond c true (cond d true true))) ≡ true
+by-kind true b c d = refl
+by-kind false true c d = refl
+by-kind false false true d = refl
+by-kind false false false true = refl
+by-kind false false false false = refl
+
+-- 0 is right in every cell
+pub zero-cell : (i : ℕ) → isCell i (pos 0) ≡ true
+unfolding isCell inRange outputOf wholeUnits equalTo lessThan
+zero-cell i = by-kind (ltb i 16) (ltb i 48) (ltb i 80) (ltb i 88)
+
+cells-from : (xs : List ℤ) (j : ℕ) → areCells xs j ≡ true → (i k : ℕ) → k ≡ j + i → isCell k (getD xs i (pos 0)) ≡ true
+unfolding areCells
+cells-from [] j h i k e = zero-cell k
+cells-from (v ∷ vs) j h zero k e = let q : k ≡ j = omega arith in rw q (and-left (isCell j v) (areCells vs (j + 1)) h)
+cells-from (v ∷ vs) j h (suc i) k e = cells-from vs (j + 1) (and-right (isCell j v) (areCells vs (j + 1)) h) i k (omega arith)
+
+from-cells : (xs : List ℤ) (j : ℕ) → ((i k : ℕ) → k ≡ j + i → isCell k (getD xs i (pos 0)) ≡ true) → areCells xs j ≡ true
+unfolding areCells
+from-cells [] j h = refl
+from-cells (v ∷ vs) j h = and-true (h 0 j (omega arith)) (from-cells vs (j + 1) (λ i k e. h (suc i) k (omega arith)))
+
+-- every cell is right at its place
+abbrev pub CellsRight : List ℤ → Type 0
+CellsRight c = (i : ℕ) → isCell i (getD c i (pos 0)) ≡ true
+
+-- the test says it of every cell
+pub cells-each : (c : List ℤ) → areCells c 0 ≡ true → CellsRight c
+cells-each c h i = cells-from c 0 h i i (omega arith)
+
+-- and every cell makes the test true
+pub each-cells : (c : List ℤ) → CellsRight c → areCells c 0 ≡ true
+each-cells c h = from-cells c 0 (λ i k e. let q : k ≡ i = omega arith in rw q (h i))
+
+-- what a right cell is: in range
+pub cell-ranged : (i : ℕ) (v : ℤ) → isCell i v ≡ true → inRange v ≡ true
+unfolding isCell
+cell-ranged i v = and-left (inRange v) _
+
+-- a timer's is a time
+pub timer-cell : (i : ℕ) (v : ℤ) → 80 ≤ i → i < 88 → isCell i v ≡ true → Timed v
+unfolding isCell
+timer-cell i v l m h =
+    let e = rw (le-ltb i 16 (omega arith), le-ltb i 48 (omega arith), le-ltb i 80 l, lt-ltb i 88 m) at (and-right (inRange v) _ h) in
+    (not-true (lessThan v (pos 0)) e, and-left (inRange v) _ h)
+
+-- a count's is a count
+pub count-cell : (i : ℕ) (v : ℤ) → 88 ≤ i → isCell i v ≡ true → asCount v ≤ places
+unfolding isCell
+count-cell i v l h =
+    let e = rw (le-ltb i 16 (omega arith), le-ltb i 48 (omega arith), le-ltb i 80 (omega arith), le-ltb i 88 l) at (and-right (inRange v) _ h) in
+    leb-true (asCount v) places e
+
+-- and what is right in a cell: 0 or 1 in an output's
+pub right-output : (i : ℕ) (v : ℤ) → i < 16 → inRange v ≡ true → isOutput v ≡ true → isCell i v ≡ true
+unfolding isCell
+right-output i v l r e = rw (r, lt-ltb i 16 l) e
+
+-- whole units in a marker's
+pub right-marker : (i : ℕ) (v : ℤ) → 16 ≤ i → i < 48 → inRange v ≡ true → wholeUnits v ≡ v → isCell i v ≡ true
+unfolding isCell
+right-marker i v l m r e = rw (r, le-ltb i 16 l, lt-ltb i 48 m) (same-equal e)
+
+-- any value in a parameter's
+pub right-parameter : (i : ℕ) (v : ℤ) → 48 ≤ i → i < 80 → inRange v ≡ true → isCell i v ≡ true
+unfolding isCell
+right-parameter i v l m r = rw (r, le-ltb i 16 (omega arith), le-ltb i 48 l, lt-ltb i 80 m)
+
+-- a time in a timer's
+pub right-timer : (i : ℕ) (v : ℤ) → 80 ≤ i → i < 88 → Timed v → isCell i v ≡ true
+unfolding isCell
+right-timer i v l m t = rw (t .1, le-ltb i 16 (omega arith), le-ltb i 48 (omega arith), le-ltb i 80 l, lt-ltb i 88 m, t .0)
+
+-- a count in a count's
+pub right-count : (i : ℕ) (n : ℕ) → 88 ≤ i → n ≤ places → isCell i (pos n) ≡ true
+unfolding isCell
+right-count i n l h =
+    rw (abs-range (pos n) (omega arith), le-ltb i 16 (omega arith), le-ltb i 48 (omega arith), le-ltb i 80 (omega arith), le-ltb i 88 l, le-leb n places h) (le-leb n places h)
+
+-- ---- unused places of FIFOs
+
+zero-each : (xs : List ℤ) → allZero xs ≡ true → (i : ℕ) → getD xs i (pos 0) ≡ pos 0
+unfolding allZero
+zero-each [] h i = refl
+zero-each (v ∷ vs) h zero = equal-same v (pos 0) (and-left (equalTo v (pos 0)) (allZero vs) h)
+zero-each (v ∷ vs) h (suc i) = zero-each vs (and-right (equalTo v (pos 0)) (allZero vs) h) i
+
+each-zero : (xs : List ℤ) → ((i : ℕ) → getD xs i (pos 0) ≡ pos 0) → allZero xs ≡ true
+unfolding allZero
+each-zero [] h = refl
+each-zero (v ∷ vs) h = and-true (same-equal (h 0)) (each-zero vs (λ i. h (suc i)))
+
+-- the count of FIFO k, from 0, as the state has it
+abbrev pub fifoCount : List ℤ → ℕ → ℕ
+fifoCount c k = asCount (getD c (88 + k) (pos 0))
+
+-- the test says it of every unused place
+pub fifo-each : (r c : List ℤ) (k : ℕ) → isFifoSound r c k ≡ true → Unused (fifoRun r k) (fifoCount c k)
+unfolding isFifoSound
+fifo-each r c k h i l =
+    let e : fifoCount c k + (i - fifoCount c k) ≡ i = omega arith in
+    rw (getD-drop, e) at (zero-each (drop (fifoCount c k) (fifoRun r k)) h (i - fifoCount c k))
+
+-- and every unused place makes the test true
+pub each-fifo : (r c : List ℤ) (k : ℕ) → Unused (fifoRun r k) (fifoCount c k) → isFifoSound r c k ≡ true
+unfolding isFifoSound
+each-fifo r c k h = each-zero (drop (fifoCount c k) (fifoRun r k)) (λ i. getD-drop (fifoCount c k) (fifoRun r k) i (pos 0) ∙ h (fifoCount c k + i) (omega arith))
+
+-- ---- the flags of every line
+
+-- cancelled lines without lock or memory, nothing for a rank that the set does not have
+abbrev pub FlagsRight : ℕ → List Bool → List Bool → List Bool → Type 0
+FlagsRight count locked cancelled memory = (k : ℕ) → k < 32 → isFlag count k (getD locked k false) (getD cancelled k false) (getD memory k false) ≡ true
+
+flags-from : (count : ℕ) (a b c : List Bool) (m j : ℕ) → areFlags count a b c m j ≡ true → (i k : ℕ) → i < m → k ≡ j + i → isFlag count k (getD a k false) (getD b k false) (getD c k false) ≡ true
+unfolding areFlags
+flags-from count a b c zero j h i k l e = absurd (omega arith)
+flags-from count a b c (suc m) j h zero k l e = let q : k ≡ j = omega arith in rw q (and-left (isFlag count j _ _ _) (areFlags count a b c m (j + 1)) h)
+flags-from count a b c (suc m) j h (suc i) k l e = flags-from count a b c m (j + 1) (and-right (isFlag count j _ _ _) (areFlags count a b c m (j + 1)) h) i k (omega arith) (omega arith)
+
+from-flags : (count : ℕ) (a b c : List Bool) (m j : ℕ) → ((k : ℕ) → j ≤ k → k < j + m → isFlag count k (getD a k false) (getD b k false) (getD c k false) ≡ true) → areFlags count a b c m j ≡ true
+unfolding areFlags
+from-flags count a b c zero j h = refl
+from-flags count a b c (suc m) j h = and-true (h j (omega arith) (omega arith)) (from-flags count a b c m (j + 1) (λ k l n. h k (omega arith) (omega arith)))
+
+-- the test says it of every rank
+pub flags-each : (count : ℕ) (a b c : List Bool) → areFlags count a b c 32 0 ≡ true → FlagsRight count a b c
+flags-each count a b c h k l = flags-from count a b c 32 0 h k k l (omega arith)
+
+-- and every rank makes the test true
+pub each-flags : (count : ℕ) (a b c : List Bool) → FlagsRight count a b c → areFlags count a b c 32 0 ≡ true
+each-flags count a b c h = from-flags count a b c 32 0 (λ k l m. h k (omega arith))
+
+-- ---- a sound state
+
+-- R and the cells of a sound state: every value in range, every cell right, every unused place of a FIFO 0
+pub record CellsSound (r c : List ℤ) : Type 0 where
+  pub ranged : PlacesRanged r
+  pub right : CellsRight c
+  pub unused : (k : ℕ) → k < 4 → Unused (fifoRun r k) (fifoCount c k)
+
+-- a sound state
+pub record StateRight (count : ℕ) (st : State) : Type 0 where
+  pub cells : CellsSound (st .r) (st .cells)
+  pub flags : FlagsRight count (st .locked) (st .cancelled) (st .memory)
+
+below-four : (P : ℕ → Type 0) → P 0 → P 1 → P 2 → P 3 → (k : ℕ) → k < 4 → P k
+below-four P a b c d zero l = a
+below-four P a b c d (suc zero) l = b
+below-four P a b c d (suc (suc zero)) l = c
+below-four P a b c d (suc (suc (suc zero))) l = d
+below-four P a b c d (suc (suc (suc (suc k)))) l = absurd (omega arith)
+
+-- what the computed test says
+pub sound-right : (count : ℕ) (st : State) → stateSound count st ≡ true → StateRight count st
+unfolding stateSound
+sound-right count st h =
+    let h1 = and-right (allRanged (st .r)) _ h in
+    let h2 = and-right (areCells (st .cells) 0) _ h1 in
+    let h3 = and-right (isFifoSound (st .r) (st .cells) 0) _ h2 in
+    let h4 = and-right (isFifoSound (st .r) (st .cells) 1) _ h3 in
+    let h5 = and-right (isFifoSound (st .r) (st .cells) 2) _ h4 in
+    let h6 = and-right (isFifoSound (st .r) (st .cells) 3) _ h5 in
+    record {
+      cells = record {
+        ranged = ranged-each (st .r) (and-left (allRanged (st .r)) _ h);
+        right = cells-each (st .cells) (and-left (areCells (st .cells) 0) _ h1);
+        unused = below-four (λ k. Unused (fifoRun (st .r) k) (fifoCount (st .cells) k))
+            (fifo-each (st .r) (st .cells) 0 (and-left (isFifoSound (st .r) (st .cells) 0) _ h2))
+            (fifo-each (st .r) (st .cells) 1 (and-left (isFifoSound (st .r) (st .cells) 1) _ h3))
+            (fifo-each (st .r) (st .cells) 2 (and-left (isFifoSound (st .r) (st .cells) 2) _ h4))
+            (fifo-each (st .r) (st .cells) 3 (and-left (isFifoSound (st .r) (st .cells) 3) _ h5));
+      };
+      flags = flags-each count (st .locked) (st .cancelled) (st .memory) h6;
+    }
+
+-- and what makes it true
+pub right-sound : (count : ℕ) (st : State) → StateRight count st → stateSound count st ≡ true
+unfolding stateSound
+right-sound count st h =
+    and-true (each-ranged (st .r) (h .cells .ranged))
+    (and-true (each-cells (st .cells) (h .cells .right))
+    (and-true (each-fifo (st .r) (st .cells) 0 (h .cells .unused 0 (omega arith)))
+    (and-true (each-fifo (st .r) (st .cells) 1 (h .cells .unused 1 (omega arith)))
+    (and-true (each-fifo (st .r) (st .cells) 2 (h .cells .unused 2 (omega arith)))
+    (and-true (each-fifo (st .r) (st .cells) 3 (h .cells .unused 3 (omega arith)))
+    (each-flags count (st .locked) (st .cancelled) (st .memory) (h .flags)))))))
+
+-- a set and a state are sound: the set is
+pub set-sound : (s : List ℕ) (st : State) → isSound s st ≡ true → soundLines s .sound ≡ true
+unfolding isSound
+set-sound s st = and-left (soundLines s .sound) _
+
+-- the state is, for its lines
+pub state-right : (s : List ℕ) (st : State) → isSound s st ≡ true → StateRight (soundLines s .count) st
+unfolding isSound
+state-right s st h = sound-right (soundLines s .count) st (and-right (soundLines s .sound) _ h)
+
+-- and both make the test true
+pub right-state : (s : List ℕ) (st : State) → soundLines s .sound ≡ true → StateRight (soundLines s .count) st → isSound s st ≡ true
+unfolding isSound
+right-state s st e h = and-true e (right-sound (soundLines s .count) st h)
+
+-- ---- power-on
+
+-- a line of the set that is not cancelled may have lock and memory
+pub flag-free : (count k : ℕ) (a c : Bool) → k < count → isFlag count k a false c ≡ true
+unfolding isFlag
+flag-free count k a c l = rw (lt-ltb k count l)
+
+-- a line of the set without lock and memory may be cancelled
+pub flag-clear : (count k : ℕ) (b : Bool) → k < count → isFlag count k false b false ≡ true
+unfolding isFlag
+flag-clear count k b l = rw (lt-ltb k count l) (by-cancel b)
+  where
+    by-cancel : (b : Bool) → cond b true true ≡ true
+    by-cancel true = refl
+    by-cancel false = refl
+
+-- no flag at all is right at every rank
+pub flag-none : (count k : ℕ) → isFlag count k false false false ≡ true
+unfolding isFlag
+flag-none count k = by-test (ltb k count)
+  where
+    by-test : (b : Bool) → cond b true true ≡ true
+    by-test true = refl
+    by-test false = refl
+
+-- a rank that the set does not have is not cancelled
+pub flag-beyond : (count k : ℕ) (a b c : Bool) → count ≤ k → isFlag count k a b c ≡ true → b ≡ false
+unfolding isFlag
+flag-beyond count k a b c l h = let e = rw (le-ltb k count l) at h in by-flags a c b e
+  where
+    by-flags : (a c b : Bool) → (not a && (not c && not b)) ≡ true → b ≡ false
+    by-flags a c false e = refl
+    by-flags true c true e = clash (cc)
+    by-flags false true true e = clash (cc)
+    by-flags false false true e = clash (cc)
+
+-- the state at power-on is sound for any number of lines
+pub power-on-sound : (n : ℕ) → stateSound n powerOn ≡ true
+unfolding stateSound powerOn allRanged areCells isFifoSound allZero isCell inRange outputOf wholeUnits equalTo lessThan
+power-on-sound n =
+    each-flags n (replicate 32 false) (replicate 32 false) (replicate 32 false) (λ k l. rw (same-each 32 k false) (flag-none n k))
+
+-- so it is sound for every sound set
+pub power-on : (s : List ℕ) → soundLines s .sound ≡ true → isSound s powerOn ≡ true
+unfolding isSound
+power-on s e = and-true e (power-on-sound (soundLines s .count))
+
+-- ---- what keeps it: the flags
+
+module _ (count : ℕ) (locked cancelled memory : List Bool) (h : FlagsRight count locked cancelled memory) (k : ℕ) (l : k < count) where
+  -- a line that is not cancelled is locked or released
+  pub lock-keeps : (b : Bool) → getD cancelled k false ≡ false → FlagsRight count (set locked k b) cancelled memory
+  lock-keeps b e j m = by-place (ℕ-discrete j k)
+    where
+      by-place : Dec (j ≡ k) → isFlag count j (getD (set locked k b) j false) (getD cancelled j false) (getD memory j false) ≡ true
+      by-place (yes q) = rw (q, e) (flag-free count k _ _ l)
+      by-place (no q) = rw (getD-set-other locked k j b false q) (h j m)
+
+  -- a line that is not cancelled remembers
+  pub memory-keeps : (b : Bool) → getD cancelled k false ≡ false → FlagsRight count locked cancelled (set memory k b)
+  memory-keeps b e j m = by-place (ℕ-discrete j k)
+    where
+      by-place : Dec (j ≡ k) → isFlag count j (getD locked j false) (getD cancelled j false) (getD (set memory k b) j false) ≡ true
+      by-place (yes q) = rw (q, e) (flag-free count k _ _ l)
+      by-place (no q) = rw (getD-set-other memory k j b false q) (h j m)
+
+  -- a line is cancelled, its lock and memory cleared
+  pub cancel-keeps : FlagsRight count (set locked k false) (set cancelled k true) (set memory k false)
+  cancel-keeps j m = by-place (ℕ-discrete j k)
+    where
+      cleared : (xs : List Bool) → getD (set xs k false) k false ≡ false
+      cleared xs = by-length (decLt k (length xs))
+        where
+          by-length : Dec (k < length xs) → getD (set xs k false) k false ≡ false
+          by-length (yes n) = getD-set-same xs k false false n
+          by-length (no n) = rw (set-out xs k false (omega (arith, n))) (List·getD-eq-default xs false {n = k} (omega (arith, n)))
+
+      by-place : Dec (j ≡ k) → isFlag count j (getD (set locked k false) j false) (getD (set cancelled k true) j false) (getD (set memory k false) j false) ≡ true
+      by-place (yes q) = rw (q, cleared locked, cleared memory) (flag-clear count k _ l)
+      by-place (no q) = rw (getD-set-other locked k j false false q, getD-set-other cancelled k j true false q, getD-set-other memory k j false false q) (h j m)
+
+-- ---- what keeps it: R and the cells
+
+-- the run of a FIFO goes by its sixteen places
+pub run-place : (r : List ℤ) (k i : ℕ) → i < places → getD (fifoRun r k) i (pos 0) ≡ getD r (100 + places * k + i) (pos 0)
+run-place r k i l = getD-take places (drop (100 + places * k) r) i (pos 0) l ∙ getD-drop (100 + places * k) r i (pos 0)
+
+-- behind them it reads 0
+pub run-behind : (r : List ℤ) (k i : ℕ) → places ≤ i → getD (fifoRun r k) i (pos 0) ≡ pos 0
+run-behind r k i l = List·getD-eq-default (fifoRun r k) (pos 0) {n = i} (omega (arith, length-take places (drop (100 + places * k) r)))
+
+-- a run of an R in range is in range
+pub run-ranged : (r : List ℤ) (k : ℕ) → PlacesRanged r → PlacesRanged (fifoRun r k)
+run-ranged r k h i = by-place (decLt i places)
+  where
+    by-place : Dec (i < places) → inRange (getD (fifoRun r k) i (pos 0)) ≡ true
+    by-place (yes l) = rw (run-place r k i l) (h (100 + places * k + i))
+    by-place (no l) = rw (run-behind r k i (omega (arith, l))) zero-in-range
+
+module _ (r c : List ℤ) (h : CellsSound r c) where
+  -- a value in range is written to R below the FIFOs
+  pub r-keeps : (i : ℕ) (v : ℤ) → i < 100 → inRange v ≡ true → CellsSound (set r i v) c
+  r-keeps i v l e = record {
+    ranged = set-each (λ j z. inRange z ≡ true) r i v (pos 0) e (h .ranged);
+    right = h .right;
+    unused = λ k m. rw (drop-set-lt (100 + places * k) r i v (omega arith)) (h .unused k m);
+  }
+
+  -- a cell below the counts is written with a value that is right there
+  pub cell-keeps : (i : ℕ) (v : ℤ) → i < 88 → isCell i v ≡ true → CellsSound r (set c i v)
+  cell-keeps i v l e = record {
+    ranged = h .ranged;
+    right = set-each (λ j z. isCell j z ≡ true) c i v (pos 0) e (h .right);
+    unused = λ k m. rw (getD-set-other c i (88 + k) v (pos 0) (λ q. omega arith)) (h .unused k m);
+  }
+
+-- other cells, as right as these and with the same counts
+pub cells-swapped : (r c d : List ℤ) → CellsSound r c → CellsRight d → ((k : ℕ) → getD d (88 + k) (pos 0) ≡ getD c (88 + k) (pos 0)) → CellsSound r d
+cells-swapped r c d h e q = record { ranged = h .ranged; right = e; unused = λ k m. rw (q k) (h .unused k m) }
+
+-- ---- what keeps it: a FIFO's run replaced, with its count
+
+-- R with sixteen places from a on replaced: before, inside and behind them
+module _ (a : ℕ) (r ys : List ℤ) (l : a + places ≤ length r) (ly : length ys ≡ places) where
+  front : length (take a r) ≡ a
+  front = length-take-le a r (omega arith)
+
+  replaced-before : (m : ℕ) → m < a → getD (withRunAt a r ys) m (pos 0) ≡ getD r m (pos 0)
+  replaced-before m n = List·getD-append (take a r) (ys ++ drop (a + places) r) (pos 0) m (omega (arith, front)) ∙ getD-take a r m (pos 0) n
+
+  replaced-from : (i : ℕ) → getD (withRunAt a r ys) (a + i) (pos 0) ≡ getD (ys ++ drop (a + places) r) i (pos 0)
+  replaced-from i = sym (getD-drop a (withRunAt a r ys) i (pos 0)) ∙ ap (λ (z : List ℤ). getD z i (pos 0)) (drop-at (take a r) (ys ++ drop (a + places) r) a front)
+
+  replaced-inside : (i : ℕ) → i < places → getD (withRunAt a r ys) (a + i) (pos 0) ≡ getD ys i (pos 0)
+  replaced-inside i n = replaced-from i ∙ List·getD-append ys (drop (a + places) r) (pos 0) i (omega arith)
+
+  replaced-behind : (m : ℕ) → a + places ≤ m → getD (withRunAt a r ys) m (pos 0) ≡ getD r m (pos 0)
+  replaced-behind m n =
+      let e : a + (m - a) ≡ m = omega arith in
+      let f : a + places + (m - a - length ys) ≡ m = omega arith in
+      rw e at (replaced-from (m - a))
+      ∙ append-behind ys (drop (a + places) r) (m - a) (pos 0) (omega arith)
+      ∙ getD-drop (a + places) r (m - a - length ys) (pos 0)
+      ∙ ap (λ (k : ℕ). getD r k (pos 0)) f
+
+  -- as long as before
+  pub replaced-length : length (withRunAt a r ys) ≡ length r
+  replaced-length = omega (arith, length-append (take a r) (ys ++ drop (a + places) r), length-append ys (drop (a + places) r), length-drop (a + places) r, front)
+
+  -- what holds of every place of both holds of all
+  replaced-each : (P : ℤ → Type 0) → ((i : ℕ) → P (getD r i (pos 0))) → ((i : ℕ) → P (getD ys i (pos 0))) → (m : ℕ) → P (getD (withRunAt a r ys) m (pos 0))
+  replaced-each P p q m = by-place (decLt m a) (decLt m (a + places))
+    where
+      by-place : Dec (m < a) → Dec (m < a + places) → P (getD (withRunAt a r ys) m (pos 0))
+      by-place (yes n) d = rw (replaced-before m n) (p m)
+      by-place (no n) (yes d) = let e : a + (m - a) ≡ m = omega (arith, n) in rw (← e, replaced-inside (m - a) (omega (arith, n))) (q (m - a))
+      by-place (no n) (no d) = rw (replaced-behind m (omega (arith, d))) (p m)
+
+module _ (r c : List ℤ) (k : ℕ) (ys : List ℤ) (n : ℕ) (lk : k < 4) (lc : length c ≡ stateCells) (lr : 100 + places * k + places ≤ length r)
+    (ly : length ys ≡ places) (ln : n ≤ places) (u : Unused ys n) where
+  run-own : (i : ℕ) → n ≤ i → getD (fifoRun (withRunAt (100 + places * k) r ys) k) i (pos 0) ≡ pos 0
+  run-own i m = by-place (decLt i places)
+    where
+      by-place : Dec (i < places) → getD (fifoRun (withRunAt (100 + places * k) r ys) k) i (pos 0) ≡ pos 0
+      by-place (yes l) = run-place (withRunAt (100 + places * k) r ys) k i l ∙ replaced-inside (100 + places * k) r ys lr ly i l ∙ u i m
+      by-place (no l) = run-behind (withRunAt (100 + places * k) r ys) k i (omega (arith, l))
+
+  run-other : (j i : ℕ) → (j ≡ k → ⊥) → getD (fifoRun (withRunAt (100 + places * k) r ys) j) i (pos 0) ≡ getD (fifoRun r j) i (pos 0)
+  run-other j i q = by-place (decLt i places) (decLt j k)
+    where
+      by-place : Dec (i < places) → Dec (j < k) → getD (fifoRun (withRunAt (100 + places * k) r ys) j) i (pos 0) ≡ getD (fifoRun r j) i (pos 0)
+      by-place (yes l) (yes m) =
+          run-place (withRunAt (100 + places * k) r ys) j i l ∙ replaced-before (100 + places * k) r ys lr ly (100 + places * j + i) (omega arith) ∙ sym (run-place r j i l)
+      by-place (yes l) (no m) =
+          run-place (withRunAt (100 + places * k) r ys) j i l ∙ replaced-behind (100 + places * k) r ys lr ly (100 + places * j + i) (omega (arith, q, m)) ∙ sym (run-place r j i l)
+      by-place (no l) d = run-behind (withRunAt (100 + places * k) r ys) j i (omega (arith, l)) ∙ sym (run-behind r j i (omega (arith, l)))
+
+  count-own : fifoCount (set c (88 + k) (pos n)) k ≡ n
+  count-own = rw (getD-set-same c (88 + k) (pos n) (pos 0) (omega arith), le-leb n places ln)
+
+  -- FIFO k has new places and a new count
+  pub fifo-keeps : CellsSound r c → PlacesRanged ys → CellsSound (withRunAt (100 + places * k) r ys) (set c (88 + k) (pos n))
+  fifo-keeps h p = record {
+    ranged = replaced-each (100 + places * k) r ys lr ly (λ z. inRange z ≡ true) (h .ranged) p;
+    right = set-each (λ j z. isCell j z ≡ true) c (88 + k) (pos n) (pos 0) (right-count (88 + k) n (omega arith) ln) (h .right);
+    unused = λ j m. unused′ j m (ℕ-discrete j k);
+  }
+    where
+      unused′ : (j : ℕ) → j < 4 → Dec (j ≡ k) → Unused (fifoRun (withRunAt (100 + places * k) r ys) j) (fifoCount (set c (88 + k) (pos n)) j)
+      unused′ j m (yes q) = rw (q, count-own) run-own
+      unused′ j m (no q) = λ i b. run-other j i q ∙ h .unused j m i (rw (getD-set-other c (88 + k) (88 + j) (pos n) (pos 0) (λ e. q (omega arith))) at b)

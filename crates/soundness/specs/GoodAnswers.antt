@@ -1,0 +1,21 @@
+-- What a good answer is said to hold, where none stops with 22. Laws; nothing is assumed.
+use mathlib.Core.Path.{_≡_, refl}
+use mathlib.Core.Bool.{Bool, true, false, cond, _&&_}
+use Prim.Native.Nat.{ℕ}
+use Rattle.values.specs.Fifo.{unsound}
+use Rattle.values.specs.Numbers.{clash}
+use Rattle.code.specs.Reading.{Answer, good, stop, _>>=_}
+
+-- a code other than 22
+abbrev pub Not22 : ℕ → Type 0
+Not22 k = k ≡ unsound → ⊥
+
+-- what a good answer holds; and none stops with 22
+abbrev pub Holds : {A : Type 0} → (A → Type 0) → Answer A → Type 0
+Holds P (good a) = P a
+Holds P (stop k) = Not22 k
+
+-- an answer that goes on from another
+pub holds-then : {A B : Type 0} (P : A → Type 0) (Q : B → Type 0) (x : Answer A) (f : A → Answer B) → Holds P x → ((a : A) → P a → Holds Q (f a)) → Holds Q (x >>= f)
+holds-then P Q (good a) f h k = k a h
+holds-then P Q (stop c) f h k = h

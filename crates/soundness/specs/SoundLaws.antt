@@ -1,0 +1,284 @@
+-- Every call keeps a sound state sound, and none answers 22: the turns of a beat, the beat, and any calls one after another from power-on. Nothing is assumed.
+-- A set has at most 4130 places, a state 164 of R and 92 cells, as their types in the program say; that is all that is asked of lengths.
+use mathlib.Core.Path.{_≡_, refl, _∙_}
+use mathlib.Core.Bool.{Bool, true, false, cond, not, _||_}
+use mathlib.Core.List.{List, [], _∷_, _++_, append-assoc}
+use Prim.Native.Nat.{ℕ, zero, suc, _+_, _/_, _%_, _^_, _≤_, _<_}
+use native.Mathlib.Omega.{arith}
+use lib.Dec.{eqb, ltb}
+use lib.IntN.{ℤ, pos}
+use lib.ListN.{length, getD, length-append, length-drop, length-set}
+use lib.Seq.{drop-at}
+use borrow.Author.Tests.{eqb-true, not-true}
+use Rattle.values.specs.Choice.{either, ifNot, and-left, and-right}
+use Rattle.values.specs.Value.{unit, inRange}
+use Rattle.values.specs.ValueLaws.{abs-range}
+use Rattle.values.specs.Time.{timer}
+use Rattle.values.specs.TimeLaws.{grown-keeps}
+use Rattle.values.specs.FifoLaws.{PlacesRanged}
+use Rattle.values.specs.Numbers.{clash}
+use Rattle.code.specs.Token.{WHEN, WHENEVER, FROM, EVERY, isKeyword, setSize}
+use Rattle.code.specs.Reading.{Answer, good, stop}
+use Rattle.working.specs.Working.{isYes, conditionValue}
+use Rattle.state.specs.declared.state.State.{State}
+use Rattle.state.specs.declared.calls.Called.{Called}
+use Rattle.state.specs.Set.{lineOf, soundLines}
+use Rattle.state.specs.State.{stateCells, powerOn}
+use Rattle.engine.specs.Cells.{inputCount, timerCells, grownCells, inputCell, inputCells, beatCells}
+use Rattle.state.specs.Sound.{isSound}
+use Rattle.engine.specs.Action.{World, Did, fromGot, actionsOf}
+use Rattle.engine.specs.Turn.{Entry, Turned, tries, remembers, remembered, counted, takesTurn, doTurn, tryTurn, turnOf, turnsFrom}
+use Rattle.engine.specs.Beat.{bufferSize, areInputs, begun, ended, beatOf, answered, beatAnswer}
+use Rattle.state.specs.Calls.{lockCall, unlockCall, cancelCall, resetCall}
+use Rattle.soundness.specs.GoodAnswers.{Not22, Holds, holds-then}
+use Rattle.soundness.specs.SetLaws.{lines-lined, lines-known}
+use Rattle.soundness.specs.CellLaws.{zero-in-range, ranged-each, cell-ranged, timer-cell, right-timer, CellsSound, cell-keeps, memory-keeps, state-right, right-state, set-sound, power-on}
+use Rattle.soundness.specs.CallLaws.{lockCall-keeps, unlockCall-keeps, cancelCall-keeps, resetCall-keeps, Answers, lockCall-answers, unlockCall-answers, cancelCall-answers, resetCall-r, resetCall-length, resetCall-code}
+use Rattle.soundness.specs.WriteLaws.{BeatSound}
+use Rattle.soundness.specs.ActionLaws.{WorldSound, condition-runs}
+use Rattle.soundness.specs.LineLaws.{actions-keep, LineClear, line-clear}
+
+-- ---- turns
+
+-- only a line with a keyword works a condition
+tries-keyword : (kw : ℕ) (m : Bool) → tries kw m ≡ true → isKeyword kw ≡ true
+unfolding tries
+tries-keyword kw m = by-word (eqb kw WHEN) (eqb kw FROM) (eqb kw WHENEVER) (eqb kw EVERY) refl refl refl refl
+  where
+    known : (w : ℕ) → isKeyword w ≡ true → eqb kw w ≡ true → isKeyword kw ≡ true
+    known w h e = rw (eqb-true kw w e) h
+
+    by-word : (a b c d : Bool) → eqb kw WHEN ≡ a → eqb kw FROM ≡ b → eqb kw WHENEVER ≡ c → eqb kw EVERY ≡ d → cond (a || b) (not m) (c || d) ≡ true → isKeyword kw ≡ true
+    by-word true b c d p q r t h = known WHEN refl p
+    by-word false true c d p q r t h = known FROM refl q
+    by-word false false true d p q r t h = known WHENEVER refl r
+    by-word false false false true p q r t h = known EVERY refl t
+    by-word false false false false p q r t h = clash (cc)
+
+module _ (s : List ℕ) (sound : soundLines s .sound ≡ true) (size : length s ≤ setSize) (cancelled : List Bool) (automatic : Bool) where
+  abbrev Fine : World → Type 0
+  Fine = WorldSound (soundLines s .count) cancelled
+
+  abbrev TurnFine : Turned → Type 0
+  TurnFine t = Fine (t .world)
+
+  abbrev numbers : List ℕ
+  numbers = soundLines s .numbers
+
+  -- the turn of a line of the set
+  module _ (k : ℕ) (inside : k < soundLines s .count) where
+    clear : LineClear s (getD s (1 + k) 0) (lineOf s k)
+    clear = let l = lines-lined s .listed sound in line-clear s (getD s (1 + k) 0) (l .faultless k inside) (l .positive k inside)
+
+    done-fine : (x : World) (es : List Entry) (b : Bool) → Fine x → Holds TurnFine (doTurn s numbers cancelled automatic (lineOf s k) k x es b)
+    unfolding doTurn
+    done-fine x es false h = h
+    done-fine x es true h =
+        holds-then (λ (d : Did). Fine (d .world)) TurnFine (actionsOf s numbers cancelled (lineOf s k .number) 8 (counted x k) (lineOf s k .actions)) _
+        (actions-keep s sound size cancelled (lineOf s k .number) (lineOf s k .keyword) (getD s (1 + k) 0) (lines-known s sound k inside)
+        8 setSize 0 0 (counted x k) (lineOf s k .actions) refl (record { vars = h .vars; flags = h .flags }) (clear .passed) (clear .actions))
+        (λ d e. e)
+
+    turn-fine : (x : World) → Fine x → Holds TurnFine (turnOf s numbers cancelled automatic (lineOf s k) k x)
+    unfolding turnOf tryTurn takesTurn
+    turn-fine x h =
+        let l = lineOf s k in
+        let m = getD (x .memory) k false in
+        ifNot (Holds TurnFine) (takesTurn s numbers cancelled automatic l k x) (λ e. h) λ e.
+        ifNot (Holds TurnFine) (tries (l .keyword) m) (λ t. done-fine x [] _ h) λ t.
+        holds-then (λ a. Unit {0}) TurnFine (fromGot (conditionValue s (x .vars .r) (x .vars .cells) (l .condition))) _
+        (condition-runs s (x .vars) (l .condition) (h .vars) (clear .condition (tries-keyword (l .keyword) m t))) λ a u.
+        let c = not-true (getD cancelled k false) (and-left (not (getD cancelled k false)) _ e) in
+        done-fine (remembered x k (remembers (l .keyword) m (isYes (a .0)))) _ _
+        (record { vars = h .vars; flags = memory-keeps (soundLines s .count) (x .locked) cancelled (x .memory) (h .flags) k inside _ c })
+
+  -- the turns of m lines from rank k on
+  pub turns-fine : (m k : ℕ) (x : World) → k + m ≤ soundLines s .count → Fine x → Holds TurnFine (turnsFrom s numbers cancelled automatic (soundLines s .items) m k x)
+  unfolding turnsFrom
+  turns-fine zero k x l h = h
+  turns-fine (suc m) k x l h =
+      rw (lines-lined s .listed sound .item k (omega arith))
+      (holds-then TurnFine TurnFine (turnOf s numbers cancelled automatic (lineOf s k) k x) _ (turn-fine k (omega arith) x h) λ t e.
+      holds-then TurnFine TurnFine (turnsFrom s numbers cancelled automatic (soundLines s .items) m (k + 1) (t .world)) _
+      (turns-fine m (k + 1) (t .world) (omega arith) e) (λ u f. f))
+
+-- ---- the beat as it begins
+
+-- what holds of every place of two lists holds of both together
+append-each : (P : ℤ → Type 0) (xs ys : List ℤ) → ((i : ℕ) → P (getD xs i (pos 0))) → ((i : ℕ) → P (getD ys i (pos 0))) → (i : ℕ) → P (getD (xs ++ ys) i (pos 0))
+append-each P [] ys p q i = q i
+append-each P (x ∷ xs) ys p q zero = p 0
+append-each P (x ∷ xs) ys p q (suc i) = append-each P xs ys (λ j. p (suc j)) q i
+
+abbrev InRange : ℤ → Type 0
+InRange z = inRange z ≡ true
+
+input-ranged : (b : Bool) → inRange (cond b (pos unit) (pos 0)) ≡ true
+input-ranged true = abs-range (pos unit) (omega arith)
+input-ranged false = zero-in-range
+
+one-ranged : (v : ℤ) → inRange v ≡ true → PlacesRanged (v ∷ [])
+one-ranged v h zero = h
+one-ranged v h (suc i) = zero-in-range
+
+inputs-ranged : (word n : ℕ) → PlacesRanged (inputCells word n)
+unfolding inputCells
+inputs-ranged word zero i = zero-in-range
+inputs-ranged word (suc n) i = append-each InRange (inputCells word n) (inputCell word n ∷ []) (inputs-ranged word n) (one-ranged (inputCell word n) (input-ranged (eqb (word / 2 ^ n % 2) 1))) i
+
+inputs-length : (word n : ℕ) → length (inputCells word n) ≡ n
+unfolding inputCells
+inputs-length word zero = refl
+inputs-length word (suc n) = omega (arith, length-append (inputCells word n) (inputCell word n ∷ []), inputs-length word n)
+
+grown-length : (runs : List Bool) (c : List ℤ) (n : ℕ) → length (grownCells runs c n) ≡ length c
+unfolding grownCells
+grown-length runs c zero = refl
+grown-length runs c (suc n) = length-set (grownCells runs c n) _ _ ∙ grown-length runs c n
+
+-- timers that have grown are still right
+grown-sound : (r : List ℤ) (runs : List Bool) (c : List ℤ) (n : ℕ) → n ≤ 8 → CellsSound r c → CellsSound r (grownCells runs c n)
+unfolding grownCells
+grown-sound r runs c zero l h = h
+grown-sound r runs c (suc n) l h =
+    let g = grown-sound r runs c n (omega arith) h in
+    cell-keeps r (grownCells runs c n) g (timerCells + n) _ (omega arith)
+    (right-timer (timerCells + n) _ (omega arith) (omega arith)
+    (grown-keeps (timer (getD (grownCells runs c n) (timerCells + n) (pos 0)) (getD runs n false))
+    (timer-cell (timerCells + n) _ (omega arith) (omega arith) (g .right (timerCells + n)))))
+
+inputs-size : (lent : List ℤ) → areInputs lent ≡ true → length lent ≡ 14
+unfolding areInputs
+inputs-size lent h = eqb-true (length lent) 14 (and-left (eqb (length lent) 14) _ h)
+
+lent-ranged : (lent : List ℤ) → areInputs lent ≡ true → PlacesRanged lent
+unfolding areInputs
+lent-ranged lent h = ranged-each lent (and-right (eqb (length lent) 14) _ h)
+
+-- the cells of a beat that begins from a sound state
+pub begun-cells : (r c : List ℤ) (word : ℕ) (lent : List ℤ) (runs : List Bool) → length r ≡ 164 → length c ≡ stateCells → areInputs lent ≡ true → CellsSound r c → BeatSound r (beatCells word lent runs c)
+unfolding beatCells
+begun-cells r c word lent runs lr lc a h = record {
+  long = lr;
+  sized = omega (arith, length-append (inputCells word 16) (lent ++ grownCells runs c 8), length-append lent (grownCells runs c 8), inputs-length word 16, inputs-size lent a, grown-length runs c 8);
+  ranged = append-each InRange (inputCells word 16) (lent ++ grownCells runs c 8) (inputs-ranged word 16)
+      (append-each InRange lent (grownCells runs c 8) (lent-ranged lent a) (λ i. cell-ranged i _ (grown-sound r runs c 8 (omega arith) h .right i)));
+  state =
+      let e : length (inputCells word 16 ++ lent) ≡ inputCount = omega (arith, length-append (inputCells word 16) lent, inputs-length word 16, inputs-size lent a) in
+      rw (← append-assoc (inputCells word 16) lent (grownCells runs c 8), drop-at (inputCells word 16 ++ lent) (grownCells runs c 8) inputCount e) (grown-sound r runs c 8 (omega arith) h);
+}
+
+-- ---- the beat
+
+-- a sound state of its size
+pub record Whole (s : List ℕ) (st : State) : Type 0 where
+  pub sound : isSound s st ≡ true
+  pub long : length (st .r) ≡ 164
+  pub sized : length (st .cells) ≡ stateCells
+
+-- a beat that goes well leaves one, and it stops by no 22
+beat-holds : (s : List ℕ) (st : State) (automatic : Bool) (word : ℕ) (lent : List ℤ) (size : ℕ) → length s ≤ setSize → Whole s st →
+    Holds (λ t. Whole s (ended st (t .world))) (beatOf s st automatic word lent size)
+unfolding beatOf begun ended
+beat-holds s st automatic word lent size l h =
+    let y = h .sound in
+    ifNot P (isSound s st) (λ e. clash (cc)) λ e.
+    either P (ltb size bufferSize) (λ b z. omega arith) λ b.
+    ifNot P (areInputs lent) (λ a z. omega arith) λ a.
+    let vars = begun-cells (st .r) (st .cells) word lent (st .runs) (h .long) (h .sized) a (state-right s st e .cells) in
+    holds-then (λ (t : Turned). WorldSound (soundLines s .count) (st .cancelled) (t .world)) (λ t. Whole s (ended st (t .world)))
+    (turnsFrom s (soundLines s .numbers) (st .cancelled) automatic (soundLines s .items) (soundLines s .count) 0 (begun st word lent)) _
+    (turns-fine s (set-sound s st e) l (st .cancelled) automatic (soundLines s .count) 0 (begun st word lent) (omega arith) (record { vars = vars; flags = state-right s st e .flags })) λ t f.
+    record {
+      sound = right-state s (ended st (t .world)) (set-sound s st e) (record { cells = f .vars .state; flags = f .flags });
+      long = f .vars .long;
+      sized = omega (arith, length-drop inputCount (t .world .vars .cells), f .vars .sized);
+    }
+  where
+    P : Answer Turned → Type 0
+    P = Holds (λ t. Whole s (ended st (t .world)))
+
+answered-whole : (s : List ℕ) (st : State) (x : Answer Turned) → Whole s st → Holds (λ t. Whole s (ended st (t .world))) x → Whole s (answered st x .state) × Not22 (answered st x .code)
+answered-whole s st (good t) h e = (e, λ z. omega arith)
+answered-whole s st (stop k) h e = (h, e)
+
+-- a beat leaves a sound state of its size, whatever it answers, and that is not 22
+pub beat-answers : (s : List ℕ) (st : State) (automatic : Bool) (word : ℕ) (lent : List ℤ) (b : List ℕ) → length s ≤ setSize → Whole s st →
+    Whole s (beatAnswer s st automatic word lent b .state) × Not22 (beatAnswer s st automatic word lent b .code)
+unfolding beatAnswer
+beat-answers s st automatic word lent b l h =
+    answered-whole s st (beatOf s st automatic word lent (length b)) h (beat-holds s st automatic word lent (length b) l h)
+
+-- so a beat keeps a sound state sound
+pub beat-keeps : (s : List ℕ) (st : State) (automatic : Bool) (word : ℕ) (lent : List ℤ) (b : List ℕ) → length s ≤ setSize → length (st .r) ≡ 164 → length (st .cells) ≡ stateCells →
+    isSound s st ≡ true → isSound s (beatAnswer s st automatic word lent b .state) ≡ true
+beat-keeps s st automatic word lent b l lr lc h = beat-answers s st automatic word lent b l (record { sound = h; long = lr; sized = lc }) .0 .sound
+
+-- ---- call after call
+
+-- what the host can call after a load
+pub data Call : Type 0 where
+  lock : ℕ → Call
+  unlock : ℕ → Call
+  cancel : ℕ → Call
+  reset : Call
+  beat : Bool → ℕ → List ℤ → List ℕ → Call
+
+-- the state that a call leaves
+abbrev pub after : List ℕ → State → Call → State
+after s st (lock n) = lockCall s st n .state
+after s st (unlock n) = unlockCall s st n .state
+after s st (cancel n) = cancelCall s st n .state
+after s st reset = resetCall s st .state
+after s st (beat automatic word lent b) = beatAnswer s st automatic word lent b .state
+
+-- and its code
+abbrev pub codeAfter : List ℕ → State → Call → ℕ
+codeAfter s st (lock n) = lockCall s st n .code
+codeAfter s st (unlock n) = unlockCall s st n .code
+codeAfter s st (cancel n) = cancelCall s st n .code
+codeAfter s st reset = resetCall s st .code
+codeAfter s st (beat automatic word lent b) = beatAnswer s st automatic word lent b .code
+
+-- the state after calls, the first first
+unfoldable pub afterAll : List ℕ → State → List Call → State
+afterAll s st [] = st
+afterAll s st (c ∷ cs) = afterAll s (after s st c) cs
+
+unchanged : (s : List ℕ) (st : State) (c : Called) → Whole s st → isSound s (c .state) ≡ true → Answers st c → Whole s (c .state)
+unchanged s st c h e a = record { sound = e; long = rw (a .r) (h .long); sized = rw (a .cells) (h .sized) }
+
+-- each call keeps a sound state sound
+pub call-keeps : (s : List ℕ) (st : State) (c : Call) → length s ≤ setSize → Whole s st → Whole s (after s st c)
+call-keeps s st (lock n) l h = unchanged s st (lockCall s st n) h (lockCall-keeps s st n (h .sound)) (lockCall-answers s st n (h .sound))
+call-keeps s st (unlock n) l h = unchanged s st (unlockCall s st n) h (unlockCall-keeps s st n (h .sound)) (unlockCall-answers s st n (h .sound))
+call-keeps s st (cancel n) l h = unchanged s st (cancelCall s st n) h (cancelCall-keeps s st n (h .sound)) (cancelCall-answers s st n (h .sound))
+call-keeps s st reset l h = record { sound = resetCall-keeps s st (h .sound); long = rw (resetCall-r s st) (h .long); sized = resetCall-length s st (h .sized) }
+call-keeps s st (beat automatic word lent b) l h = beat-answers s st automatic word lent b l h .0
+
+-- and answers no 22
+pub call-not22 : (s : List ℕ) (st : State) (c : Call) → length s ≤ setSize → Whole s st → Not22 (codeAfter s st c)
+call-not22 s st (lock n) l h = lockCall-answers s st n (h .sound) .code
+call-not22 s st (unlock n) l h = unlockCall-answers s st n (h .sound) .code
+call-not22 s st (cancel n) l h = cancelCall-answers s st n (h .sound) .code
+call-not22 s st reset l h = resetCall-code s st (h .sound)
+call-not22 s st (beat automatic word lent b) l h = beat-answers s st automatic word lent b l h .1
+
+-- so do any calls
+pub calls-keep : (s : List ℕ) (st : State) (cs : List Call) → length s ≤ setSize → Whole s st → Whole s (afterAll s st cs)
+unfolding afterAll
+calls-keep s st [] l h = h
+calls-keep s st (c ∷ cs) l h = calls-keep s (after s st c) cs l (call-keeps s st c l h)
+
+-- power-on is a sound state of its size
+pub power-on-whole : (s : List ℕ) → soundLines s .sound ≡ true → Whole s powerOn
+unfolding powerOn
+power-on-whole s e = record { sound = power-on s e; long = refl; sized = refl }
+
+-- from power-on with a sound set, every state is sound
+pub always-sound : (s : List ℕ) (cs : List Call) → length s ≤ setSize → soundLines s .sound ≡ true → isSound s (afterAll s powerOn cs) ≡ true
+always-sound s cs l e = calls-keep s powerOn cs l (power-on-whole s e) .sound
+
+-- and 22 never arises
+pub never-22 : (s : List ℕ) (cs : List Call) (c : Call) → length s ≤ setSize → soundLines s .sound ≡ true → Not22 (codeAfter s (afterAll s powerOn cs) c)
+never-22 s cs c l e = call-not22 s (afterAll s powerOn cs) c l (calls-keep s powerOn cs l (power-on-whole s e))
