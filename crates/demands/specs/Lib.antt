@@ -11,3 +11,4 @@ pub mod Consequences
 pub mod Refusals
 pub mod Unique
 pub mod Cases
+pub mod Table

@@ -1,0 +1,103 @@
+-- Loading: text to code, line and set (document 01, "Lines of text" and "Codes"). Definitions only.
+use mathlib.Core.Bool.{Bool, true, false}
+use mathlib.Core.List.{List, [], _∷_, _++_}
+use Prim.Native.Nat.{ℕ, zero, suc}
+use lib.Dec.{ltb, eqb}
+use lib.ListN.{length}
+use Rattle.code.specs.Fault.{lineAt}
+use Rattle.code.specs.Token.{setSize}
+use Rattle.state.specs.Set.{maxLines, isKnown, namesKnown, emptySet}
+use Rattle.state.specs.State.{powerOn}
+use Rattle.text.specs.Tokens.{Tokens, tokensOf}
+use Rattle.text.specs.Lines.{Numbered, tokenLines}
+use Rattle.reader.specs.declared.load.Loaded.{Loaded}
+use Rattle.reader.specs.Row.{Row, ended, numbersOf, byNumber, setOf}
+
+abbrev pub textSize : ℕ
+textSize = 4096
+
+abbrev pub tooLong : ℕ
+tooLong = 1
+
+abbrev pub tooManyLines : ℕ
+tooManyLines = 2
+
+abbrev pub noToken : ℕ
+noToken = 3
+
+abbrev pub usedAbove : ℕ
+usedAbove = 11
+
+abbrev pub notInSet : ℕ
+notInSet = 12
+
+-- ---- a line: its lowest fault of 3 to 11
+
+-- the number of a line that has no fault of 4 to 10
+abbrev pub numberIn : List ℕ → ℕ
+numberIn ts = lineAt (ended ts) 0 .number
+
+-- 4 to 11 of a line's tokens, below the lines rs
+unfoldable pub tokensFault : List Row → List ℕ → ℕ
+tokensFault rs ts =
+    elim (lineAt (ended ts) 0 .fault) [
+      | zero ↦ elim (isKnown (numbersOf rs) (numberIn ts)) [ true ↦ usedAbove | false ↦ 0 ]
+      | suc k ↦ suc k
+    ]
+
+-- 3 to 11
+unfoldable pub faultBelow : List Row → Tokens → ℕ
+faultBelow rs ts = elim (ts .good) [ true ↦ tokensFault rs (ts .list) | false ↦ noToken ]
+
+-- ---- a text
+
+-- the lines that are taken, as the text has them, or the code and the line that refuse the text
+pub data Outcome : Type 0 where
+  taken : List Row → Outcome
+  refused : ℕ → ℕ → Outcome
+
+-- a line with tokens, as it is taken
+abbrev pub rowOf : Numbered → Row
+rowOf l = record { place = l .place; number = numberIn (tokensOf (l .body) .list); tokens = tokensOf (l .body) .list }
+
+-- the first faulty line below the lines rs
+unfoldable pub rowsFrom : List Row → List Numbered → Outcome
+rowsFrom rs [] = taken rs
+rowsFrom rs (l ∷ ls) =
+    elim (faultBelow rs (tokensOf (l .body))) [
+      | zero ↦ rowsFrom (rs ++ (rowOf l ∷ [])) ls
+      | suc k ↦ refused (suc k) (l .place)
+    ]
+
+-- 12: the place of the first line with a LOCK or UNLOCK of a number that is none of ns; 0 if there is none
+unfoldable pub firstUnknown : List ℕ → List Row → ℕ
+firstUnknown ns [] = 0
+firstUnknown ns (r ∷ rs) = elim (namesKnown (ended (r .tokens)) ns setSize 0) [ true ↦ firstUnknown ns rs | false ↦ r .place ]
+
+unfoldable pub named : Outcome → Outcome
+named (taken rs) = elim (firstUnknown (numbersOf rs) rs) [ zero ↦ taken rs | suc k ↦ refused notInSet (suc k) ]
+named (refused c k) = refused c k
+
+-- 1 and 2 with line 0, first; then the first faulty line; then 12
+unfoldable pub outcome : List ℕ → Outcome
+outcome t =
+    elim (ltb textSize (length t)) [
+      | true ↦ refused tooLong 0
+      | false ↦
+          elim (ltb maxLines (length (tokenLines t))) [
+            | true ↦ refused tooManyLines 0
+            | false ↦ named (rowsFrom [] (tokenLines t))
+          ]
+    ]
+
+-- ---- what loading answers, and the set
+
+unfoldable pub loadAnswer : List ℕ → Loaded
+loadAnswer t =
+    elim (outcome t) [
+      | taken rs ↦ record { code = 0; line = 0; state = powerOn }
+      | refused c k ↦ record { code = c; line = k; state = powerOn }
+    ]
+
+unfoldable pub loadSet : List ℕ → List ℕ
+loadSet t = elim (outcome t) [ taken rs ↦ setOf (byNumber rs) | refused c k ↦ emptySet ]
