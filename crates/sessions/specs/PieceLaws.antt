@@ -1,0 +1,369 @@
+-- Whatever the pieces of the input, the bytes handed over, in order, are those of the definition. Assumes nothing.
+use mathlib.Core.Path.{_≡_, refl, sym, ap, _∙_}
+use mathlib.Core.Bool.{true, false, not}
+use mathlib.Core.List.{List, [], _∷_, _++_, append-assoc, append-nil}
+use mathlib.Core.Logic.{_⊎_, inl, inr}
+use Prim.Native.Nat.{ℕ, zero, suc, _+_, min, _≤_, _<_}
+use native.Mathlib.Omega.{arith}
+use lib.Dec.{eqb, leb, ltb}
+use lib.ListN.{length, take, drop, length-append, length-drop, take-append-drop}
+use lib.Seq.{take-length, take-add}
+use borrow.Author.Tests.{leb-true, leb-false, ltb-true, ltb-false}
+use Rattle.values.specs.Choice.{decide, refused, either}
+use Rattle.values.specs.Numbers.{clash}
+use Rattle.text.specs.Byte.{LF, inLine, run}
+use Rattle.text.specs.Lines.{before, textLines}
+use Rattle.transcript.specs.declared.session.Place.{Place}
+use Rattle.transcript.specs.Run.{synrun}
+use Rattle.transcript.specs.Machine.{TEXT, BEATS, keptSize, Machine, Fed, begun, withPlace, isFit, placeOn, starOn, chunk, lineEnd, behind, fedLines, finished, finishedText, outSize, lineRoom, Work, workFrom, worked}
+use Rattle.transcript.specs.Reading.{readOn}
+use Rattle.transcript.specs.RoomLaws.{Fit, fit-parts, fit-whole, Lives, chunk-lives, line-lives, line-room}
+use Rattle.sessions.specs.MachineLaws.{Held, chunk-text, chunk-beats, chunk-else, fed-line, fed-held, lines-some, pieces}
+use Rattle.sessions.specs.SessionLaws.{prints, over-fed, over-finished, starting, session-prints}
+
+-- ---- no bytes of a line change nothing
+
+same-place : (p : Place) → p .size ≤ keptSize → placeOn p [] ≡ p
+unfolding placeOn starOn
+same-place p h =
+    let e : min keptSize (p .size + 0) ≡ p .size = omega arith in
+    λ i. record { size = e i; start = p .start; star = p .star }
+
+fit-chunk : (m : Machine) → Fit (m .session) → chunk m [] ≡ m
+unfolding readOn
+fit-chunk m f =
+    let x = m .session in
+    decide (chunk m [] ≡ m) (eqb (x .phase) TEXT)
+    (λ e. chunk-text m [] e ∙ placed (same-place (x .place) (f .size))) λ e.
+    decide (chunk m [] ≡ m) (eqb (x .phase) BEATS) (λ g. chunk-beats m [] g) (λ g. chunk-else m [] e g)
+  where
+    placed : placeOn (m .session .place) [] ≡ m .session .place → record { text = m .text; lines = m .lines; session = withPlace (m .session) (placeOn (m .session .place) []) } ≡ m
+    placed q = λ i. record { text = m .text; lines = m .lines; session = withPlace (m .session) (q i) }
+
+pub nothing-fed : (m : Machine) → Lives (m .session) → fedLines m (textLines []) ≡ record { machine = m; output = [] }
+unfolding textLines fedLines
+nothing-fed m (inl f) = λ i. record { machine = fit-chunk m f i; output = [] }
+nothing-fed m (inr o) = over-fed ([] ∷ []) m (o .0)
+
+-- ---- the first line of some input
+
+module _ (b : ℕ) (bs : List ℕ) where
+  run-end : eqb b LF ≡ true → run inLine (b ∷ bs) ≡ 0
+  unfolding run
+  run-end h = either (λ (y : ℕ). y ≡ 0) (not (eqb b LF)) (λ e. let q = rw h at e in clash (cc)) (λ e. refl)
+
+  run-more : eqb b LF ≡ false → run inLine (b ∷ bs) ≡ suc (run inLine bs)
+  unfolding run
+  run-more h = either (λ (y : ℕ). y ≡ suc (run inLine bs)) (not (eqb b LF)) (λ e. refl) (λ e. let q = rw h at e in clash (cc))
+
+  lines-end : eqb b LF ≡ true → textLines (b ∷ bs) ≡ [] ∷ textLines bs
+  unfolding textLines
+  lines-end h = either (λ (y : List (List ℕ)). y ≡ [] ∷ textLines bs) (eqb b LF) (λ e. refl) (λ e. clash (cc))
+
+  lines-more : eqb b LF ≡ false → textLines (b ∷ bs) ≡ before b (textLines bs)
+  unfolding textLines
+  lines-more h = either (λ (y : List (List ℕ)). y ≡ before b (textLines bs)) (eqb b LF) (λ e. clash (cc)) (λ e. refl)
+
+-- a line and its LF
+first-line : (t u : List ℕ) → run inLine t < length t → textLines (take (run inLine t + 1) t ++ u) ≡ take (run inLine t) t ∷ textLines u
+first-line [] u h = absurd (omega arith)
+first-line (b ∷ bs) u h =
+    decide (textLines (take (run inLine (b ∷ bs) + 1) (b ∷ bs) ++ u) ≡ take (run inLine (b ∷ bs)) (b ∷ bs) ∷ textLines u) (eqb b LF)
+    (λ e. rw (run-end b bs e) (lines-end b u e))
+    (λ e. let r = run-more b bs e in
+    let a : suc (run inLine bs) + 1 ≡ suc (run inLine bs + 1) = omega arith in
+    rw (r, a) (lines-more b (take (run inLine bs + 1) bs ++ u) e ∙ ap (before b) (first-line bs u (omega arith))))
+
+-- all of it, without an LF
+only-line : (t : List ℕ) → length t ≤ run inLine t → textLines t ≡ t ∷ []
+unfolding textLines
+only-line [] h = refl
+only-line (b ∷ bs) h =
+    decide (textLines (b ∷ bs) ≡ (b ∷ bs) ∷ []) (eqb b LF)
+    (λ e. let r = run-end b bs e in absurd (omega arith))
+    (λ e. let r = run-more b bs e in lines-more b bs e ∙ ap (before b) (only-line bs (omega arith)))
+
+run-within : (t : List ℕ) → run inLine t ≤ length t
+unfolding run
+run-within [] = omega arith
+run-within (b ∷ bs) = either (λ (y : ℕ). y ≤ suc (length bs)) (not (eqb b LF)) (λ e. let h = run-within bs in omega arith) (λ e. omega arith)
+
+-- ---- a piece of input
+
+-- what was taken of t comes to this: the machine and the output of feeding it, behind k bytes taken and o printed
+pub record Works (m : Machine) (t : List ℕ) (k : ℕ) (o : List ℕ) (w : Work) : Type 0 where
+  pub part : ℕ
+  pub taken : w .taken ≡ k + part
+  pub within : part ≤ length t
+  pub feeds : behind o (fedLines m (textLines (take part t))) ≡ record { machine = w .machine; output = w .output }
+  pub lives : Lives (w .machine .session)
+
+-- nothing of it
+stands : (m : Machine) (t : List ℕ) (k : ℕ) (o : List ℕ) → Lives (m .session) → Works m t k o (record { machine = m; taken = k; output = o })
+stands m t k o h = record {
+  part = 0;
+  taken = omega arith;
+  within = omega arith;
+  feeds = ap (behind o) (nothing-fed m h) ∙ (λ i. record { machine = m; output = append-nil o i });
+  lives = h;
+}
+
+-- all of it
+takes-all : (m : Machine) (t : List ℕ) (k : ℕ) (o : List ℕ) → Lives (m .session) → length t ≤ run inLine t →
+    Works m t k o (record { machine = chunk m (take (run inLine t) t); taken = k + run inLine t; output = o })
+unfolding fedLines
+takes-all m t k o h l =
+    let w = run-within t in
+    let e : run inLine t ≡ length t = omega arith in
+    let a : take (run inLine t) t ≡ t = rw e (take-length t) in
+    record {
+      part = run inLine t;
+      taken = refl;
+      within = w;
+      feeds = rw (a, only-line t l) (λ i. record { machine = chunk m t; output = append-nil o i });
+      lives = chunk-lives m (take (run inLine t) t) h;
+    }
+
+-- a line and its LF, and then what is taken of the rest
+takes-line : (m : Machine) (t : List ℕ) (k : ℕ) (o : List ℕ) (w : Work) → run inLine t < length t →
+    let f = lineEnd (chunk m (take (run inLine t) t)) in
+    Works (f .machine) (drop (run inLine t + 1) t) (k + (run inLine t + 1)) (o ++ f .output) w → Works m t k o w
+takes-line m t k o w l x =
+    let f = lineEnd (chunk m (take (run inLine t) t)) in
+    let u = drop (run inLine t + 1) t in
+    let d = length-drop (run inLine t + 1) t in
+    let n = run inLine t + 1 in
+    let a = x .taken in
+    let b = x .within in
+    let g = fedLines (f .machine) (textLines (take (x .part) u)) in
+    record {
+      part = n + x .part;
+      taken = omega arith;
+      within = omega arith;
+      feeds = ap (λ (y : List ℕ). behind o (fedLines m (textLines y))) (take-add n (x .part) t)
+          ∙ ap (λ (y : List (List ℕ)). behind o (fedLines m y)) (first-line t (take (x .part) u) l)
+          ∙ ap (behind o) (fed-line m (take (run inLine t) t) (textLines (take (x .part) u)) (lines-some (take (x .part) u)))
+          ∙ (λ i. record { machine = g .machine; output = sym (append-assoc o (f .output) (g .output)) i })
+          ∙ x .feeds;
+      lives = x .lives;
+    }
+
+work-feeds : (n : ℕ) (m : Machine) (t : List ℕ) (k : ℕ) (o : List ℕ) → Lives (m .session) → Works m t k o (workFrom n m t k o)
+unfolding workFrom
+work-feeds zero m t k o h = stands m t k o h
+work-feeds (suc n) m t k o h =
+    let r = run inLine t in
+    let c = chunk m (take r t) in
+    either (Works m t k o) (leb (length o + lineRoom) outSize)
+    (λ e. either (Works m t k o) (ltb r (length t))
+    (λ g. takes-line m t k o _ (ltb-true r (length t) g)
+    (work-feeds n (lineEnd c .machine) (drop (r + 1) t) (k + (r + 1)) (o ++ lineEnd c .output) (line-lives c (chunk-lives m (take r t) h))))
+    (λ g. takes-all m t k o h (ltb-false r (length t) g)))
+    (λ e. stands m t k o h)
+
+-- a piece, and a session that is over
+worked-works : (m : Machine) (t : List ℕ) → Lives (m .session) → Works m t 0 [] (worked m t)
+unfolding worked
+worked-works m t h = either (Works m t 0 []) (isFit (m .session)) (λ e. work-feeds (length t + 1) m t 0 [] h) (λ e. passed-over e h)
+  where
+    passed-over : isFit (m .session) ≡ false → Lives (m .session) → Works m t 0 [] (record { machine = m; taken = length t; output = [] })
+    passed-over e (inl f) = let q = fit-whole (m .session) f in clash (cc)
+    passed-over e (inr o) = record { part = length t; taken = omega arith; within = omega arith; feeds = over-fed (textLines (take (length t) t)) m (o .0); lives = inr o }
+
+-- what is taken of a piece is fed, line by line
+pub worked-feeds : (m : Machine) (t : List ℕ) → Lives (m .session) →
+    fedLines m (textLines (take (worked m t .taken) t)) ≡ record { machine = worked m t .machine; output = worked m t .output }
+worked-feeds m t h =
+    let x = worked-works m t h in
+    let a = x .taken in
+    let e : worked m t .taken ≡ x .part = omega arith in
+    rw e (x .feeds)
+
+pub worked-lives : (m : Machine) (t : List ℕ) → Lives (m .session) → Lives (worked m t .machine .session)
+worked-lives m t h = worked-works m t h .lives
+
+pub worked-within : (m : Machine) (t : List ℕ) → Lives (m .session) → worked m t .taken ≤ length t
+worked-within m t h =
+    let x = worked-works m t h in
+    let a = x .taken in
+    let b = x .within in
+    omega arith
+
+-- all of it is taken, or much was printed
+abbrev Goes : ℕ → List ℕ → Work → Type 0
+Goes k t w = (w .taken ≡ k + length t) ⊎ (4096 < length (w .output))
+
+goes-on : (k : ℕ) (t : List ℕ) (n : ℕ) (w : Work) → n ≤ length t → Goes (k + n) (drop n t) w → Goes k t w
+goes-on k t n w l (inl e) = let d = length-drop n t in inl (omega arith)
+goes-on k t n w l (inr e) = inr e
+
+work-goes : (n : ℕ) (m : Machine) (t : List ℕ) (k : ℕ) (o : List ℕ) → length t < n → Goes k t (workFrom n m t k o)
+unfolding workFrom
+work-goes zero m t k o h = absurd (omega arith)
+work-goes (suc n) m t k o h =
+    let r = run inLine t in
+    let c = chunk m (take r t) in
+    let f = lineEnd c in
+    let u = drop (r + 1) t in
+    either (Goes k t) (leb (length o + lineRoom) outSize)
+    (λ e. either (Goes k t) (ltb r (length t))
+    (λ g. let l = ltb-true r (length t) g in
+    let d = length-drop (r + 1) t in
+    goes-on k t (r + 1) (workFrom n (f .machine) u (k + (r + 1)) (o ++ f .output)) (omega arith) (work-goes n (f .machine) u (k + (r + 1)) (o ++ f .output) (omega arith)))
+    (λ g. let l = ltb-false r (length t) g in let u = run-within t in inl (omega arith)))
+    (λ e. let l = leb-false (length o + lineRoom) outSize e in inr (omega arith))
+
+pub worked-goes : (m : Machine) (t : List ℕ) → (worked m t .taken ≡ length t) ⊎ (4096 < length (worked m t .output))
+unfolding worked
+worked-goes m t =
+    either (λ (w : Work). (w .taken ≡ length t) ⊎ (4096 < length (w .output))) (isFit (m .session))
+    (λ e. from-none (workFrom (length t + 1) m t 0 []) (work-goes (length t + 1) m t 0 [] (omega arith)))
+    (λ e. inl refl)
+  where
+    from-none : (w : Work) → Goes 0 t w → (w .taken ≡ length t) ⊎ (4096 < length (w .output))
+    from-none w (inl e) = inl (omega arith)
+    from-none w (inr e) = inr e
+
+-- what is printed of a piece has room where output is handed over in
+work-room : (n : ℕ) (m : Machine) (t : List ℕ) (k : ℕ) (o : List ℕ) → length o ≤ outSize → length (workFrom n m t k o .output) ≤ outSize
+unfolding workFrom
+work-room zero m t k o h = h
+work-room (suc n) m t k o h =
+    let P : Work → Type 0 = λ w. length (w .output) ≤ outSize in
+    let r = run inLine t in
+    let c = chunk m (take r t) in
+    let a = line-room c in
+    let b = length-append o (lineEnd c .output) in
+    either P (leb (length o + lineRoom) outSize)
+    (λ e. let l = leb-true (length o + lineRoom) outSize e in
+    either P (ltb r (length t)) (λ g. work-room n (lineEnd c .machine) (drop (r + 1) t) (k + (r + 1)) (o ++ lineEnd c .output) (omega arith)) (λ g. h))
+    (λ e. h)
+
+pub worked-room : (m : Machine) (t : List ℕ) → length (worked m t .output) ≤ outSize
+unfolding worked
+worked-room m t = either (λ (w : Work). length (w .output) ≤ outSize) (isFit (m .session)) (λ e. work-room (length t + 1) m t 0 [] (omega arith)) (λ e. omega arith)
+
+-- something of it is taken, if there is something
+nothing-taken : (m : Machine) (t : List ℕ) → Lives (m .session) → worked m t .taken ≡ 0 → worked m t .output ≡ []
+nothing-taken m t h z =
+    let f = worked-feeds m t h in
+    let e : fedLines m (textLines []) ≡ record { machine = worked m t .machine; output = worked m t .output } = rw z at f in
+    ap (λ (y : Fed). y .output) (sym e ∙ nothing-fed m h)
+
+pub worked-some : (m : Machine) (b : ℕ) (bs : List ℕ) → Lives (m .session) → 1 ≤ worked m (b ∷ bs) .taken
+worked-some m b bs h = by-progress (worked-goes m (b ∷ bs))
+  where
+    by-progress : (worked m (b ∷ bs) .taken ≡ length (b ∷ bs)) ⊎ (4096 < length (worked m (b ∷ bs) .output)) → 1 ≤ worked m (b ∷ bs) .taken
+    by-progress (inl e) = omega arith
+    by-progress (inr e) =
+        decide (1 ≤ worked m (b ∷ bs) .taken) (leb 1 (worked m (b ∷ bs) .taken)) (leb-true 1 (worked m (b ∷ bs) .taken)) λ n.
+        let q = leb-false 1 (worked m (b ∷ bs) .taken) n in
+        let o = ap (λ (y : List ℕ). length y) (nothing-taken m (b ∷ bs) h (omega arith)) in
+        absurd (omega arith)
+
+-- of any session, fit or not: no more is taken than there is, and something of a piece that is not empty
+pub taken-within : (m : Machine) (t : List ℕ) → worked m t .taken ≤ length t
+unfolding worked
+taken-within m t =
+    decide (worked m t .taken ≤ length t) (isFit (m .session))
+    (λ e. worked-within m t (inl (fit-parts (m .session) e)))
+    (λ e. let w = ap (λ (y : Work). y .taken) (refused (isFit (m .session)) (workFrom (length t + 1) m t 0 []) (record { machine = m; taken = length t; output = [] }) e) in omega arith)
+
+pub taken-some : (m : Machine) (t : List ℕ) → 1 ≤ length t → 1 ≤ worked m t .taken
+unfolding worked
+taken-some m [] h = absurd (omega arith)
+taken-some m (b ∷ bs) h =
+    decide (1 ≤ worked m (b ∷ bs) .taken) (isFit (m .session))
+    (λ e. worked-some m b bs (inl (fit-parts (m .session) e)))
+    (λ e. let w = ap (λ (y : Work). y .taken) (refused (isFit (m .session)) (workFrom (length (b ∷ bs) + 1) m (b ∷ bs) 0 []) (record { machine = m; taken = length (b ∷ bs); output = [] }) e) in omega arith)
+
+-- ---- the promise
+
+-- all pieces as one input
+abbrev pub joined : List (List ℕ) → List ℕ
+joined [] = []
+joined (p ∷ ps) = p ++ joined ps
+
+-- the bytes handed over from a machine on, for the pieces left: each piece is worked, again with what was not taken of it, until all is; then the end of input is
+pub data Handed : Machine → List (List ℕ) → List ℕ → Type 0 where
+  ends : (m : Machine) → Handed m [] (finishedText m)
+  next : (m : Machine) (ps : List (List ℕ)) (o : List ℕ) → Handed m ps o → Handed m ([] ∷ ps) o
+  works : (m : Machine) (p : List ℕ) (ps : List (List ℕ)) (o : List ℕ) → Handed (worked m p .machine) (drop (worked m p .taken) p ∷ ps) o → Handed m (p ∷ ps) (worked m p .output ++ o)
+
+prints-append : (m : Machine) (a b : List ℕ) → Held m → prints m (textLines (a ++ b)) ≡ fedLines m (textLines a) .output ++ prints (fedLines m (textLines a) .machine) (textLines b)
+unfolding prints
+prints-append m a b h =
+    let f = fedLines m (textLines a) in
+    let g = fedLines (f .machine) (textLines b) in
+    ap (λ (y : Fed). y .output ++ finished (y .machine)) (pieces m a b h) ∙ append-assoc (f .output) (g .output) (finished (g .machine))
+
+-- the end of input
+finish-same : (m : Machine) → Lives (m .session) → finishedText m ≡ finished m
+unfolding finishedText
+finish-same m h = either (λ (y : List ℕ). y ≡ finished m) (isFit (m .session)) (λ e. refl) (λ e. sym (none-left e h))
+  where
+    none-left : isFit (m .session) ≡ false → Lives (m .session) → finished m ≡ []
+    none-left e (inl f) = let q = fit-whole (m .session) f in clash (cc)
+    none-left e (inr o) = over-finished m (o .0)
+
+finish-prints : (m : Machine) → Lives (m .session) → finishedText m ≡ prints m (textLines [])
+unfolding prints
+finish-prints m h = finish-same m h ∙ sym (ap (λ (y : Fed). y .output ++ finished (y .machine)) (nothing-fed m h))
+
+-- what a piece prints, and then the rest of it and of the input
+worked-prints : (m : Machine) (p rest : List ℕ) → Lives (m .session) → Held m →
+    worked m p .output ++ prints (worked m p .machine) (textLines (drop (worked m p .taken) p ++ rest)) ≡ prints m (textLines (p ++ rest))
+worked-prints m p rest h t =
+    let k = worked m p .taken in
+    let on : Fed → List ℕ = λ f. f .output ++ prints (f .machine) (textLines (drop k p ++ rest)) in
+    sym (ap on (worked-feeds m p h)) ∙ sym (prints-append m (take k p) (drop k p ++ rest) t)
+    ∙ ap (λ (y : List ℕ). prints m (textLines y)) (sym (append-assoc (take k p) (drop k p) rest) ∙ ap (λ (y : List ℕ). y ++ rest) (take-append-drop k p))
+
+worked-held : (m : Machine) (p : List ℕ) → Lives (m .session) → length (worked m p .machine .text) ≡ length (m .text)
+worked-held m p h = ap (λ (y : Fed). length (y .machine .text)) (sym (worked-feeds m p h)) ∙ fed-held (textLines (take (worked m p .taken) p)) m
+
+-- the bytes handed over are all that is printed
+handed-prints : (m : Machine) (ps : List (List ℕ)) (o : List ℕ) → Handed m ps o → Lives (m .session) → Held m → o ≡ prints m (textLines (joined ps))
+handed-prints m ps o (ends x) h t = finish-prints x h
+handed-prints m ps o (next x rest u w) h t = handed-prints x rest u w h t
+handed-prints m ps o (works x p rest u w) h t =
+    let e = worked-held x p h in
+    ap (λ (y : List ℕ). worked x p .output ++ y) (handed-prints (worked x p .machine) (drop (worked x p .taken) p ∷ rest) u w (worked-lives x p h) (omega arith))
+    ∙ worked-prints x p (joined rest) h t
+
+-- a session at the beginning is fit
+begun-lives : Lives begun
+unfolding isFit
+begun-lives = inl (fit-parts begun refl)
+
+-- THE PROMISE: whatever the pieces, and whatever the text and the set held before, the bytes handed over are those of the definition for the whole input
+pub whatever-pieces : (text set : List ℕ) (ps : List (List ℕ)) (o : List ℕ) → length text ≡ keptSize → Handed (starting text set) ps o → o ≡ synrun (joined ps)
+unfolding prints
+whatever-pieces text set ps o n w = handed-prints (starting text set) ps o w begun-lives (omega arith) ∙ session-prints text set (joined ps) n
+
+-- so two ways to cut one input into pieces come to the same bytes
+pub same-bytes : (text set : List ℕ) (ps qs : List (List ℕ)) (o u : List ℕ) → length text ≡ keptSize → joined ps ≡ joined qs →
+    Handed (starting text set) ps o → Handed (starting text set) qs u → o ≡ u
+same-bytes text set ps qs o u n e v w = whatever-pieces text set ps o n v ∙ ap synrun e ∙ sym (whatever-pieces text set qs u n w)
+
+-- ---- and each session comes to an end
+
+piece-ends : (n : ℕ) (m : Machine) (p : List ℕ) (ps : List (List ℕ)) → length p ≤ n → Lives (m .session) →
+    ((x : Machine) → Lives (x .session) → (o : List ℕ) × Handed x ps o) → (o : List ℕ) × Handed m (p ∷ ps) o
+piece-ends zero m [] ps l h rest = let r = rest m h in (r .0, next m ps (r .0) (r .1))
+piece-ends zero m (b ∷ bs) ps l h rest = absurd (omega arith)
+piece-ends (suc n) m [] ps l h rest = let r = rest m h in (r .0, next m ps (r .0) (r .1))
+piece-ends (suc n) m (b ∷ bs) ps l h rest =
+    let p = b ∷ bs in
+    let k = worked m p .taken in
+    let s = worked-some m b bs h in
+    let d = length-drop k p in
+    let r = piece-ends n (worked m p .machine) (drop k p) ps (omega arith) (worked-lives m p h) rest in
+    (worked m p .output ++ r .0, works m p ps (r .0) (r .1))
+
+pieces-end : (ps : List (List ℕ)) (m : Machine) → Lives (m .session) → (o : List ℕ) × Handed m ps o
+pieces-end [] m h = (finishedText m, ends m)
+pieces-end (p ∷ ps) m h = piece-ends (length p) m p ps (omega arith) h (pieces-end ps)
+
+pub hands-over : (text set : List ℕ) (ps : List (List ℕ)) → (o : List ℕ) × Handed (starting text set) ps o
+hands-over text set ps = pieces-end ps (starting text set) begun-lives

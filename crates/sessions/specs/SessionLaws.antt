@@ -1,0 +1,532 @@
+-- What a session prints, line by line, is what the definition says. Assumes nothing.
+use mathlib.Core.Path.{_≡_, refl, sym, ap, _∙_}
+use mathlib.Core.Bool.{Bool, true, false, _&&_, _||_}
+use mathlib.Core.List.{List, [], _∷_, _++_, append-assoc, append-nil}
+use mathlib.Core.Option.{none, some}
+use Prim.Native.Nat.{ℕ, zero, suc, _+_, _*_, min, _≤_, _<_}
+use native.Mathlib.Omega.{arith}
+use lib.Dec.{eqb, leb, ltb}
+use lib.ListN.{length, take, set, length-append, length-set, length-take}
+use lib.Seq.{take-all, take-append-le, take-suc-set, take-set-le, append-snoc}
+use borrow.Author.Tests.{leb-true, leb-false, eqb-true, lt-ltb}
+use Rattle.values.specs.Choice.{decide, either}
+use Rattle.values.specs.Numbers.{clash}
+use Rattle.state.specs.State.{powerOn}
+use Rattle.text.specs.Byte.{LF, CR}
+use Rattle.text.specs.Lines.{textLines, withoutReturn}
+use Rattle.reader.specs.Row.{putAt}
+use Rattle.reader.specs.Load.{textSize, Outcome, refused, outcome, loadAnswer, loadSet}
+use Rattle.transcript.specs.declared.session.Place.{Place}
+use Rattle.transcript.specs.declared.beat_line.Reading.{Reading}
+use Rattle.transcript.specs.Input.{Input, isStar, beatLines, lineBefore, cut, inputOf}
+use Rattle.transcript.specs.BeatLine.{Lent, lineLent}
+use Rattle.transcript.specs.Output.{loadLine, errorLine}
+use Rattle.transcript.specs.Run.{maxBeats, Totals, noTotals, ended, counted, answerOf, beatText, beatsText, loadedText, synrun}
+use Rattle.transcript.specs.Reading.{noReading, readOn, withoutCR, isUntouched, readLent}
+use Rattle.transcript.specs.Machine.{TEXT, BEATS, OVER, keptSize, Machine, Fed, begun, withPhase, withTotals, starAfter, starOn, placeOn, placeEnd, opened, textEnd, beatOf, beatEnd, chunk, lineEnd, behind, fedLines, textOver, lastOver, finished}
+use Rattle.transcript.specs.RoomLaws.{byCode, byLent, over-chunk, over-line}
+use Rattle.sessions.specs.ReadingLaws.{byOption, lent-last, lent-ended, untouched}
+use Rattle.sessions.specs.MachineLaws.{put-length, put-out, text-append, lines-some}
+
+-- ---- all that is printed
+
+-- from a machine on, with the lines of the input left
+unfoldable pub prints : Machine → List (List ℕ) → List ℕ
+prints m ls = fedLines m ls .output ++ finished (fedLines m ls .machine)
+
+-- from what was printed on
+abbrev onward : Fed → List (List ℕ) → List ℕ
+onward f ls = f .output ++ prints (f .machine) ls
+
+prints-last : (m : Machine) (l : List ℕ) → prints m (l ∷ []) ≡ finished (chunk m l)
+unfolding prints fedLines
+prints-last m l = refl
+
+prints-line : (m : Machine) (l k : List ℕ) (ls : List (List ℕ)) → prints m (l ∷ k ∷ ls) ≡ onward (lineEnd (chunk m l)) (k ∷ ls)
+unfolding prints fedLines
+prints-line m l k ls =
+    let f = lineEnd (chunk m l) in
+    append-assoc (f .output) (fedLines (f .machine) (k ∷ ls) .output) (finished (fedLines (f .machine) (k ∷ ls) .machine))
+
+-- ---- over
+
+pub over-finished : (m : Machine) → m .session .phase ≡ OVER → finished m ≡ []
+unfolding finished
+over-finished m o =
+    let P : List ℕ → Type 0 = λ y. y ≡ [] in
+    either P (eqb (m .session .phase) TEXT) (λ e. absurd (omega (arith, eqb-true (m .session .phase) TEXT e))) λ e.
+    either P (eqb (m .session .phase) BEATS) (λ g. absurd (omega (arith, eqb-true (m .session .phase) BEATS g))) (λ g. refl)
+
+pub over-fed : (ls : List (List ℕ)) (m : Machine) → m .session .phase ≡ OVER → fedLines m ls ≡ record { machine = m; output = [] }
+unfolding fedLines
+over-fed [] m o = refl
+over-fed (l ∷ []) m o = rw (over-chunk m l o)
+over-fed (l ∷ k ∷ ls) m o = rw (over-chunk m l o, over-line m o) (over-fed (k ∷ ls) m o)
+
+pub over-prints : (ls : List (List ℕ)) (m : Machine) → m .session .phase ≡ OVER → prints m ls ≡ []
+unfolding prints
+over-prints ls m o = rw (over-fed ls m o) (over-finished m o)
+
+over-onward : (m : Machine) (o : List ℕ) (ls : List (List ℕ)) → m .session .phase ≡ OVER → onward (record { machine = m; output = o }) ls ≡ o
+over-onward m o ls h = ap (λ (y : List ℕ). o ++ y) (over-prints ls m h) ∙ append-nil o
+
+-- ---- beats
+
+module _ (s : List ℕ) (n : Totals) where
+  -- after the last beat nothing more is read
+  pub beats-over : (ls : List (List ℕ)) → eqb (n .beats) maxBeats ≡ true → beatsText s n ls ≡ ended n
+  unfolding beatsText
+  beats-over [] h = refl
+  beats-over (l ∷ ls) h = either (λ (y : List ℕ). y ≡ ended n) (eqb (n .beats) maxBeats) (λ e. refl) (λ e. clash (cc))
+
+  beats-none : (l : List ℕ) (ls : List (List ℕ)) → eqb (n .beats) maxBeats ≡ false → lineLent l ≡ none → beatsText s n (l ∷ ls) ≡ errorLine (n .beats + 1)
+  unfolding beatsText
+  beats-none l ls h g =
+      let P : List ℕ → Type 0 = λ y. y ≡ errorLine (n .beats + 1) in
+      either P (eqb (n .beats) maxBeats) (λ e. clash (cc)) (λ e. byLent P (lineLent l) (λ u. refl) (λ x u. clash (cc)))
+
+  pub beats-some : (l : List ℕ) (ls : List (List ℕ)) (x : Lent) → eqb (n .beats) maxBeats ≡ false → lineLent l ≡ some x →
+      beatsText s n (l ∷ ls) ≡ beatText s n x ++ beatsText s (counted n (answerOf s n x)) ls
+  unfolding beatsText
+  beats-some l ls x h g =
+      let P : List ℕ → Type 0 = λ y. y ≡ beatText s n x ++ beatsText s (counted n (answerOf s n x)) ls in
+      either P (eqb (n .beats) maxBeats) (λ e. clash (cc)) (λ e. byLent P (lineLent l) (λ u. clash (cc)) (λ y u. let q : y ≡ x = cc in rw q))
+
+-- a machine that reads a beat line, with what was read of it
+abbrev beating : List ℕ → List ℕ → Place → Totals → Reading → Machine
+beating t s p n r = record {
+  text = t;
+  lines = s;
+  session = record { phase = BEATS; place = p; reading = r; state = n .state; beats = n .beats; coded = n .coded; orders = n .orders };
+}
+
+module _ (m : Machine) where
+  -- an ill-formed line
+  abbrev illEnded : Fed
+  illEnded = record { machine = record { text = m .text; lines = m .lines; session = withPhase (m .session) OVER }; output = errorLine (m .session .beats + 1) }
+
+  end-none : (r : Reading) → readLent r ≡ none → beatEnd m r ≡ illEnded
+  unfolding beatEnd
+  end-none r h = byLent (λ (y : Fed). y ≡ illEnded) (readLent r) (λ e. refl) (λ x e. clash (cc))
+
+  end-some : (r : Reading) (x : Lent) → readLent r ≡ some x → beatEnd m r ≡ beatOf m x
+  unfolding beatEnd
+  end-some r x h = byLent (λ (y : Fed). y ≡ beatOf m x) (readLent r) (λ e. clash (cc)) (λ z e. let q : z ≡ x = cc in rw q)
+
+module _ (t s : List ℕ) (p : Place) (n : Totals) (r : Reading) (x : Lent) where
+  abbrev next : Totals
+  next = counted n (answerOf s n x)
+
+  -- the last beat, and any other
+  abbrev lastBeat : Fed
+  lastBeat = record { machine = record { text = t; lines = s; session = withPhase (withTotals (beating t s p n r .session) next) OVER }; output = beatText s n x ++ ended next }
+
+  abbrev oneBeat : Fed
+  oneBeat = record { machine = beating t s p next noReading; output = beatText s n x }
+
+  beat-last : eqb (next .beats) maxBeats ≡ true → beatOf (beating t s p n r) x ≡ lastBeat
+  unfolding beatOf
+  beat-last h = either (λ (y : Fed). y ≡ lastBeat) (eqb (next .beats) maxBeats) (λ e. refl) (λ e. clash (cc))
+
+  beat-more : eqb (next .beats) maxBeats ≡ false → beatOf (beating t s p n r) x ≡ oneBeat
+  unfolding beatOf
+  beat-more h = either (λ (y : Fed). y ≡ oneBeat) (eqb (next .beats) maxBeats) (λ e. clash (cc)) (λ e. refl)
+
+module _ (t s : List ℕ) (p : Place) where
+  -- the last line, without an LF
+  last-beat : (n : Totals) (l : List ℕ) → eqb (n .beats) maxBeats ≡ false →
+      let m = beating t s p n (readOn noReading l) in lastOver m (beatEnd m (readOn noReading l)) ≡ beatsText s n (l ∷ [])
+  unfolding lastOver beatsText
+  last-beat n l h =
+      let r = readOn noReading l in
+      let m = beating t s p n r in
+      let q = lent-last l in
+      byOption (lastOver m (beatEnd m r) ≡ beatsText s n (l ∷ [])) (lineLent l)
+      (λ e. ap (lastOver m) (end-none m r (q ∙ e)) ∙ sym (beats-none s n l [] h e))
+      (λ x e. decide (lastOver m (beatEnd m r) ≡ beatsText s n (l ∷ [])) (eqb (next t s p n r x .beats) maxBeats)
+      (λ g. ap (lastOver m) (end-some m r x (q ∙ e) ∙ beat-last t s p n r x g) ∙ sym (beats-some s n l [] x h e))
+      (λ g. ap (lastOver m) (end-some m r x (q ∙ e) ∙ beat-more t s p n r x g) ∙ sym (beats-some s n l [] x h e)))
+
+  nothing-read : (n : Totals) → finished (chunk (beating t s p n noReading) []) ≡ beatsText s n []
+  unfolding finished chunk readOn isUntouched beatsText
+  nothing-read n = refl
+
+  something-read : (n : Totals) (b : ℕ) (bs : List ℕ) →
+      let m = beating t s p n (readOn noReading (b ∷ bs)) in finished (chunk (beating t s p n noReading) (b ∷ bs)) ≡ lastOver m (beatEnd m (readOn noReading (b ∷ bs)))
+  unfolding finished chunk
+  something-read n b bs =
+      let r = readOn noReading (b ∷ bs) in
+      let m = beating t s p n r in
+      either (λ (y : List ℕ). y ≡ lastOver m (beatEnd m r)) (isUntouched r) (λ e. let z = untouched (b ∷ bs) .0 e in clash (cc)) (λ e. refl)
+
+  beats-print : (ls : List (List ℕ)) (n : Totals) → (ls ≡ [] → ⊥) → eqb (n .beats) maxBeats ≡ false → prints (beating t s p n noReading) ls ≡ beatsText s n (beatLines ls)
+  unfolding beatLines lineEnd chunk finished
+  beats-print [] n g h = absurd (g refl)
+  beats-print ([] ∷ []) n g h = prints-last (beating t s p n noReading) [] ∙ nothing-read n
+  beats-print ((b ∷ bs) ∷ []) n g h = prints-last (beating t s p n noReading) (b ∷ bs) ∙ something-read n b bs ∙ last-beat n (b ∷ bs) h
+  beats-print (l ∷ k ∷ ls) n g h =
+      let r = withoutCR (readOn noReading l) in
+      let m = beating t s p n (readOn noReading l) in
+      let c = withoutReturn l in
+      let q = lent-ended l in
+      let on : Fed → List ℕ = λ f. onward f (k ∷ ls) in
+      prints-line (beating t s p n noReading) l k ls
+      ∙ byOption (on (beatEnd m r) ≡ beatsText s n (c ∷ beatLines (k ∷ ls))) (lineLent c)
+      (λ e. ap on (end-none m r (q ∙ e)) ∙ over-onward _ (errorLine (n .beats + 1)) (k ∷ ls) refl ∙ sym (beats-none s n c (beatLines (k ∷ ls)) h e))
+      (λ x e. decide (on (beatEnd m r) ≡ beatsText s n (c ∷ beatLines (k ∷ ls))) (eqb (next t s p n r x .beats) maxBeats)
+      (λ z. ap on (end-some m r x (q ∙ e) ∙ beat-last t s p n (readOn noReading l) x z) ∙ over-onward _ (beatText s n x ++ ended (next t s p n r x)) (k ∷ ls) refl
+      ∙ ap (λ (y : List ℕ). beatText s n x ++ y) (sym (beats-over s (next t s p n r x) (beatLines (k ∷ ls)) z)) ∙ sym (beats-some s n c (beatLines (k ∷ ls)) x h e))
+      (λ z. ap on (end-some m r x (q ∙ e) ∙ beat-more t s p n (readOn noReading l) x z) ∙ ap (λ (y : List ℕ). beatText s n x ++ y) (beats-print (k ∷ ls) (next t s p n r x) (λ u. clash (cc)) z)
+      ∙ sym (beats-some s n c (beatLines (k ∷ ls)) x h e)))
+
+-- ---- set text: what is kept of it
+
+take-put : (n : ℕ) (s : List ℕ) (p : ℕ) (l : List ℕ) → n ≤ p → take n (putAt s p l) ≡ take n s
+take-put n s p [] h = refl
+take-put n s p (b ∷ bs) h = take-put n (set s p b) (p + 1) bs (omega arith) ∙ take-set-le n s p b h
+
+-- where c bytes are kept
+module _ (c : ℕ) where
+  -- s begins with the first bytes of d, as many as are kept
+  abbrev pub Begins : List ℕ → List ℕ → Type 0
+  Begins s d = take (min c (length d)) s ≡ take c d
+
+  kept-byte : (s d : List ℕ) (b : ℕ) → length s ≡ c → Begins s d → length d < c → Begins (set s (min c (length d)) b) (d ++ (b ∷ []))
+  kept-byte s d b n k h =
+      let m : min c (length d) ≡ length d = omega arith in
+      let l : min c (length d + 1) ≡ suc (length d) = omega arith in
+      let a = length-append d (b ∷ []) in
+      let e : take (length d) s ≡ d = rw m at (k ∙ take-all c d (omega arith)) in
+      rw (m, a, l) (take-suc-set s (length d) b (omega arith) ∙ ap (λ (y : List ℕ). y ++ (b ∷ [])) e ∙ sym (take-all c (d ++ (b ∷ [])) (omega arith)))
+
+  -- a text that is longer already
+  kept-long : (l s d : List ℕ) → length s ≡ c → Begins s d → c ≤ length d → Begins (putAt s (min c (length d)) l) (d ++ l)
+  kept-long l s d n k h =
+      let m : min c (length d) ≡ c = omega arith in
+      let a = length-append d l in
+      let w : min c (length d + length l) ≡ c = omega arith in
+      rw (m, a, w, put-out s c l (omega arith)) (rw m at k ∙ sym (take-append-le c d l h))
+
+  kept-put : (l s d : List ℕ) → length s ≡ c → Begins s d → Begins (putAt s (min c (length d)) l) (d ++ l)
+  kept-put [] s d n k = rw (append-nil d) k
+  kept-put (b ∷ bs) s d n k =
+      decide (Begins (putAt s (min c (length d)) (b ∷ bs)) (d ++ (b ∷ bs))) (leb c (length d))
+      (λ e. kept-long (b ∷ bs) s d n k (leb-true c (length d) e))
+      (λ e. let h = leb-false c (length d) e in
+      let a = length-append d (b ∷ []) in
+      let q : min c (length d) + 1 ≡ min c (length (d ++ (b ∷ []))) = omega arith in
+      rw (q, ← (append-snoc d b bs)) (kept-put bs (set s (min c (length d)) b) (d ++ (b ∷ [])) (length-set s (min c (length d)) b ∙ n) (kept-byte s d b n k h)))
+
+-- ---- the line *
+
+-- anything else stays so
+else-star : (l : List ℕ) → starOn 3 l ≡ 3
+unfolding starOn starAfter
+else-star [] = refl
+else-star (b ∷ bs) = else-star bs
+
+-- behind * and CR there is nothing
+two-star : (b : ℕ) (l : List ℕ) → starOn 2 (b ∷ l) ≡ 3
+unfolding starOn starAfter
+two-star b l = else-star l
+
+star-byte : (b : ℕ) → starAfter 0 b ≡ elim (eqb b 42) [ true ↦ 1 | false ↦ 3 ]
+unfolding starAfter
+star-byte b = refl
+
+-- behind * there is a CR or anything else
+star-second : (c : ℕ) → starAfter 1 c ≡ elim (eqb c CR) [ true ↦ 2 | false ↦ 3 ]
+unfolding starAfter
+star-second c = refl
+
+else-second : (c : ℕ) → starAfter 3 c ≡ 3
+unfolding starAfter
+else-second c = refl
+
+third : (d : ℕ) → starAfter 2 d ≡ 3
+unfolding starAfter
+third d = refl
+
+no-and : (b : Bool) → (b && false) ≡ false
+no-and true = refl
+no-and false = refl
+
+-- after two bytes and more a line is no *
+star-two : (b c : ℕ) (cs : List ℕ) → eqb (starOn (starAfter (starAfter 0 b) c) cs) 1 ≡ false
+unfolding starOn
+star-two b c cs =
+    let P : ℕ → Type 0 = λ y. eqb (starOn (starAfter y c) cs) 1 ≡ false in
+    let Q : List ℕ → ℕ → Type 0 = λ ds y. eqb (starOn y ds) 1 ≡ false in
+    rw (star-byte b) (either P (eqb b 42) (λ e. rw (star-second c) (either (Q cs) (eqb c CR) (λ g. two cs) (λ g. rw (else-star cs)))) (λ e. rw (else-second c, else-star cs)))
+  where
+    two : (ds : List ℕ) → eqb (starOn 2 ds) 1 ≡ false
+    two [] = refl
+    two (d ∷ ds) = rw (two-star d ds)
+
+-- the line * as it stands
+star-last : (l : List ℕ) → eqb (starOn 0 l) 1 ≡ isStar l
+unfolding starOn
+star-last [] = refl
+star-last (b ∷ []) =
+    let P : ℕ → Type 0 = λ y. eqb y 1 ≡ (eqb b 42 && true) in
+    rw (star-byte b) (either P (eqb b 42) (λ e. rw e) (λ e. rw e))
+star-last (b ∷ c ∷ cs) = star-two b c cs ∙ sym (no-and (eqb b 42))
+
+-- and before its LF, where a CR may stand behind it
+abbrev isEnded : ℕ → Bool
+isEnded x = eqb x 1 || eqb x 2
+
+star-three : (b c d : ℕ) (ds : List ℕ) → isEnded (starOn (starAfter (starAfter (starAfter 0 b) c) d) ds) ≡ false
+star-three b c d ds =
+    let P : ℕ → Type 0 = λ y. isEnded (starOn (starAfter (starAfter y c) d) ds) ≡ false in
+    let Q : ℕ → Type 0 = λ y. isEnded (starOn (starAfter y d) ds) ≡ false in
+    rw (star-byte b)
+    (either P (eqb b 42) (λ e. rw (star-second c) (either Q (eqb c CR) (λ g. rw (third d, else-star ds)) (λ g. rw (else-second d, else-star ds))))
+    (λ e. rw (else-second c, else-second d, else-star ds)))
+
+star-ended : (l : List ℕ) → isEnded (starOn 0 l) ≡ isStar (withoutReturn l)
+unfolding starOn withoutReturn
+star-ended [] = refl
+star-ended (b ∷ []) =
+    let Q : ℕ → Type 0 = λ y. isEnded y ≡ (eqb b 42 && true) in
+    either (λ (y : List ℕ). isEnded (starAfter 0 b) ≡ isStar y) (eqb b CR)
+    (λ e. let q = eqb-true b CR e in rw (q, star-byte 13))
+    (λ e. rw (star-byte b) (either Q (eqb b 42) (λ g. rw g) (λ g. rw g)))
+star-ended (b ∷ c ∷ []) =
+    either (λ (y : List ℕ). isEnded (starAfter (starAfter 0 b) c) ≡ isStar (b ∷ y)) (eqb c CR)
+    (λ e. let q = eqb-true c CR e in rw (q, star-byte b) (either (λ (y : ℕ). isEnded (starAfter y 13) ≡ (eqb b 42 && true)) (eqb b 42) (λ g. rw (g, star-second 13)) (λ g. rw (g, else-second 13))))
+    (λ e. rw (no-and (eqb b 42), star-byte b)
+    (either (λ (y : ℕ). isEnded (starAfter y c) ≡ false) (eqb b 42)
+    (λ g. rw (star-second c) (either (λ (y : ℕ). isEnded y ≡ false) (eqb c CR) (λ u. clash (cc)) (λ u. refl)))
+    (λ g. rw (else-second c))))
+star-ended (b ∷ c ∷ d ∷ ds) = star-three b c d ds ∙ sym (no-and (eqb b 42))
+
+-- ---- loading
+
+module _ (i : Input) where
+  pub loaded-zero : loadAnswer (i .text) .code ≡ 0 → loadedText i ≡ beatsText (loadSet (i .text)) noTotals (i .beats)
+  unfolding loadedText
+  loaded-zero h = byCode (λ (y : List ℕ). y ≡ beatsText (loadSet (i .text)) noTotals (i .beats)) (loadAnswer (i .text) .code) (λ e. refl) (λ c e. absurd (omega arith))
+
+  loaded-suc : (c : ℕ) → loadAnswer (i .text) .code ≡ suc c → loadedText i ≡ loadLine (suc c) (loadAnswer (i .text) .line)
+  unfolding loadedText
+  loaded-suc c h =
+      byCode (λ (y : List ℕ). y ≡ loadLine (suc c) (loadAnswer (i .text) .line)) (loadAnswer (i .text) .code) (λ e. absurd (omega arith)) (λ d e. let q : suc d ≡ suc c = sym e ∙ h in rw q)
+
+-- a text above 4,096 bytes is refused, whatever it is
+long-outcome : (t : List ℕ) → textSize < length t → outcome t ≡ refused 1 0
+unfolding outcome
+long-outcome t h = either (λ (y : Outcome). y ≡ refused 1 0) (ltb textSize (length t)) (λ e. refl) (λ e. let q = lt-ltb textSize (length t) h in clash (cc))
+
+long-answer : (t : List ℕ) → textSize < length t → loadAnswer t ≡ record { code = 1; line = 0; state = powerOn }
+unfolding loadAnswer
+long-answer t h = rw (long-outcome t h, loadAnswer)
+
+long-loaded : (t : List ℕ) (bs : List (List ℕ)) → textSize < length t → loadedText (record { text = t; beats = bs }) ≡ loadLine 1 0
+long-loaded t bs h =
+    let a = long-answer t h in
+    loaded-suc (record { text = t; beats = bs }) 0 (rw a) ∙ rw a
+
+-- the bytes that are kept say all that the text does
+kept-load : (d : List ℕ) (bs : List (List ℕ)) → loadedText (record { text = take keptSize d; beats = bs }) ≡ loadedText (record { text = d; beats = bs })
+kept-load d bs =
+    decide (loadedText (record { text = take keptSize d; beats = bs }) ≡ loadedText (record { text = d; beats = bs })) (leb (length d) keptSize)
+    (λ e. ap (λ (y : List ℕ). loadedText (record { text = y; beats = bs })) (take-all keptSize d (leb-true (length d) keptSize e)))
+    (λ e. let h = leb-false (length d) keptSize e in
+    let l = length-take keptSize d in
+    long-loaded (take keptSize d) bs (omega arith) ∙ sym (long-loaded d bs (omega arith)))
+
+-- ---- set text
+
+-- at the beginning of a line, with n bytes kept
+abbrev atLine : ℕ → Place
+atLine n = record { size = n; start = n; star = 0 }
+
+abbrev texting : List ℕ → List ℕ → Place → Machine
+texting t s p = record {
+  text = t;
+  lines = s;
+  session = record { phase = TEXT; place = p; reading = noReading; state = powerOn; beats = 0; coded = 0; orders = 0 };
+}
+
+-- the text before what is left of the input
+abbrev withText : List ℕ → Input → Input
+withText d i = record { text = d ++ i .text; beats = i .beats }
+
+module _ (t s : List ℕ) (p : Place) where
+  -- a text that is taken, and one that is not
+  abbrev takenText : List ℕ → Fed
+  takenText x = record { machine = beating t (loadSet x) p noTotals noReading; output = [] }
+
+  abbrev refusedText : List ℕ → ℕ → Fed
+  refusedText x c = record { machine = record { text = t; lines = loadSet x; session = withPhase (texting t s p .session) OVER }; output = loadLine (suc c) (loadAnswer x .line) }
+
+  opened-zero : (x : List ℕ) → loadAnswer x .code ≡ 0 → opened (texting t s p) x ≡ takenText x
+  unfolding opened
+  opened-zero x h = byCode (λ (y : Fed). y ≡ takenText x) (loadAnswer x .code) (λ e. refl) (λ c e. absurd (omega arith))
+
+  opened-suc : (x : List ℕ) (c : ℕ) → loadAnswer x .code ≡ suc c → opened (texting t s p) x ≡ refusedText x c
+  unfolding opened
+  opened-suc x c h = byCode (λ (y : Fed). y ≡ refusedText x c) (loadAnswer x .code) (λ e. absurd (omega arith)) (λ d e. let q : suc d ≡ suc c = sym e ∙ h in rw q)
+
+  -- the text x is whole, and lines follow
+  opened-prints : (x k : List ℕ) (ls : List (List ℕ)) → onward (opened (texting t s p) x) (k ∷ ls) ≡ loadedText (record { text = x; beats = beatLines (k ∷ ls) })
+  opened-prints x k ls = by-code (loadAnswer x .code) refl
+    where
+      by-code : (c : ℕ) → loadAnswer x .code ≡ c → onward (opened (texting t s p) x) (k ∷ ls) ≡ loadedText (record { text = x; beats = beatLines (k ∷ ls) })
+      by-code zero e =
+          ap (λ (f : Fed). onward f (k ∷ ls)) (opened-zero x e) ∙ beats-print t (loadSet x) p (k ∷ ls) noTotals (λ z. clash (cc)) refl
+          ∙ sym (loaded-zero (record { text = x; beats = beatLines (k ∷ ls) }) e)
+      by-code (suc c) e =
+          ap (λ (f : Fed). onward f (k ∷ ls)) (opened-suc x c e) ∙ over-onward _ (loadLine (suc c) (loadAnswer x .line)) (k ∷ ls) refl
+          ∙ sym (loaded-suc (record { text = x; beats = beatLines (k ∷ ls) }) c e)
+
+  -- and none does
+  over-prints-text : (x : List ℕ) → textOver (texting t s p) x ≡ loadedText (record { text = x; beats = [] })
+  unfolding textOver loadedText beatsText
+  over-prints-text x = refl
+
+  -- the input is over: the text is whole, the line * left off
+  finished-star : eqb (p .star) 1 ≡ true → finished (texting t s p) ≡ loadedText (record { text = take (p .start) t; beats = [] })
+  unfolding finished
+  finished-star h =
+      ap (textOver (texting t s p)) (either (λ (y : List ℕ). y ≡ take (p .start) t) (eqb (p .star) 1) (λ e. refl) (λ e. clash (cc))) ∙ over-prints-text (take (p .start) t)
+
+  finished-text : eqb (p .star) 1 ≡ false → finished (texting t s p) ≡ loadedText (record { text = take (p .size) t; beats = [] })
+  unfolding finished
+  finished-text h =
+      ap (textOver (texting t s p)) (either (λ (y : List ℕ). y ≡ take (p .size) t) (eqb (p .star) 1) (λ e. clash (cc)) (λ e. refl)) ∙ over-prints-text (take (p .size) t)
+
+  -- the line * is over
+  ended-star : isEnded (p .star) ≡ true → lineEnd (texting t s p) ≡ opened (texting t s p) (take (p .start) t)
+  unfolding lineEnd textEnd
+  ended-star h = either (λ (y : Fed). y ≡ opened (texting t s p) (take (p .start) t)) (isEnded (p .star)) (λ e. refl) (λ e. clash (cc))
+
+  -- any other line is
+  ended-text : isEnded (p .star) ≡ false → lineEnd (texting t s p) ≡ record { machine = texting (set t (p .size) LF) s (placeEnd p); output = [] }
+  unfolding lineEnd textEnd
+  ended-text h = either (λ (y : Fed). y ≡ record { machine = texting (set t (p .size) LF) s (placeEnd p); output = [] }) (isEnded (p .star)) (λ e. clash (cc)) (λ e. refl)
+
+chunk-texting : (t s : List ℕ) (p : Place) (l : List ℕ) → chunk (texting t s p) l ≡ texting (putAt t (p .size) l) s (placeOn p l)
+unfolding chunk
+chunk-texting t s p l = refl
+
+-- the input cut at the line *
+cut-star : (l : List ℕ) → isStar l ≡ true → cut (l ∷ []) ≡ record { text = []; beats = [] }
+unfolding cut
+cut-star l h = either (λ (y : Input). y ≡ record { text = []; beats = [] }) (isStar l) (λ e. refl) (λ e. clash (cc))
+
+cut-last : (l : List ℕ) → isStar l ≡ false → cut (l ∷ []) ≡ record { text = l; beats = [] }
+unfolding cut
+cut-last l h = either (λ (y : Input). y ≡ record { text = l; beats = [] }) (isStar l) (λ e. clash (cc)) (λ e. refl)
+
+cut-here : (l k : List ℕ) (ls : List (List ℕ)) → isStar (withoutReturn l) ≡ true → cut (l ∷ k ∷ ls) ≡ record { text = []; beats = beatLines (k ∷ ls) }
+unfolding cut
+cut-here l k ls h = either (λ (y : Input). y ≡ record { text = []; beats = beatLines (k ∷ ls) }) (isStar (withoutReturn l)) (λ e. refl) (λ e. clash (cc))
+
+cut-later : (l k : List ℕ) (ls : List (List ℕ)) → isStar (withoutReturn l) ≡ false → cut (l ∷ k ∷ ls) ≡ lineBefore l (cut (k ∷ ls))
+unfolding cut
+cut-later l k ls h = either (λ (y : Input). y ≡ lineBefore l (cut (k ∷ ls))) (isStar (withoutReturn l)) (λ e. clash (cc)) (λ e. refl)
+
+module _ (t s d l : List ℕ) (n : length t ≡ keptSize) (k : Begins keptSize t d) where
+  abbrev size : ℕ
+  size = min keptSize (length d)
+
+  abbrev begin : Machine
+  begin = texting t s (atLine size)
+
+  -- before the line: the text as it stood
+  text-before : (bs : List (List ℕ)) → loadedText (record { text = take size (putAt t size l); beats = bs }) ≡ loadedText (record { text = d ++ []; beats = bs })
+  text-before bs =
+      ap (λ (y : List ℕ). loadedText (record { text = y; beats = bs })) (take-put size t size l (omega arith) ∙ k) ∙ kept-load d bs
+      ∙ ap (λ (y : List ℕ). loadedText (record { text = y; beats = bs })) (sym (append-nil d))
+
+  -- with the line
+  text-after : loadedText (record { text = take (placeOn (atLine size) l .size) (putAt t size l); beats = [] }) ≡ loadedText (record { text = d ++ l; beats = [] })
+  unfolding placeOn
+  text-after =
+      let a = length-append d l in
+      let q : min keptSize (size + length l) ≡ min keptSize (length (d ++ l)) = omega arith in
+      ap (λ (y : ℕ). loadedText (record { text = take y (putAt t size l); beats = [] })) q
+      ∙ ap (λ (y : List ℕ). loadedText (record { text = y; beats = [] })) (kept-put keptSize l t d n k) ∙ kept-load (d ++ l) []
+
+  -- the last line of the text, without an LF
+  last-text : finished (chunk begin l) ≡ loadedText (withText d (cut (l ∷ [])))
+  unfolding placeOn
+  last-text =
+      let p = placeOn (atLine size) l in
+      let st = star-last l in
+      decide (finished (chunk begin l) ≡ loadedText (withText d (cut (l ∷ [])))) (isStar l)
+      (λ e. ap finished (chunk-texting t s (atLine size) l) ∙ finished-star (putAt t size l) s p (st ∙ e) ∙ text-before [] ∙ ap (λ (y : Input). loadedText (withText d y)) (sym (cut-star l e)))
+      (λ e. ap finished (chunk-texting t s (atLine size) l) ∙ finished-text (putAt t size l) s p (st ∙ e) ∙ text-after ∙ ap (λ (y : Input). loadedText (withText d y)) (sym (cut-last l e)))
+
+  -- the line * and what follows it
+  star-line : (k : List ℕ) (ls : List (List ℕ)) → isStar (withoutReturn l) ≡ true → onward (lineEnd (chunk begin l)) (k ∷ ls) ≡ loadedText (withText d (cut (l ∷ k ∷ ls)))
+  unfolding placeOn
+  star-line k ls e =
+      let p = placeOn (atLine size) l in
+      ap (λ (m : Machine). onward (lineEnd m) (k ∷ ls)) (chunk-texting t s (atLine size) l)
+      ∙ ap (λ (f : Fed). onward f (k ∷ ls)) (ended-star (putAt t size l) s p (star-ended l ∙ e))
+      ∙ opened-prints (putAt t size l) s p (take size (putAt t size l)) k ls
+      ∙ text-before (beatLines (k ∷ ls))
+      ∙ ap (λ (y : Input). loadedText (withText d y)) (sym (cut-here l k ls e))
+
+  -- any other line, with its LF
+  abbrev more : List ℕ
+  more = l ++ (LF ∷ [])
+
+  more-place : placeEnd (placeOn (atLine size) l) ≡ atLine (min keptSize (length (d ++ more)))
+  unfolding placeOn placeEnd
+  more-place =
+      let a = length-append d more in
+      let b = length-append l (LF ∷ []) in
+      let q : min keptSize (min keptSize (size + length l) + 1) ≡ min keptSize (length (d ++ more)) = omega arith in
+      ap atLine q
+
+  more-text : set (putAt t size l) (placeOn (atLine size) l .size) LF ≡ putAt t size more
+  unfolding placeOn
+  more-text = sym (text-append t size l (LF ∷ []) (omega arith))
+
+  text-line : (k : List ℕ) (ls : List (List ℕ)) → isStar (withoutReturn l) ≡ false →
+      onward (lineEnd (chunk begin l)) (k ∷ ls) ≡ prints (texting (putAt t size more) s (atLine (min keptSize (length (d ++ more))))) (k ∷ ls)
+  text-line k ls e =
+      let p = placeOn (atLine size) l in
+      ap (λ (m : Machine). onward (lineEnd m) (k ∷ ls)) (chunk-texting t s (atLine size) l)
+      ∙ ap (λ (f : Fed). onward f (k ∷ ls)) (ended-text (putAt t size l) s p (star-ended-place e))
+      ∙ ap (λ (y : List ℕ). prints (texting y s (placeEnd p)) (k ∷ ls)) more-text
+      ∙ ap (λ (y : Place). prints (texting (putAt t size more) s y) (k ∷ ls)) more-place
+    where
+      star-ended-place : isStar (withoutReturn l) ≡ false → isEnded (placeOn (atLine size) l .star) ≡ false
+      star-ended-place h = unfold placeOn in (star-ended l ∙ h)
+
+  more-cut : (k : List ℕ) (ls : List (List ℕ)) → isStar (withoutReturn l) ≡ false → loadedText (withText (d ++ more) (cut (k ∷ ls))) ≡ loadedText (withText d (cut (l ∷ k ∷ ls)))
+  more-cut k ls e =
+      let c = cut (k ∷ ls) in
+      ap (λ (y : List ℕ). loadedText (record { text = y; beats = c .beats })) (append-assoc d more (c .text) ∙ ap (λ (y : List ℕ). d ++ y) (append-snoc l LF (c .text)))
+      ∙ ap (λ (y : Input). loadedText (withText d y)) (sym (cut-later l k ls e))
+
+-- the lines left behind the text d
+text-prints : (ls : List (List ℕ)) (t s d : List ℕ) → (ls ≡ [] → ⊥) → length t ≡ keptSize → Begins keptSize t d →
+    prints (texting t s (atLine (min keptSize (length d)))) ls ≡ loadedText (withText d (cut ls))
+text-prints [] t s d g n k = absurd (g refl)
+text-prints (l ∷ []) t s d g n k = prints-last (begin t s d l n k) l ∙ last-text t s d l n k
+text-prints (l ∷ h ∷ ls) t s d g n k =
+    let b = begin t s d l n k in
+    let u = more t s d l n k in
+    let z = min keptSize (length d) in
+    decide (prints b (l ∷ h ∷ ls) ≡ loadedText (withText d (cut (l ∷ h ∷ ls)))) (isStar (withoutReturn l))
+    (λ e. prints-line b l h ls ∙ star-line t s d l n k h ls e)
+    (λ e. prints-line b l h ls ∙ text-line t s d l n k h ls e
+    ∙ text-prints (h ∷ ls) (putAt t z u) s (d ++ u) (λ y. clash (cc)) (put-length t z u ∙ n) (kept-put keptSize u t d n k)
+    ∙ more-cut t s d l n k h ls e)
+
+-- ---- the session
+
+-- a machine at the beginning, whatever its text and its set hold
+abbrev pub starting : List ℕ → List ℕ → Machine
+starting t s = record { text = t; lines = s; session = begun }
+
+-- what it prints, and what it prints at the end of input, is all that the definition has
+pub session-prints : (text set t : List ℕ) → length text ≡ keptSize → let f = fedLines (starting text set) (textLines t) in f .output ++ finished (f .machine) ≡ synrun t
+unfolding prints synrun inputOf
+session-prints text set t n = text-prints (textLines t) text set [] (lines-some t) n refl

@@ -1,0 +1,2 @@
+-- StepLaws: how much a step takes and writes.
+pub mod StepLaws

@@ -1,0 +1,63 @@
+-- `hand_over` ends: of a piece that is not used up something is taken, and no more than there is; and what was printed fits in the buffer.
+use borrow.Author.Needs.{needs}
+use mathlib.Core.Path.{_≡_, sym}
+use Prim.Native.Nat.{ℕ, _-_, _≤_, _<_}
+use native.Mathlib.Omega.{arith}
+use lib.ListN.{length, take, drop, length-replicate}
+use lib.Seq.{length-take-le}
+use Rattle.synrun.proofs.StepLaws.{left-length, written-room, no-more, some}
+use Rattle.synrun.proofs.hand_over.Statement.{statement}
+use Rattle.synrun.proofs.hand_over.Tie as tie
+
+abbrev Inv-loop : tie.InvT-loop
+Inv-loop text₀ set₀ piece s₀ at₀ text set s at = at ≤ length piece
+
+abbrev μ-loop : tie.MeasureT-loop
+μ-loop text₀ set₀ piece s₀ at₀ text set s at = length piece - at
+
+prefix : tie.Need-array-share-prefix-out Inv-loop μ-loop
+prefix c = written-room _ _ (c .step .ensures) (length-replicate {A = ℕ} 16384 0)
+
+counted : tie.Need-slice-aggregate-write-all Inv-loop μ-loop
+counted c = sym (length-take-le _ _ (prefix (c .before)))
+
+pub hand-over-spec : {M : Type 1} → statement M
+hand-over-spec =
+    tie.close
+    (tie.spec
+    Inv-loop
+    μ-loop
+    (λ c. search needs)
+    (λ c. search needs)
+    (λ c. search needs)
+    (λ c. search needs)
+    (λ c κs. tt)
+    prefix
+    counted
+    (λ c κs. tt)
+    (λ c.
+    let s = c .before .before .before .before in
+    let b = s .before .before .before .before .before .before in
+    let p = b .before .before .args .piece .now in
+    let d = left-length (b .loop .at) p in
+    let r : s .step .result .taken ≤ length (take (length p - b .loop .at) (drop (b .loop .at) p)) = no-more _ _ (s .step .ensures) in
+    let f = b .before .shared-slice-known .given in
+    omega (arith, b .loop .inv, s .before .before .before .before .before .loop-test .taken))
+    (λ c.
+    let s = c .before .before .before .before in
+    let b = s .before .before .before .before .before .before in
+    let p = b .before .before .args .piece .now in
+    let d = left-length (b .loop .at) p in
+    let r : s .step .result .taken ≤ length (take (length p - b .loop .at) (drop (b .loop .at) p)) = no-more _ _ (s .step .ensures) in
+    let t : b .loop .at < length p = s .before .before .before .before .before .loop-test .taken in
+    let q = some _ _ (s .step .ensures) (omega arith) in
+    omega arith)
+    (λ c.
+    let s = c .before .before .before .before in
+    let b = s .before .before .before .before .before .before in
+    let p = b .before .before .args .piece .now in
+    let d = left-length (b .loop .at) p in
+    let r : s .step .result .taken ≤ length (take (length p - b .loop .at) (drop (b .loop .at) p)) = no-more _ _ (s .step .ensures) in
+    let i : b .loop .at ≤ length p = b .loop .inv in
+    omega arith)
+    (λ c. search needs))

@@ -1,0 +1,39 @@
+-- `main` ends, since its turns count down, and what it writes last fits in the buffer.
+use borrow.Author.Needs.{needs}
+use mathlib.Core.Path.{_≡_, sym}
+use Prim.Native.Nat.{ℕ}
+use native.Mathlib.Omega.{arith}
+use lib.ListN.{length, length-replicate}
+use lib.Seq.{length-take-le}
+use Rattle.synrun.proofs.StepLaws.{end-room}
+use Rattle.synrun.proofs.main.Statement.{statement}
+use Rattle.synrun.proofs.main.Tie as tie
+
+abbrev Inv-loop : tie.InvT-loop
+Inv-loop text₀ set₀ s₀ more₀ turns₀ text set s more turns = Unit {0}
+
+abbrev μ-loop : tie.MeasureT-loop
+μ-loop text₀ set₀ s₀ more₀ turns₀ text set s more turns = turns
+
+prefix : tie.Need-array-share-prefix-out Inv-loop μ-loop
+prefix c = end-room _ _ (c .finish .ensures .0) (c .finish .ensures .1) (length-replicate {A = ℕ} 16384 0)
+
+pub main-spec : {M : Type 1} → statement M
+main-spec =
+    tie.close
+    (tie.spec
+    Inv-loop
+    μ-loop
+    (λ c κs. tt)
+    (λ c κs. tt)
+    (λ c. tt)
+    (λ c. search needs)
+    (λ c. search needs)
+    (λ c κs. tt)
+    (λ c. search needs)
+    (λ c. tt)
+    (λ c κs. tt)
+    prefix
+    (λ c. sym (length-take-le _ _ (prefix (c .before))))
+    (λ c κs. tt)
+    (λ c. search needs))

@@ -1,0 +1,187 @@
+-- A session as the code works it: bytes of a line, beats, the line's end. Each law says what the definition comes to where the code's tests led.
+use mathlib.Core.Path.{_≡_, refl, sym, ap, _∙_}
+use mathlib.Core.Bool.{true, false, _&&_, _||_, and-false}
+use mathlib.Core.List.{List, [], _++_}
+use mathlib.Core.Logic.{inl, inr}
+use mathlib.Core.Option.{Option, none, some}
+use Prim.Native.Nat.{ℕ, zero, suc, _+_, _-_, _*_, _≤_, _<_}
+use native.Mathlib.Omega.{arith}
+use native.Mathlib.Numerals.{add-one}
+use borrow.Author.Tests.{eq-eqb, ne-eqb, le-leb, lt-ltb}
+use lib.Dec.{eqb, leb}
+use lib.ListN.{length, getD, set, take, drop, replicate, drop-of-length-le}
+use lib.Seq.{drop-cons}
+use Rattle.code.proofs.Between.{never}
+use Rattle.engine.specs.declared.beat.Beaten.{Beaten}
+use Rattle.engine.specs.Beat.{bufferSize, beatAnswer, beatBuffer}
+use Rattle.text.specs.Byte.{LF, CR}
+use Rattle.reader.specs.declared.load.Loaded.{Loaded}
+use Rattle.reader.specs.Row.{putAt}
+use Rattle.reader.specs.Load.{loadAnswer, loadSet}
+use Rattle.transcript.specs.declared.session.Place.{Place}
+use Rattle.transcript.specs.declared.session.Session.{Session}
+use Rattle.transcript.specs.declared.session.Ended.{Ended}
+use Rattle.transcript.specs.declared.beat_line.Reading.{Reading}
+use Rattle.transcript.specs.declared.beat_line.Told.{Told}
+use Rattle.transcript.specs.BeatLine.{Lent}
+use Rattle.transcript.specs.Output.{loadLine, errorLine, codeLine, orderLines}
+use Rattle.transcript.specs.Reading.{noReading, readOn, readLent, withoutCR}
+use Rattle.transcript.specs.Run.{maxBeats, oneIf, counted, ended, answerOf, bufferOf, beatText}
+use Rattle.transcript.specs.Machine.{TEXT, BEATS, OVER, keptSize, Fed, isFit, withPhase, withPlace, withReading, withTotals, totalsOf, starAfter, starOn, placeOn, placeEnd, opened, textEnd, beatOf, beatEnd, chunk, lineEnd}
+use Rattle.transcript.specs.Held.{IsPut, IsFed, toldOf, lentIn, machineOf}
+use Rattle.transcript.specs.OrdersLaws.{orders-within}
+use Rattle.transcript.specs.RoomLaws.{Fit, Lives}
+
+-- what is left to say once it is known what a session came to
+pub fed : {f : Fed} {t s o b exit : List ℕ} {y : Session} {at q : ℕ} → f ≡ record { machine = machineOf t s y; output = o } → IsPut b at o exit q → IsFed f t s b at (record { session = y; end = q }) exit
+fed e p = rw e (record { machine = refl; output = p })
+
+pub fed-as : {f g : Fed} {t s b exit : List ℕ} {at : ℕ} {y : Ended} → f ≡ g → IsFed g t s b at y exit → IsFed f t s b at y exit
+fed-as e p = rw e p
+
+-- a session that is not over is fit
+pub alive : {x : Session} → Lives x → (x .phase ≡ OVER → ⊥) → Fit x
+alive (inl f) n = f
+alive (inr o) n = absurd (n (o .0))
+
+pub fit-but-orders : (x : Session) → x .place .size ≤ keptSize → x .place .start ≤ x .place .size → x .reading .field ≤ 15 → x .beats < maxBeats → x .coded ≤ x .beats → leb (x .orders) (x .beats * 256) ≡ isFit x
+unfolding isFit
+fit-but-orders x a b c d e = simp (le-leb _ _ a, le-leb _ _ b, le-leb _ _ c, lt-ltb _ _ d, le-leb _ _ e)
+
+-- ---- set text
+
+module _ (s b : ℕ) where
+  -- a line that is not empty
+  star-else : (s ≡ 0 → ⊥) → starAfter s b ≡ elim (eqb s 1 && eqb b CR) [ true ↦ 2 | false ↦ 3 ]
+  unfolding starAfter
+  star-else h = simp (starAfter, ne-eqb s 0 h)
+
+  pub star-other : (s ≡ 0 → ⊥) → (s ≡ 1 → ⊥) → 3 ≡ starAfter s b
+  star-other h g = rw (star-else h) (simp (ne-eqb s 1 g))
+
+  pub star-return : s ≡ 1 → b ≡ CR → 2 ≡ starAfter s b
+  star-return h g = rw (star-else (λ e. omega arith)) (simp (eq-eqb s 1 h, eq-eqb b CR g))
+
+  pub star-plain : (s ≡ 0 → ⊥) → (b ≡ CR → ⊥) → 3 ≡ starAfter s b
+  star-plain h g = rw (star-else h) (simp (ne-eqb b CR g, and-false (eqb s 1)))
+
+module _ (t : List ℕ) (s i : ℕ) where
+  pub star-next : i < length t → {x : ℕ} → x ≡ starAfter s (getD t i 0) → starOn x (drop (i + 1) t) ≡ starOn s (drop i t)
+  unfolding starOn
+  star-next h e = rw (e, drop-cons t i 0 h, add-one i)
+
+  pub star-none : length t ≤ i → starOn s (drop i t) ≡ s
+  unfolding starOn
+  star-none h = rw (drop-of-length-le t h)
+
+-- ---- bytes of a line
+
+module _ (t s : List ℕ) (x : Session) (l : List ℕ) where
+  pub text-taken : x .phase ≡ TEXT → {u : List ℕ} → u ≡ putAt t (x .place .size) l → {p : Place} → p ≡ placeOn (x .place) l → machineOf u s (withPlace x p) ≡ chunk (machineOf t s x) l
+  unfolding chunk
+  text-taken h e f = rw (e, f) (simp (chunk, eq-eqb _ _ h))
+
+  pub beats-taken : x .phase ≡ BEATS → {r : Reading} → r ≡ readOn (x .reading) l → machineOf t s (withReading x r) ≡ chunk (machineOf t s x) l
+  unfolding chunk
+  beats-taken h e = rw e (simp (chunk, ne-eqb (x .phase) 0 (λ g. omega arith), eq-eqb _ _ h))
+
+  pub none-taken : (x .phase ≡ TEXT → ⊥) → (x .phase ≡ BEATS → ⊥) → machineOf t s x ≡ chunk (machineOf t s x) l
+  unfolding chunk
+  none-taken h g = simp (chunk, ne-eqb _ _ h, ne-eqb _ _ g)
+
+-- ---- beats
+
+pub one-other : (n : ℕ) → (n ≡ 0 → ⊥) → 1 ≡ oneIf n
+one-other zero f = absurd (f refl)
+one-other (suc n) f = refl
+
+-- a beat that is counted
+pub counted-so : (x : Session) (b : Beaten) {r : Reading} → r ≡ noReading → {k : ℕ} → k ≡ oneIf (b .code) → record { phase = x .phase; place = x .place; reading = r; state = b .state; beats = x .beats + 1; coded = x .coded + k; orders = x .orders + b .orders } ≡ withTotals x (counted (totalsOf x) b)
+counted-so x b e f = rw (e, f)
+
+-- what a line lends, as it was told
+module _ (o : Option Lent) {t : Told} (e : t ≡ toldOf o) where
+  pub lent-some : t .good ≡ true → o ≡ some (lentIn t)
+  lent-some h = go o e
+    where
+      go : (o : Option Lent) → t ≡ toldOf o → o ≡ some (lentIn t)
+      go none e = never (sym (ap (λ (y : Told). y .good) e) ∙ h)
+      go (some l) e = rw e
+
+  pub lent-none : t .good ≡ false → o ≡ none
+  lent-none h = go o e
+    where
+      go : (o : Option Lent) → t ≡ toldOf o → o ≡ none
+      go none e = refl
+      go (some l) e = never (sym h ∙ ap (λ (y : Told). y .good) e)
+
+-- a beat b of a line that lends l, its orders in o, its session y
+module _ (t s : List ℕ) (x : Session) (l : Lent) {b : Beaten} (a : b ≡ beatAnswer s (x .state) (l .automatic) (l .word) (l .numbers) (replicate bufferSize 0)) {o : List ℕ} (f : o ≡ beatBuffer s (x .state) (l .automatic) (l .word) (l .numbers) (replicate bufferSize 0)) where
+  pub few-orders : b .orders ≤ 256
+  few-orders = rw a (orders-within _ _ _ _ _ _)
+
+  printed : codeLine (x .beats + 1) (b .code) (b .orders) ++ orderLines (b .orders) o ≡ beatText s (totalsOf x) l
+  unfolding beatText answerOf bufferOf
+  printed = rw (a, f)
+
+  module _ {y : Session} (e : y ≡ withTotals x (counted (totalsOf x) b)) where
+    beats-are : y .beats ≡ x .beats + 1
+    beats-are = ap (λ (z : Session). z .beats) e
+
+    pub beat-last : y .beats ≡ maxBeats → beatOf (machineOf t s x) l ≡ record { machine = machineOf t s (withPhase y OVER); output = (codeLine (x .beats + 1) (b .code) (b .orders) ++ orderLines (b .orders) o) ++ ended (totalsOf y) }
+    unfolding beatOf answerOf
+    beat-last h = rw (printed, e, a) (simp (beatOf, eq-eqb (x .beats + 1) maxBeats (sym beats-are ∙ h)))
+
+    pub beat-more : (y .beats ≡ maxBeats → ⊥) → beatOf (machineOf t s x) l ≡ record { machine = machineOf t s y; output = codeLine (x .beats + 1) (b .code) (b .orders) ++ orderLines (b .orders) o }
+    unfolding beatOf answerOf
+    beat-more h = rw (printed, e, a) (simp (beatOf, ne-eqb (x .beats + 1) maxBeats (λ g. h (beats-are ∙ g))))
+
+-- a beat line that was read
+module _ (t s : List ℕ) (x : Session) (r : Reading) where
+  pub beat-good : {l : Lent} → readLent r ≡ some l → beatEnd (machineOf t s x) r ≡ beatOf (machineOf t s x) l
+  unfolding beatEnd
+  beat-good e = simp (beatEnd, e)
+
+  pub beat-ill : readLent r ≡ none → beatEnd (machineOf t s x) r ≡ record { machine = machineOf t s (withPhase x OVER); output = errorLine (x .beats + 1) }
+  unfolding beatEnd
+  beat-ill e = simp (beatEnd, e)
+
+-- ---- the line's end
+
+-- the text u is loaded into v
+module _ (t s : List ℕ) (x : Session) (u : List ℕ) {l : Loaded} (e : l ≡ loadAnswer u) {v : List ℕ} (f : v ≡ loadSet u) where
+  code-is : loadAnswer u .code ≡ l .code
+  code-is = ap (λ (y : Loaded). y .code) (sym e)
+
+  pub opens : l .code ≡ 0 → {r : Reading} → r ≡ noReading → opened (machineOf t s x) u ≡ record { machine = machineOf t v (withPhase (withReading x r) BEATS); output = [] }
+  unfolding opened
+  opens h g = rw (f, g) (simp (opened, code-is ∙ h))
+
+  pub opens-not : (l .code ≡ 0 → ⊥) → opened (machineOf t s x) u ≡ record { machine = machineOf t v (withPhase x OVER); output = loadLine (l .code) (l .line) }
+  unfolding opened
+  opens-not h = rw (f, e) (go (loadAnswer u .code) refl (λ g. h (sym code-is ∙ g)))
+    where
+      go : (n : ℕ) → loadAnswer u .code ≡ n → (n ≡ 0 → ⊥) → opened (machineOf t s x) u ≡ record { machine = machineOf t (loadSet u) (withPhase x OVER); output = loadLine (loadAnswer u .code) (loadAnswer u .line) }
+      go zero g f = absurd (f refl)
+      go (suc n) g f = simp (opened, g)
+
+module _ (t s : List ℕ) (x : Session) where
+  pub text-star : eqb (x .place .star) 1 || eqb (x .place .star) 2 ≡ true → textEnd (machineOf t s x) ≡ opened (machineOf t s x) (take (x .place .start) t)
+  unfolding textEnd
+  text-star h = simp (textEnd, h)
+
+  pub text-plain : eqb (x .place .star) 1 || eqb (x .place .star) 2 ≡ false → {u : List ℕ} → u ≡ set t (x .place .size) LF → {p : Place} → p ≡ placeEnd (x .place) → textEnd (machineOf t s x) ≡ record { machine = machineOf u s (withPlace x p); output = [] }
+  unfolding textEnd
+  text-plain h e f = rw (e, f) (simp (textEnd, h))
+
+  pub ends-text : x .phase ≡ TEXT → lineEnd (machineOf t s x) ≡ textEnd (machineOf t s x)
+  unfolding lineEnd
+  ends-text h = simp (lineEnd, eq-eqb _ _ h)
+
+  pub ends-beat : x .phase ≡ BEATS → {r : Reading} → r ≡ withoutCR (x .reading) → lineEnd (machineOf t s x) ≡ beatEnd (machineOf t s x) r
+  unfolding lineEnd
+  ends-beat h e = rw e (simp (lineEnd, ne-eqb (x .phase) 0 (λ g. omega arith), eq-eqb _ _ h))
+
+  pub ends-over : (x .phase ≡ TEXT → ⊥) → (x .phase ≡ BEATS → ⊥) → lineEnd (machineOf t s x) ≡ record { machine = machineOf t s x; output = [] }
+  unfolding lineEnd
+  ends-over h g = simp (lineEnd, ne-eqb _ _ h, ne-eqb _ _ g)

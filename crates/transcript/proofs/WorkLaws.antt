@@ -1,0 +1,206 @@
+-- A piece of input worked line by line, and the end of input, where the code's tests led.
+use mathlib.Core.Path.{_≡_, refl, sym, ap, _∙_}
+use mathlib.Core.Bool.{Bool, true, false, cond}
+use mathlib.Core.List.{List, [], _++_}
+use mathlib.Core.Logic.{inl}
+use Prim.Native.Nat.{ℕ, zero, suc, _+_, _-_, _≤_, _<_}
+use native.Mathlib.Omega.{arith}
+use borrow.Author.Tests.{eq-eqb, ne-eqb, le-leb, lt-leb, lt-ltb, le-ltb}
+use lib.Dec.{eqb}
+use lib.ListN.{length, take, drop, length-drop}
+use lib.Seq.{drop-drop}
+use Rattle.text.specs.Byte.{inLine, run}
+use Rattle.text.specs.ByteLaws.{run-within}
+use Rattle.reader.specs.declared.load.Loaded.{Loaded}
+use Rattle.reader.specs.Row.{putAt}
+use Rattle.reader.specs.Load.{loadAnswer}
+use Rattle.transcript.specs.declared.session.Session.{Session}
+use Rattle.transcript.specs.declared.session.Ended.{Ended}
+use Rattle.transcript.specs.Output.{loadLine}
+use Rattle.transcript.specs.Reading.{isUntouched}
+use Rattle.transcript.specs.Run.{ended}
+use Rattle.transcript.specs.Machine.{TEXT, BEATS, Machine, Fed, Work, totalsOf, isFit, beatEnd, chunk, lineEnd, textOver, lastOver, finished, finishedText, workFrom, worked}
+use Rattle.transcript.specs.Held.{IsPut, IsFed, IsWork, machineOf}
+use Rattle.transcript.specs.RoomLaws.{Fit, Lives, fit-parts, chunk-lives, line-lives}
+use Rattle.transcript.proofs.OutLaws.{put-both, put-nothing}
+
+-- what is left to say once it is known what a piece came to
+pub work-is : {w : Work} {t s o b exit : List ℕ} {y : Session} {k q : ℕ} → w ≡ record { machine = machineOf t s y; taken = k; output = o } → IsPut b 0 o exit q → IsWork w t s b (record { session = y; taken = k; written = q }) exit
+work-is e p = rw e (record { machine = refl; taken = refl; written = let b = p .behind in omega arith; output = p .put })
+
+module _ (m : Machine) (t : List ℕ) where
+  pub unfit-work : isFit (m .session) ≡ false → worked m t ≡ record { machine = m; taken = length t; output = [] }
+  unfolding worked
+  unfit-work h = simp (worked, h)
+
+  pub fit-work : isFit (m .session) ≡ true → workFrom (length t + 1) m t 0 [] ≡ worked m t
+  unfolding worked
+  fit-work h = simp (worked, h)
+
+-- ---- with n lines left at most, k bytes taken, o printed
+
+module _ (m : Machine) (t : List ℕ) (k : ℕ) (o : List ℕ) where
+  pub work-full : (n : ℕ) → 4096 < length o → workFrom n m t k o ≡ record { machine = m; taken = k; output = o }
+  unfolding workFrom
+  work-full zero h = refl
+  work-full (suc n) h = simp (workFrom, lt-leb (length o + 12288) 16384 (omega arith))
+
+  module _ (h : length o ≤ 4096) where
+    work-last : (n : ℕ) → 0 < n → length t ≤ run inLine t → workFrom n m t k o ≡ record { machine = chunk m (take (run inLine t) t); taken = k + run inLine t; output = o }
+    unfolding workFrom
+    work-last zero p g = absurd (omega arith)
+    work-last (suc n) p g = simp (workFrom, le-leb (length o + 12288) 16384 (omega arith)) (simp (le-ltb (run inLine t) (length t) g))
+
+    work-line : (n : ℕ) → 0 < n → run inLine t < length t → let f = lineEnd (chunk m (take (run inLine t) t)) in workFrom n m t k o ≡ workFrom (n - 1) (f .machine) (drop (run inLine t + 1) t) (k + (run inLine t + 1)) (o ++ f .output)
+    unfolding workFrom
+    work-line zero p g = absurd (omega arith)
+    work-line (suc n) p g =
+        let e : suc n - 1 ≡ n = omega arith in
+        simp (workFrom, le-leb (length o + 12288) 16384 (omega arith)) (simp (lt-ltb (run inLine t) (length t) g, e))
+
+-- the line at place i of the input ends at place e
+module _ (input : List ℕ) (i e : ℕ) (r : e ≡ i + run inLine (drop i input)) (w : i ≤ length input) where
+  left-is : length (drop i input) ≡ length input - i
+  left-is = length-drop i input
+
+  pub end-within : e ≤ length input
+  end-within = omega (arith, left-is, run-within inLine (drop i input))
+
+  run-is : run inLine (drop i input) ≡ e - i
+  run-is = omega arith
+
+  module _ (m : Machine) (n : ℕ) (o : List ℕ) (h : length o ≤ 4096) (p : length input < n + i) {c : Machine} (d : c ≡ chunk m (take (e - i) (drop i input))) where
+    chunk-is : chunk m (take (run inLine (drop i input)) (drop i input)) ≡ c
+    chunk-is = rw run-is (sym d)
+
+    pub input-over : length input ≤ e → workFrom n m (drop i input) i o ≡ record { machine = c; taken = e; output = o }
+    input-over g = rw (work-last m (drop i input) i o h n (omega arith) (omega (arith, left-is)), chunk-is, ← r)
+
+    pub line-over : e < length input → {m' : Machine} → lineEnd c .machine ≡ m' → workFrom (n - 1) m' (drop (e + 1) input) (e + 1) (o ++ lineEnd c .output) ≡ workFrom n m (drop i input) i o
+    line-over g {m'} f =
+        let a : i + (e - i + 1) ≡ e + 1 = omega arith in
+        rw (work-line m (drop i input) i o h n (omega arith) (omega (arith, left-is)), chunk-is, run-is, drop-drop (e - i + 1) i input, a, f)
+
+-- ---- a piece of input that is being worked to come to w: m is the machine so far, i bytes are taken, and what is printed stands in `out`
+
+pub record Going (input : List ℕ) (w : Work) (buffer : List ℕ) (m : Machine) (i : ℕ) (out : List ℕ) (at : ℕ) : Type 0 where
+  pub lives : Lives (m .session)
+  pub left : ℕ
+  pub printed : List ℕ
+  pub enough : length input < left + i
+  pub within : i ≤ length input
+  pub put : IsPut buffer 0 printed out at
+  pub comes : workFrom left m (drop i input) i printed ≡ w
+
+pub set-out : (input buffer : List ℕ) (m : Machine) → isFit (m .session) ≡ true → Going input (worked m input) buffer m 0 buffer 0
+set-out input buffer m h =
+    record {
+      lives = inl (fit-parts (m .session) h);
+      left = length input + 1;
+      printed = [];
+      enough = omega arith;
+      within = omega arith;
+      put = put-nothing;
+      comes = fit-work m input h;
+    }
+
+module _ {input : List ℕ} {w : Work} {buffer : List ℕ} {m : Machine} {i : ℕ} {out : List ℕ} {at : ℕ} (g : Going input w buffer m i out at) where
+  size-is : at ≡ length (g .printed)
+  size-is = let b = g .put .behind in omega arith
+
+  pub going-full : 4096 < at → w ≡ record { machine = m; taken = i; output = g .printed }
+  going-full h = sym (g .comes) ∙ work-full m (drop i input) i (g .printed) (g .left) (omega (arith, size-is))
+
+  module _ (h : at ≤ 4096) {e : ℕ} (r : e ≡ i + run inLine (drop i input)) {c : Machine} (d : c ≡ chunk m (take (e - i) (drop i input))) where
+    short : length (g .printed) ≤ 4096
+    short = omega (arith, size-is)
+
+    pub going-lives : Lives (c .session)
+    going-lives = rw d (chunk-lives m (take (e - i) (drop i input)) (g .lives))
+
+    pub going-ends : length input ≤ e → w ≡ record { machine = c; taken = e; output = g .printed }
+    going-ends l = sym (g .comes) ∙ input-over input i e r (g .within) m (g .left) (g .printed) short (g .enough) d l
+
+    pub going-on : e < length input → {t s exit : List ℕ} {y : Ended} → IsFed (lineEnd c) t s out at y exit → Going input w buffer (machineOf t s (y .session)) (e + 1) exit (y .end)
+    going-on l f =
+        record {
+          lives = rw (f .machine) at (line-lives c going-lives);
+          left = g .left - 1;
+          printed = g .printed ++ lineEnd c .output;
+          enough = let n = g .enough in omega arith;
+          within = omega arith;
+          put = put-both (g .put) (f .output);
+          comes = line-over input i e r (g .within) m (g .left) (g .printed) short (g .enough) d l (f .machine) ∙ g .comes;
+        }
+
+-- ---- the end of input
+
+pub put-as : {s a b t : List ℕ} {p q : ℕ} → b ≡ a → IsPut s p a t q → IsPut s p b t q
+put-as e h = rw e h
+
+-- a text that is put at the beginning
+pub put-whole : {s a b t : List ℕ} {q : ℕ} → b ≡ a → IsPut s 0 a t q → (q ≡ length b) × (t ≡ putAt s 0 b)
+put-whole e h = rw e (let b = h .behind in omega arith, h .put)
+
+module _ (m : Machine) (u : List ℕ) {l : Loaded} (e : l ≡ loadAnswer u) where
+  loaded-code : loadAnswer u .code ≡ l .code
+  loaded-code = ap (λ (y : Loaded). y .code) (sym e)
+
+  pub over-good : l .code ≡ 0 → textOver m u ≡ ended (totalsOf (m .session))
+  unfolding textOver
+  over-good h = simp (textOver, loaded-code ∙ h)
+
+  pub over-not : (l .code ≡ 0 → ⊥) → textOver m u ≡ loadLine (l .code) (l .line)
+  unfolding textOver
+  over-not h = rw e (go (loadAnswer u .code) refl (λ g. h (sym loaded-code ∙ g)))
+    where
+      go : (n : ℕ) → loadAnswer u .code ≡ n → (n ≡ 0 → ⊥) → textOver m u ≡ loadLine (loadAnswer u .code) (loadAnswer u .line)
+      go zero g f = absurd (f refl)
+      go (suc n) g f = simp (textOver, g)
+
+module _ (m : Machine) (f : Fed) {x : Machine} (e : f .machine ≡ x) where
+  pub last-beats : x .session .phase ≡ BEATS → lastOver m f ≡ f .output ++ ended (totalsOf (x .session))
+  unfolding lastOver
+  last-beats h = simp (lastOver, e, eq-eqb _ _ h)
+
+  pub last-else : (x .session .phase ≡ BEATS → ⊥) → lastOver m f ≡ f .output
+  unfolding lastOver
+  last-else h = simp (lastOver, e, ne-eqb _ _ h)
+
+-- where a set text ends that has no LF at its end
+pub size-within : (x : Session) → Fit x → cond (eqb (x .place .star) 1) (x .place .start) (x .place .size) ≤ 4097
+size-within x f = go (eqb (x .place .star) 1)
+  where
+    go : (b : Bool) → cond b (x .place .start) (x .place .size) ≤ 4097
+    go true = let p = f .start in let q = f .size in omega arith
+    go false = f .size
+
+module _ (t s : List ℕ) (x : Session) where
+  pub finish-unfit : isFit x ≡ false → finishedText (machineOf t s x) ≡ []
+  unfolding finishedText
+  finish-unfit h = simp (finishedText, h)
+
+  module _ (h : isFit x ≡ true) where
+    finish-fit : finishedText (machineOf t s x) ≡ finished (machineOf t s x)
+    unfolding finishedText
+    finish-fit = simp (finishedText, h)
+
+    pub finish-text : x .phase ≡ TEXT → {n : ℕ} → n ≡ cond (eqb (x .place .star) 1) (x .place .start) (x .place .size) → finishedText (machineOf t s x) ≡ textOver (machineOf t s x) (take n t)
+    unfolding finished
+    finish-text p e = finish-fit ∙ simp (finished, eq-eqb _ _ p) (rw e (go (eqb (x .place .star) 1)))
+      where
+        go : (b : Bool) → textOver (machineOf t s x) (elim b [ true ↦ take (x .place .start) t | false ↦ take (x .place .size) t ]) ≡ textOver (machineOf t s x) (take (cond b (x .place .start) (x .place .size)) t)
+        go true = refl
+        go false = refl
+
+    pub finish-over : (x .phase ≡ TEXT → ⊥) → (x .phase ≡ BEATS → ⊥) → finishedText (machineOf t s x) ≡ []
+    unfolding finished
+    finish-over p q = finish-fit ∙ simp (finished, ne-eqb _ _ p) (simp (ne-eqb _ _ q))
+
+    pub finish-new : x .phase ≡ BEATS → isUntouched (x .reading) ≡ true → finishedText (machineOf t s x) ≡ ended (totalsOf x)
+    unfolding finished
+    finish-new p q = finish-fit ∙ simp (finished, ne-eqb (x .phase) 0 (λ g. omega arith)) (simp (eq-eqb _ _ p) (simp q))
+
+    pub finish-last : x .phase ≡ BEATS → isUntouched (x .reading) ≡ false → finishedText (machineOf t s x) ≡ lastOver (machineOf t s x) (beatEnd (machineOf t s x) (x .reading))
+    unfolding finished
+    finish-last p q = finish-fit ∙ simp (finished, ne-eqb (x .phase) 0 (λ g. omega arith)) (simp (eq-eqb _ _ p) (simp q))

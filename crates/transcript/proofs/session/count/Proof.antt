@@ -1,0 +1,19 @@
+-- `session::count` meets its contract: its parts; each number grows by what a beat may bring.
+use borrow.Author.Needs.{needs}
+use Rattle.transcript.proofs.StepLaws.{counted-so}
+use Rattle.transcript.proofs.session.count.Statement.{statement}
+use Rattle.transcript.proofs.session.count.Tie as tie
+
+pub count-spec : {M : Type 1} → statement M
+count-spec =
+    tie.close
+    (tie.spec
+    (λ c κs. search needs)
+    (λ c κs. search needs)
+    (λ c. search needs)
+    (λ c. search needs)
+    (λ c. search needs)
+    (λ c.
+    let i = c .before .before .before .before .before .before in
+    let a = i .before .args in
+    counted-so (a .session) (a .b) (c .before .before .before .before .no-reading .ensures) (i .one-if .ensures .0)))

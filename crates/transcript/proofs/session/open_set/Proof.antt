@@ -1,0 +1,24 @@
+-- `session::open_set` meets its contract: by the code of the load.
+use borrow.Author.Needs.{needs}
+use Rattle.transcript.proofs.StepLaws.{fed, opens, opens-not}
+use Rattle.transcript.proofs.OutLaws.{put-nothing}
+use Rattle.transcript.proofs.session.open_set.Statement.{statement}
+use Rattle.transcript.proofs.session.open_set.Tie as tie
+
+pub open-set-spec : {M : Type 1} → statement M
+open-set-spec =
+    tie.close
+    (tie.spec
+    (λ c κs. search needs)
+    (λ c κs. search needs)
+    (λ c. search needs)
+    (λ c m.
+    let p = c .before .before in
+    let i = p .before .before in
+    let l = i .before .load in
+    fed (opens-not m _ _ _ (l .ensures .0) (l .ensures .1) (i .if1 .taken)) (p .load-line .ensures))
+    (λ c κs. search needs)
+    (λ c m.
+    let i = c .before in
+    let l = i .before .load in
+    fed (opens m _ _ _ (l .ensures .0) (l .ensures .1) (i .if1 .left) (c .no-reading .ensures)) put-nothing))

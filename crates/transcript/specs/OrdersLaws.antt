@@ -1,0 +1,159 @@
+-- A beat has at most 256 orders: at most 32 lines take a turn, each with at most eight actions, each of at most one order. Assumes nothing.
+use mathlib.Core.Path.{_≡_, refl}
+use mathlib.Core.Bool.{Bool, true, false}
+use mathlib.Core.List.{List, [], _∷_, _++_}
+use Prim.Native.Nat.{ℕ, zero, suc, _+_, _*_, _/_, _≤_}
+use native.Mathlib.Omega.{arith}
+use lib.Dec.{eqb, ltb}
+use lib.IntN.{ℤ}
+use lib.ListN.{length, getD, length-append}
+use Rattle.values.specs.Choice.{either}
+use Rattle.values.specs.OrderLaws.{eight-bytes}
+use Rattle.values.specs.declared.order.Order.{Order}
+use Rattle.code.specs.Token.{END, M, SETAL, LOCK, isVariable, isDrive, whole}
+use Rattle.code.specs.Reading.{Answer, good, stop, _>>=_, indexAt}
+use Rattle.working.specs.Working.{rightValue, conditionValue, isYes}
+use Rattle.code.specs.declared.check.Line.{Line}
+use Rattle.state.specs.declared.state.State.{State}
+use Rattle.state.specs.Set.{maxLines, rankIn, noLine, soundLines}
+use Rattle.soundness.specs.SetLaws.{lines-lined}
+use Rattle.state.specs.Sound.{isSound}
+use Rattle.engine.specs.Action.{World, Did, ordered, fromGot, driveOrder, lockOf, takenAt, writeTo, assignmentOf, driveOf, commandOf, actionOf, actionsOf}
+use Rattle.engine.specs.Turn.{Entry, Turned, worked, remembered, counted, tries, acts, remembers, takesTurn, doTurn, tryTurn, turnOf, turnsFrom}
+use Rattle.engine.specs.Beat.{bufferSize, areInputs, begun, beatOf, answered, beatAnswer}
+
+-- ---- answers
+
+-- what holds of an answer, if it is good
+abbrev pub Ok : {A : Type 0} → (A → Type 0) → Answer A → Type 0
+Ok P (good a) = P a
+Ok P (stop c) = Unit {0}
+
+pub ok-then : {A B : Type 0} (P : A → Type 0) (Q : B → Type 0) (x : Answer A) (f : A → Answer B) → Ok P x → ((a : A) → P a → Ok Q (f a)) → Ok Q (x >>= f)
+ok-then P Q (good a) f h k = k a h
+ok-then P Q (stop c) f h k = tt
+
+-- whatever went before
+ok-after : {A B : Type 0} (Q : B → Type 0) (x : Answer A) (f : A → Answer B) → ((a : A) → Ok Q (f a)) → Ok Q (x >>= f)
+ok-after Q (good a) f k = k a
+ok-after Q (stop c) f k = tt
+
+-- ---- the bytes of orders that are added
+
+-- at most n bytes of orders more than in x
+abbrev Adds : World → ℕ → World → Type 0
+Adds x n y = length (y .orders) ≤ length (x .orders) + n
+
+abbrev DidAdd : World → ℕ → Answer Did → Type 0
+DidAdd x n a = Ok (λ (d : Did). Adds x n (d .world)) a
+
+abbrev TurnAdds : World → ℕ → Answer Turned → Type 0
+TurnAdds x n a = Ok (λ (t : Turned). Adds x n (t .world)) a
+
+-- an order is eight bytes
+order-adds : (x : World) (o : Order) → Adds x 8 (ordered x o)
+order-adds x o = simp (length-append, eight-bytes) (omega arith)
+
+lock-adds : (c : List Bool) (x : World) (b : Bool) (k q : ℕ) → DidAdd x 8 (lockOf c x b k q)
+unfolding lockOf
+lock-adds c x b k q =
+    either (DidAdd x 8) (ltb k maxLines)
+    (λ e. either (DidAdd x 8) (getD c k false) (λ g. omega arith) (λ g. omega arith))
+    (λ e. tt)
+
+assignment-adds : (s : List ℕ) (x : World) (w p : ℕ) → DidAdd x 8 (assignmentOf s x w p)
+unfolding assignmentOf
+assignment-adds s x w p =
+    ok-after (λ (d : Did). Adds x 8 (d .world)) (takenAt s (x .vars) (p + 5)) _ λ a.
+    ok-after (λ (d : Did). Adds x 8 (d .world)) (writeTo (a .vars) w (indexAt s w p) (a .value)) _ λ v.
+    omega arith
+
+drive-adds : (s : List ℕ) (number : ℕ) (x : World) (w p : ℕ) → DidAdd x 8 (driveOf s number x w p)
+unfolding driveOf
+drive-adds s number x w p =
+    either (DidAdd x 8) (ltb 255 (indexAt s w p)) (λ e. tt) λ e.
+    ok-after (λ (d : Did). Adds x 8 (d .world)) (fromGot (rightValue s (x .vars .r) (x .vars .cells) (p + 5))) _ λ a.
+    ok-after (λ (d : Did). Adds x 8 (d .world)) (driveOrder number w (indexAt s w p) (a .0)) _ λ o.
+    order-adds x o
+
+module _ (s numbers : List ℕ) (cancelled : List Bool) (number : ℕ) where
+  command-adds : (x : World) (w p : ℕ) → DidAdd x 8 (commandOf s numbers cancelled number x w p)
+  unfolding commandOf
+  command-adds x w p =
+      either (DidAdd x 8) (eqb w M) (λ e. order-adds x _) λ e.
+      either (DidAdd x 8) (eqb w SETAL) (λ g. order-adds x _) λ g.
+      lock-adds cancelled x (eqb w LOCK) (rankIn numbers (whole (getD s (p + 2) 0)) 0) (p + 4)
+
+  action-adds : (x : World) (p : ℕ) → DidAdd x 8 (actionOf s numbers cancelled number x p)
+  unfolding actionOf
+  action-adds x p =
+      either (DidAdd x 8) (eqb (getD s p 0) END) (λ e. tt) λ e.
+      either (DidAdd x 8) (isVariable (getD s p 0)) (λ g. assignment-adds s x (getD s p 0) p) λ g.
+      either (DidAdd x 8) (isDrive (getD s p 0)) (λ h. drive-adds s number x (getD s p 0) p) (λ h. command-adds x (getD s p 0) p)
+
+  actions-add : (j : ℕ) (x : World) (p : ℕ) → DidAdd x (8 * j) (actionsOf s numbers cancelled number j x p)
+  unfolding actionsOf
+  actions-add zero x p = tt
+  actions-add (suc j) x p =
+      ok-then (λ (d : Did). Adds x 8 (d .world)) (λ (d : Did). Adds x (8 * suc j) (d .world)) (actionOf s numbers cancelled number x p) _ (action-adds x p) λ d h.
+      either (DidAdd x (8 * suc j)) (eqb (getD s (d .next) 0) END) (λ e. omega arith) λ e.
+      ok-then (λ (f : Did). Adds (d .world) (8 * j) (f .world)) (λ (f : Did). Adds x (8 * suc j) (f .world)) (actionsOf s numbers cancelled number j (d .world) (d .next)) _
+      (actions-add j (d .world) (d .next)) (λ f g. omega arith)
+
+-- ---- turns
+
+module _ (s numbers : List ℕ) (cancelled : List Bool) (automatic : Bool) where
+  do-adds : (l : Line) (k : ℕ) (x : World) (es : List Entry) (b : Bool) → TurnAdds x 64 (doTurn s numbers cancelled automatic l k x es b)
+  unfolding doTurn
+  do-adds l k x es false = omega arith
+  do-adds l k x es true =
+      ok-then (λ (d : Did). Adds (counted x k) 64 (d .world)) (λ (t : Turned). Adds x 64 (t .world)) (actionsOf s numbers cancelled (l .number) 8 (counted x k) (l .actions)) _
+      (actions-add s numbers cancelled (l .number) 8 (counted x k) (l .actions)) (λ d h. h)
+
+  try-adds : (l : Line) (k : ℕ) (x : World) → TurnAdds x 64 (tryTurn s numbers cancelled automatic l k x)
+  unfolding tryTurn
+  try-adds l k x =
+      let m = getD (x .memory) k false in
+      either (TurnAdds x 64) (tries (l .keyword) m)
+      (λ e. ok-after (λ (t : Turned). Adds x 64 (t .world)) (fromGot (conditionValue s (x .vars .r) (x .vars .cells) (l .condition))) _ λ a.
+      do-adds l k (remembered x k (remembers (l .keyword) m (isYes (a .0)))) (worked k (isYes (a .0)) ∷ []) (acts (l .keyword) m (isYes (a .0))))
+      (λ e. do-adds l k x [] (acts (l .keyword) m false))
+
+  turn-adds : (l : Line) (k : ℕ) (x : World) → TurnAdds x 64 (turnOf s numbers cancelled automatic l k x)
+  unfolding turnOf
+  turn-adds l k x = either (TurnAdds x 64) (takesTurn s numbers cancelled automatic l k x) (λ e. try-adds l k x) (λ e. omega arith)
+
+  turns-add : (ls : List Line) (m k : ℕ) (x : World) → TurnAdds x (64 * m) (turnsFrom s numbers cancelled automatic ls m k x)
+  unfolding turnsFrom
+  turns-add ls zero k x = omega arith
+  turns-add ls (suc m) k x =
+      ok-then (λ (t : Turned). Adds x 64 (t .world)) (λ (t : Turned). Adds x (64 * suc m) (t .world)) (turnOf s numbers cancelled automatic (getD ls k noLine) k x) _
+      (turn-adds (getD ls k noLine) k x) λ t h.
+      ok-then (λ (u : Turned). Adds (t .world) (64 * m) (u .world)) (λ (u : Turned). Adds x (64 * suc m) (u .world)) (turnsFrom s numbers cancelled automatic ls m (k + 1) (t .world)) _
+      (turns-add ls m (k + 1) (t .world)) (λ u g. omega arith)
+
+-- ---- the beat
+
+-- the bytes of a beat's orders fit the buffer
+pub bytes-within : (s : List ℕ) (st : State) (automatic : Bool) (word : ℕ) (lent : List ℤ) (size : ℕ) →
+    Ok (λ (t : Turned). length (t .world .orders) ≤ 2048) (beatOf s st automatic word lent size)
+unfolding beatOf begun
+bytes-within s st automatic word lent size =
+    let P : Answer Turned → Type 0 = Ok (λ (t : Turned). length (t .world .orders) ≤ 2048) in
+    either P (isSound s st)
+    (λ e. either P (ltb size bufferSize) (λ g. tt) λ g.
+    either P (areInputs lent)
+    (λ h. ok-then (λ (t : Turned). Adds (begun st word lent) (64 * soundLines s .count) (t .world)) (λ (t : Turned). length (t .world .orders) ≤ 2048)
+    (turnsFrom s (soundLines s .numbers) (st .cancelled) automatic (soundLines s .items) (soundLines s .count) 0 (begun st word lent)) _
+    (turns-add s (soundLines s .numbers) (st .cancelled) automatic (soundLines s .items) (soundLines s .count) 0 (begun st word lent))
+    (λ t a. let f = lines-lined s .few in omega arith))
+    (λ h. tt))
+    (λ e. tt)
+
+answered-within : (st : State) (a : Answer Turned) → Ok (λ (t : Turned). length (t .world .orders) ≤ 2048) a → answered st a .orders ≤ 256
+answered-within st (good t) h = omega arith
+answered-within st (stop k) h = omega arith
+
+pub orders-within : (s : List ℕ) (st : State) (automatic : Bool) (word : ℕ) (lent : List ℤ) (b : List ℕ) → beatAnswer s st automatic word lent b .orders ≤ 256
+unfolding beatAnswer
+orders-within s st automatic word lent b = answered-within st (beatOf s st automatic word lent (length b)) (bytes-within s st automatic word lent (length b))

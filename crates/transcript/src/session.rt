@@ -1,0 +1,506 @@
+// A session of synrun: what it keeps between two pieces of its input, and how it works them line by line.
+ghost use mathlib.Core.Path.{_≡_};
+ghost use mathlib.Core.Bool.{cond, _||_};
+ghost use mathlib.Core.List.{List};
+ghost use Prim.Native.Nat.{ℕ, _+_, _≤_, _<_, min};
+ghost use lib.Dec.{eqb};
+ghost use lib.ListN.{length};
+ghost use Rattle.reader.specs.Row.{putAt};
+ghost use Rattle.transcript.specs.Run.{oneIf, counted, ended};
+ghost use Rattle.transcript.specs.Machine.{OVER, begun, isFit, starAfter, starOn, placeOn, placeEnd, withTotals, totalsOf, opened, textEnd, beatOf, beatEnd, chunk, lineEnd, textOver, lastOver, finishedText, worked};
+ghost use Rattle.transcript.specs.Held.{IsPut, IsFed, IsWork, lentIn, machineOf};
+ghost use Rattle.transcript.specs.RoomLaws.{Fit, Lives};
+use crate::beat_line::Reading;
+use crate::beat_line::Told;
+use crate::beat_line::is_untouched;
+use crate::beat_line::no_reading;
+use crate::beat_line::read_bytes;
+use crate::beat_line::read_lent;
+use crate::beat_line::without_cr;
+use crate::out::put;
+use crate::out::put_bytes;
+use crate::output::code_line;
+use crate::output::end_line;
+use crate::output::error_line;
+use crate::output::load_line;
+use crate::output::order_lines;
+use code::token::SIZE;
+use engine::beat::Beaten;
+use engine::beat::beat;
+use reader::load::load;
+use state::state::State;
+use state::state::power_on;
+use text::bytes::CR;
+use text::bytes::Kind;
+use text::bytes::LF;
+use text::bytes::run_end;
+
+// The bytes of set text that are kept: one more than a text may have, so that a longer one is seen to be too long.
+pub const KEPT: usize = 4097;
+// The bytes that output is handed over in.
+pub const OUT: usize = 16384;
+
+// The last place where a line's output may begin: one line prints at most 12288 bytes.
+const LAST_START: usize = 4096;
+
+const MAX_BEATS: u32 = 1000000;
+
+const MAX_ORDERS: u32 = 256;
+// The bytes of the orders of a beat.
+const ORDERS: usize = 2048;
+
+const LAST_FIELD: u8 = 15;
+
+const STAR: u8 = 42;
+
+// The phases: set text, beat lines, over.
+const TEXT: u8 = 0;
+
+const BEATS: u8 = 1;
+
+const OVER: u8 = 2;
+
+// Where the set text stands: how many bytes of it are kept, where its last line begins, and what that line is so far (0 nothing, 1 `*`, 2 `*` and CR, 3 anything else).
+pub struct Place {
+    pub size: usize,
+    pub start: usize,
+    pub star: u8,
+}
+
+pub struct Session {
+    pub phase: u8,
+    pub place: Place,
+    pub reading: Reading,
+    pub state: State,
+    pub beats: u32,
+    pub coded: u32,
+    pub orders: u32,
+}
+
+// What a piece of input came to: how much of it was taken, and how many bytes were written.
+pub struct Stepped {
+    pub session: Session,
+    pub taken: usize,
+    pub written: usize,
+}
+
+// What a line came to: the session, and the place behind what it printed.
+pub struct Ended {
+    pub session: Session,
+    pub end: usize,
+}
+
+// Before the first byte of input.
+pub fn begin() -> Session
+    ensures { λ x. ⌜ x ≡ begun ⌝ }
+{
+    Session {
+        phase: TEXT,
+        place: Place {
+            size: 0,
+            start: 0,
+            star: 0,
+        },
+        reading: no_reading(),
+        state: power_on(),
+        beats: 0,
+        coded: 0,
+        orders: 0,
+    }
+}
+
+// Whether a session is over: it prints nothing more.
+pub fn is_over(session: Session) -> bool
+    ensures { λ x. ⌜ x ≡ eqb (session .phase) OVER ⌝ }
+{
+    let phase = session.phase;
+    phase == OVER
+}
+
+// Whether a session could have come from a beginning.
+fn is_fit(session: Session) -> bool
+    ensures { λ x. ⌜ x ≡ isFit session ⌝ }
+{
+    let size = session.place.size;
+    if KEPT < size {
+        return false;
+    }
+    if size < session.place.start {
+        return false;
+    }
+    if LAST_FIELD < session.reading.field {
+        return false;
+    }
+    let beats = session.beats;
+    if MAX_BEATS <= beats {
+        return false;
+    }
+    if beats < session.coded {
+        return false;
+    }
+    session.orders <= beats * MAX_ORDERS
+}
+
+// ---- set text
+
+// What a line is with one more byte.
+fn star_after(star: u8, b: u8) -> u8
+    ensures { λ x. ⌜ x ≡ starAfter star b ⌝ }
+{
+    if star == 0 {
+        if b == STAR {
+            return 1;
+        }
+        return 3;
+    }
+    if star != 1 {
+        return 3;
+    }
+    if b == CR { 2 } else { 3 }
+}
+
+fn star_on(part: &[u8], star: u8) -> u8
+    ensures { λ x. ⌜ x ≡ starOn star (now (part .entry)) ⌝ }
+{
+    let mut s = star;
+    let mut i: usize = 0;
+    while i < part.len() {
+        s = star_after(s, part[i]);
+        i += 1;
+    }
+    s
+}
+
+// Whether a line is *, with or without a CR behind it.
+fn is_star(star: u8) -> bool
+    ensures { λ x. ⌜ x ≡ eqb star 1 || eqb star 2 ⌝ }
+{
+    if star == 1 {
+        return true;
+    }
+    star == 2
+}
+
+// The bytes kept with n more.
+fn size_with(size: usize, n: usize) -> usize
+    requires { ⌜ size ≤ 4097 ⌝ }
+    ensures { λ x. ⌜ x ≡ min 4097 (size + n) ⌝ }
+{
+    if KEPT - size <= n {
+        return KEPT;
+    }
+    size + n
+}
+
+// Bytes of a line, no LF among them, in set text.
+fn place_on(place: Place, part: &[u8]) -> Place
+    requires { ⌜ place .size ≤ 4097 ⌝ }
+    ensures { λ x. ⌜ x ≡ placeOn place (now (part .entry)) ⌝ }
+{
+    let size = size_with(place.size, part.len());
+    let star = star_on(part, place.star);
+    Place {
+        size: size,
+        start: place.start,
+        star: star,
+    }
+}
+
+// The LF of a line of set text.
+fn place_end(place: Place) -> Place
+    requires { ⌜ place .size ≤ 4097 ⌝ }
+    ensures { λ x. ⌜ x ≡ placeEnd place ⌝ }
+{
+    let size = size_with(place.size, 1);
+    Place {
+        size: size,
+        start: size,
+        star: 0,
+    }
+}
+
+// ---- beats
+
+// One more beat with a code, or none.
+fn one_if(code: u8) -> u32
+    ensures { λ x. ⌜ (x ≡ oneIf code) × (x ≤ 1) ⌝ }
+{
+    if code == 0 { 0 } else { 1 }
+}
+
+// A beat is over: it is counted, and no byte of the next line is read.
+fn count(session: Session, b: Beaten) -> Session
+    requires { ⌜ Fit session × (b .orders ≤ 256) ⌝ }
+    ensures { λ x. ⌜ x ≡ withTotals session (counted (totalsOf session) b) ⌝ }
+{
+    let coded = one_if(b.code);
+    let state = b.state;
+    let mut x = session;
+    x.reading = no_reading();
+    x.state = state;
+    x.beats = session.beats + 1;
+    x.coded = session.coded + coded;
+    x.orders = session.orders + b.orders;
+    x
+}
+
+// END
+fn put_end(session: Session, out: &mut [u8], at: usize) -> usize
+    requires { ⌜ at ≤ 65000 ⌝ }
+    ensures { λ x. ⌜ IsPut (now (out .entry)) at (ended (totalsOf session)) (now (out .exit)) x ⌝ }
+{
+    end_line(out, at, session.beats, session.coded, session.orders)
+}
+
+// A beat line that lends something: C, an O per order, and END behind the last beat.
+fn work_beat(session: Session, set: &[u32; SIZE], told: Told, out: &mut [u8], at: usize) -> Ended
+    requires { ⌜ Fit session × (at ≤ 4096) ⌝ }
+    ensures { λ x. ⌜ ((t : List ℕ) → IsFed (beatOf (machineOf t (now (set .entry)) session) (lentIn told)) t (now (set .entry)) (now (out .entry)) at x (now (out .exit))) ⌝ }
+{
+    let mut orders = [0u8; ORDERS];
+    let state = session.state;
+    let numbers = told.numbers;
+    let b = beat(set, state, told.automatic, told.word, &numbers, &mut orders);
+    let n = b.orders;
+    let p = code_line(out, at, session.beats + 1, b.code, n);
+    let q = order_lines(out, p, &orders, n as usize);
+    let mut x = count(session, b);
+    if x.beats == MAX_BEATS {
+        let end = put_end(x, out, q);
+        x.phase = OVER;
+        return Ended {
+            session: x,
+            end: end,
+        };
+    }
+    Ended { session: x, end: q }
+}
+
+// A beat line that was read: E if it is ill-formed.
+fn beat_end(
+    session: Session,
+    set: &[u32; SIZE],
+    reading: Reading,
+    out: &mut [u8],
+    at: usize,
+) -> Ended
+    requires { ⌜ Fit session × (at ≤ 4096) ⌝ }
+    ensures { λ x. ⌜ ((t : List ℕ) → IsFed (beatEnd (machineOf t (now (set .entry)) session) reading) t (now (set .entry)) (now (out .entry)) at x (now (out .exit))) ⌝ }
+{
+    let told = read_lent(reading);
+    let good = told.good;
+    if good {
+        return work_beat(session, set, told, out, at);
+    }
+    let end = error_line(out, at, session.beats + 1);
+    let mut x = session;
+    x.phase = OVER;
+    Ended {
+        session: x,
+        end: end,
+    }
+}
+
+// ---- lines
+
+// Bytes of a line, no LF among them.
+fn take_bytes(session: Session, text: &mut [u8; KEPT], part: &[u8]) -> Session
+    requires { ⌜ Lives session ⌝ }
+    ensures { λ x. ⌜ ((s : List ℕ) → machineOf (now (text .exit)) s x ≡ chunk (machineOf (now (text .entry)) s session) (now (part .entry))) ⌝ }
+{
+    let mut x = session;
+    let phase = session.phase;
+    if phase == TEXT {
+        let place = session.place;
+        put_bytes(text, place.size, part);
+        x.place = place_on(place, part);
+        return x;
+    }
+    if phase == BEATS {
+        let reading = session.reading;
+        x.reading = read_bytes(part, reading);
+        return x;
+    }
+    x
+}
+
+// The set text is whole: it is loaded.
+fn open_set(session: Session, t: &[u8], set: &mut [u32; SIZE], out: &mut [u8], at: usize) -> Ended
+    requires { ⌜ at ≤ 4096 ⌝ }
+    ensures { λ x. ⌜ ((m : List ℕ) → IsFed (opened (machineOf m (now (set .entry)) session) (now (t .entry))) m (now (set .exit)) (now (out .entry)) at x (now (out .exit))) ⌝ }
+{
+    let l = load(t, set);
+    let code = l.code;
+    let mut x = session;
+    if code != 0 {
+        x.phase = OVER;
+        let end = load_line(out, at, code, l.line);
+        return Ended {
+            session: x,
+            end: end,
+        };
+    }
+    x.phase = BEATS;
+    x.reading = no_reading();
+    Ended {
+        session: x,
+        end: at,
+    }
+}
+
+// The LF of a line of set text: behind the line * the text before it is whole.
+fn text_end(
+    session: Session,
+    text: &mut [u8; KEPT],
+    set: &mut [u32; SIZE],
+    out: &mut [u8],
+    at: usize,
+) -> Ended
+    requires { ⌜ Fit session × (at ≤ 4096) ⌝ }
+    ensures { λ x. ⌜ IsFed (textEnd (machineOf (now (text .entry)) (now (set .entry)) session)) (now (text .exit)) (now (set .exit)) (now (out .entry)) at x (now (out .exit)) ⌝ }
+{
+    let place = session.place;
+    if is_star(place.star) {
+        let all = &text[..];
+        let start = place.start;
+        return open_set(session, &all[..start], set, out, at);
+    }
+    put(text, place.size, LF);
+    let mut x = session;
+    x.place = place_end(place);
+    Ended {
+        session: x,
+        end: at,
+    }
+}
+
+// An LF.
+fn line_end(
+    session: Session,
+    text: &mut [u8; KEPT],
+    set: &mut [u32; SIZE],
+    out: &mut [u8],
+    at: usize,
+) -> Ended
+    requires { ⌜ Lives session × (at ≤ 4096) ⌝ }
+    ensures { λ x. ⌜ IsFed (lineEnd (machineOf (now (text .entry)) (now (set .entry)) session)) (now (text .exit)) (now (set .exit)) (now (out .entry)) at x (now (out .exit)) ⌝ }
+{
+    let phase = session.phase;
+    if phase == TEXT {
+        return text_end(session, text, set, out, at);
+    }
+    if phase == BEATS {
+        let reading = session.reading;
+        return beat_end(session, set, without_cr(reading), out, at);
+    }
+    Ended {
+        session: session,
+        end: at,
+    }
+}
+
+// ---- the calls
+
+// A piece of input, line by line while there is room for what one more line may print. What is left of the piece goes in again.
+pub fn step(
+    session: Session,
+    text: &mut [u8; KEPT],
+    set: &mut [u32; SIZE],
+    input: &[u8],
+    out: &mut [u8; OUT],
+) -> Stepped
+    ensures { λ x. ⌜ IsWork (worked (machineOf (now (text .entry)) (now (set .entry)) session) (now (input .entry))) (now (text .exit)) (now (set .exit)) (now (out .entry)) x (now (out .exit)) ⌝ }
+{
+    let mut s = session;
+    let mut i: usize = 0;
+    let mut at: usize = 0;
+    if !is_fit(s) {
+        return Stepped {
+            session: s,
+            taken: input.len(),
+            written: 0,
+        };
+    }
+    while at <= LAST_START {
+        let end = run_end(input, i, Kind::Line);
+        s = take_bytes(s, text, &input[i..end]);
+        if input.len() <= end {
+            return Stepped {
+                session: s,
+                taken: end,
+                written: at,
+            };
+        }
+        let f = line_end(s, text, set, out, at);
+        let next = f.session;
+        s = next;
+        at = f.end;
+        i = end + 1;
+    }
+    Stepped {
+        session: s,
+        taken: i,
+        written: at,
+    }
+}
+
+// Where the set text ends if its last line has no LF: before the line *, or behind all of it.
+fn text_size(place: Place) -> usize
+    ensures { λ x. ⌜ x ≡ cond (eqb (place .star) 1) (place .start) (place .size) ⌝ }
+{
+    let star = place.star;
+    if star == 1 { place.start } else { place.size }
+}
+
+// All input is set text: L, or END of no beat.
+fn text_over(session: Session, t: &[u8], out: &mut [u8]) -> usize
+    ensures { λ x. ⌜ ((m s : List ℕ) → IsPut (now (out .entry)) 0 (textOver (machineOf m s session) (now (t .entry))) (now (out .exit)) x) ⌝ }
+{
+    let mut lines = [0u32; SIZE];
+    let l = load(t, &mut lines);
+    let code = l.code;
+    if code != 0 {
+        return load_line(out, 0, code, l.line);
+    }
+    put_end(session, out, 0)
+}
+
+// A last beat line without LF.
+fn last_over(session: Session, set: &[u32; SIZE], reading: Reading, out: &mut [u8]) -> usize
+    requires { ⌜ Fit session ⌝ }
+    ensures { λ x. ⌜ ((t : List ℕ) → IsPut (now (out .entry)) 0 (lastOver (machineOf t (now (set .entry)) session) (beatEnd (machineOf t (now (set .entry)) session) reading)) (now (out .exit)) x) ⌝ }
+{
+    let f = beat_end(session, set, reading, out, 0);
+    let s = f.session;
+    let end = f.end;
+    let phase = s.phase;
+    if phase == BEATS {
+        return put_end(s, out, end);
+    }
+    end
+}
+
+// The end of input: what is still to be printed, and how many bytes it is.
+pub fn finish(session: Session, text: &[u8; KEPT], set: &[u32; SIZE], out: &mut [u8; OUT]) -> usize
+    ensures { λ x. ⌜ x ≡ length (finishedText (machineOf (now (text .entry)) (now (set .entry)) session)) ⌝ }
+    ensures { λ x. ⌜ now (out .exit) ≡ putAt (now (out .entry)) 0 (finishedText (machineOf (now (text .entry)) (now (set .entry)) session)) ⌝ }
+{
+    if !is_fit(session) {
+        return 0;
+    }
+    let phase = session.phase;
+    if phase == TEXT {
+        let all = &text[..];
+        let place = session.place;
+        let n = text_size(place);
+        return text_over(session, &all[..n], out);
+    }
+    if phase != BEATS {
+        return 0;
+    }
+    let reading = session.reading;
+    if is_untouched(reading) {
+        return put_end(session, out, 0);
+    }
+    last_over(session, set, reading, out)
+}
