@@ -9,22 +9,14 @@ use lib.ListN.{getD}
 use borrow.Author.Tests.{not-false, eq-eqb, ne-eqb}
 use Rattle.code.specs.declared.check.Look.{Look}
 use Rattle.code.specs.declared.check.Line.{Line}
-use Rattle.code.specs.Token.{END, EQUALS, OPEN, CLOSE, IDS, M, isFactor, isTerm, isFifo, isCall, isKeyword, isWhole, whole}
-use Rattle.code.specs.Reading.{Read, read, ends, then, isIndexed, indexAt, expressionAt}
-use Rattle.code.specs.Fault.{sight, shownFault, shownRead, lower, unless, faultFor, isRemoval, codeFault, callFault, assignmentAt, commandAt, actionAt, countFault, actionsAt, numberOf, faultyLine, lineParts, bodyAt, restAt}
-use Rattle.code.proofs.Between.{tested}
+use Rattle.tokens.specs.Token.{END, EQUALS, OPEN, CLOSE, IDS, M, isFactor, isTerm, isFifo, isCall, isKeyword, isWhole, whole}
+use Rattle.tokens.specs.Reading.{Read, read, ends, then, isIndexed, indexAt, expressionAt}
+use Rattle.code.specs.Fault.{sight, shownFault, shownRead, faultFor, isRemoval, assignmentAt, commandAt, actionAt, countFault, actionsAt, numberOf, faultyLine, lineParts, bodyAt, restAt}
+use Rattle.tokens.specs.SingleFault.{lower, codeFault, callFault}
+use Rattle.tokens.proofs.Between.{tested}
 use Rattle.code.proofs.Shown.{fault-ends, fault-read, is-end, is-read, stays, behind}
 
 -- ---- a fault 7 hides a higher one
-
-pub none-first : (b : ℕ) → lower 0 b ≡ b
-unfolding lower
-none-first b = refl
-
-pub outside-first : (b : Bool) (k : ℕ) → 7 < k → lower 7 (unless b k) ≡ 7
-unfolding lower
-outside-first true k l = refl
-outside-first false k l = simp (lower, ne-eqb k 0 (omega arith)) (omega arith)
 
 -- ---- actions
 

@@ -4,7 +4,7 @@ use mathlib.Core.Bool.{Bool, true, false, not}
 use Prim.Native.Nat.{ℕ}
 use borrow.Author.Tests.{not-true, not-false}
 use Rattle.code.specs.declared.check.Look.{Look}
-use Rattle.code.specs.Reading.{Read, read, ends, then}
+use Rattle.tokens.specs.Reading.{Read, read, ends, then}
 use Rattle.code.specs.Fault.{Sight, shown, shownSight, shownFault, shownRead, faultFor}
 use Rattle.code.proofs.Answers as answers
 

@@ -4,64 +4,50 @@
 ghost use mathlib.Core.Path.{_≡_};
 ghost use mathlib.Core.Bool.{true, false};
 ghost use Prim.Native.Nat.{_<_};
-ghost use lib.ListN.{drop};
-ghost use Rattle.code.specs.Reading.{read, ends, upTo, then, readOperand, readProduct, readSum, readExpression, readClose, readVariable, readTruth};
-ghost use Rattle.code.specs.Fault.{lower, opensTooMany, wantingFault, numberFault, readFault, joinSights, sight, shown, shownSight, signedSight, shownFault, shownRead, faultFor, isWritable, writeFault, codeFault, callFault, idFault, isRemoval, assignedAt, assignmentAt, commandAt, actionAt, countFault, actionsAt, numberOf, faultyLine, lineParts, bodyAt, restAt, lineAt};
-use crate::index::is_inside;
-use crate::token::CLOSE;
-use crate::token::DO;
-use crate::token::END;
-use crate::token::EQUALS;
-use crate::token::EVERY;
-use crate::token::FALSE;
-use crate::token::IDS;
-use crate::token::M;
-use crate::token::MINUS;
-use crate::token::NOT;
-use crate::token::NUMBER;
-use crate::token::OPEN;
-use crate::token::OUT;
-use crate::token::R;
-use crate::token::SETAL;
-use crate::token::SIZE;
-use crate::token::TIMER;
-use crate::token::TRUE;
-use crate::token::WHEN;
-use crate::token::index_at;
-use crate::token::is_call;
-use crate::token::is_compare;
-use crate::token::is_drive;
-use crate::token::is_factor;
-use crate::token::is_fifo;
-use crate::token::is_id;
-use crate::token::is_indexed;
-use crate::token::is_keyword;
-use crate::token::is_logic;
-use crate::token::is_row;
-use crate::token::is_term;
-use crate::token::is_variable;
-use crate::token::is_whole;
-use crate::token::token_at;
-use crate::token::whole_of;
-use values::arithmetic::TOP;
-
-// The codes.
-pub const TOO_DEEP: u8 = 4;
-
-pub const NOT_IN_GRAMMAR: u8 = 5;
-
-pub const CONFUSED: u8 = 6;
-
-pub const OUTSIDE: u8 = 7;
-
-pub const READ_ONLY: u8 = 8;
-
-pub const CODE_ALONE: u8 = 9;
-
-pub const TOO_MANY: u8 = 10;
-
-// The brackets that may be open, and the actions of a line.
-pub const BRACKETS: usize = 8;
+ghost use Rattle.tokens.specs.Reading.{read, ends, then, readOperand, readProduct, readSum, readExpression, readClose, readVariable, readTruth};
+ghost use Rattle.code.specs.Fault.{joinSights, sight, shown, shownSight, signedSight, shownFault, shownRead, faultFor, isRemoval, assignedAt, assignmentAt, commandAt, actionAt, countFault, actionsAt, numberOf, faultyLine, lineParts, bodyAt, restAt, lineAt};
+use tokens::fault::NOT_IN_GRAMMAR;
+use tokens::fault::TOO_DEEP;
+use tokens::fault::TOO_MANY;
+use tokens::fault::call_fault;
+use tokens::fault::code_fault;
+use tokens::fault::id_fault;
+use tokens::fault::lower_of;
+use tokens::fault::number_fault;
+use tokens::fault::opens_too_many;
+use tokens::fault::read_fault;
+use tokens::fault::wanting;
+use tokens::fault::write_fault;
+use tokens::token::CLOSE;
+use tokens::token::DO;
+use tokens::token::END;
+use tokens::token::EQUALS;
+use tokens::token::FALSE;
+use tokens::token::IDS;
+use tokens::token::M;
+use tokens::token::MINUS;
+use tokens::token::NOT;
+use tokens::token::NUMBER;
+use tokens::token::OPEN;
+use tokens::token::SETAL;
+use tokens::token::SIZE;
+use tokens::token::TRUE;
+use tokens::token::index_at;
+use tokens::token::is_call;
+use tokens::token::is_compare;
+use tokens::token::is_drive;
+use tokens::token::is_factor;
+use tokens::token::is_fifo;
+use tokens::token::is_id;
+use tokens::token::is_indexed;
+use tokens::token::is_keyword;
+use tokens::token::is_logic;
+use tokens::token::is_row;
+use tokens::token::is_term;
+use tokens::token::is_variable;
+use tokens::token::is_whole;
+use tokens::token::token_at;
+use tokens::token::whole_of;
 
 pub const ACTIONS: usize = 8;
 
@@ -86,109 +72,6 @@ pub struct Line {
 }
 
 // ---- faults of single things
-
-// The lower of two faults.
-fn lower_of(a: u8, b: u8) -> u8
-    ensures { λ x. ⌜ x ≡ lower a b ⌝ }
-{
-    if a == 0 {
-        return b;
-    }
-    if b == 0 {
-        return a;
-    }
-    if a < b { a } else { b }
-}
-
-// 6 where a yes/no (true) or a number (false) is wanted and the other stands.
-fn wanting(wanted: bool, truth: bool) -> u8
-    ensures { λ x. ⌜ x ≡ wantingFault wanted truth ⌝ }
-{
-    if wanted == truth { 0 } else { CONFUSED }
-}
-
-fn number_fault(t: u32) -> u8
-    ensures { λ x. ⌜ x ≡ numberFault t ⌝ }
-{
-    if t / 2 <= TOP as u32 { 0 } else { OUTSIDE }
-}
-
-fn read_fault(w: u32, i: u32) -> u8
-    ensures { λ x. ⌜ x ≡ readFault w i ⌝ }
-{
-    if !is_inside(w, i) {
-        return OUTSIDE;
-    }
-    if i != 0 {
-        return 0;
-    }
-    if is_fifo(w) { READ_ONLY } else { 0 }
-}
-
-fn is_writable(w: u32, i: u32) -> bool
-    ensures { λ x. ⌜ x ≡ isWritable w i ⌝ }
-{
-    if is_fifo(w) {
-        if i == 0 {
-            return true;
-        }
-        return i == 4;
-    }
-    if w == R {
-        return i < 100;
-    }
-    if w < OUT {
-        return false;
-    }
-    w <= TIMER
-}
-
-fn write_fault(w: u32, i: u32) -> u8
-    ensures { λ x. ⌜ x ≡ writeFault w i ⌝ }
-{
-    if !is_inside(w, i) {
-        return OUTSIDE;
-    }
-    if is_writable(w, i) { 0 } else { READ_ONLY }
-}
-
-fn code_fault(keyword: u32, n: u32) -> u8
-    ensures { λ x. ⌜ x ≡ codeFault keyword n ⌝ }
-{
-    if 99 < n {
-        return OUTSIDE;
-    }
-    if (keyword == WHEN) | (keyword == EVERY) {
-        0
-    } else {
-        CODE_ALONE
-    }
-}
-
-fn call_fault(w: u32, n: u32) -> u8
-    ensures { λ x. ⌜ x ≡ callFault w n ⌝ }
-{
-    if w == SETAL {
-        if n < 65000 {
-            return OUTSIDE;
-        }
-        if n <= 69999 {
-            return 0;
-        }
-        return OUTSIDE;
-    }
-    id_fault(n)
-}
-
-// Line numbers are 1 to 255.
-fn id_fault(n: u32) -> u8
-    ensures { λ x. ⌜ x ≡ idFault n ⌝ }
-{
-    if n < 1 {
-        return OUTSIDE;
-    }
-    if n <= 255 { 0 } else { OUTSIDE }
-}
 
 // ---- what one step sees
 
@@ -603,32 +486,6 @@ fn actions(code: &[u32; SIZE], keyword: u32, fault: u8, at: usize) -> Look
 }
 
 // ---- a line
-
-// Whether more than eight brackets ( are open at some place from `at` to the line's end.
-fn opens_too_many(code: &[u32], at: usize) -> bool
-    ensures { λ x. ⌜ x ≡ opensTooMany (drop at (now (code .entry))) 0 ⌝ }
-{
-    let mut open: usize = 0;
-    let mut i = at;
-    while i < code.len() {
-        let t = token_at(code, i);
-        if t == END {
-            return false;
-        }
-        if t == OPEN {
-            if BRACKETS <= open {
-                return true;
-            }
-            open += 1;
-        } else if t == CLOSE {
-            if 0 < open {
-                open -= 1;
-            }
-        }
-        i += 1;
-    }
-    false
-}
 
 fn faulty(fault: u8) -> Line
     ensures { λ x. ⌜ x ≡ faultyLine fault ⌝ }

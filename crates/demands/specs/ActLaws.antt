@@ -10,12 +10,12 @@ use native.Mathlib.Nat.{pow-suc, one-le-pow, div-eq-of-lt, add-mul-div-left, add
 use lib.Dec.{eqb}
 use lib.IntN.{ℤ}
 use lib.ListN.{getD}
-use Rattle.code.specs.Reading.{Answer, good, stop, _>>=_}
+use Rattle.tokens.specs.Reading.{Answer, good, stop, _>>=_}
 use Rattle.working.specs.Working.{isYes, conditionValue}
 use Rattle.code.specs.declared.check.Line.{Line}
-use Rattle.state.specs.declared.set.Lines.{Lines}
-use Rattle.state.specs.Set.{noLine}
-use Rattle.engine.specs.Action.{World, Note, fromGot, actionsOf}
+use Rattle.set.specs.declared.set.Lines.{Lines}
+use Rattle.set.specs.Set.{noLine}
+use Rattle.actions.specs.Action.{World, Note, fromGot, actionsOf}
 use Rattle.engine.specs.Turn.{Entry, worked, locks, lockEntry, Turned, counted, doTurn}
 use Rattle.demands.specs.Record.{Record, after, only, orElse, isAutomatic, wasTrue, everTrue, takesByRule, triesByRule, actsByRule}
 use Rattle.demands.specs.Run.{byRank, cancelledBy, tryByRule, turnByRule, turnsByRule}

@@ -7,11 +7,13 @@ use Prim.Native.Nat.{ℕ, zero, suc, _+_, _<_}
 use native.Mathlib.Omega.{arith}
 use lib.Dec.{eqb, ltb}
 use lib.ListN.{getD, set}
-use Rattle.code.specs.Token.{END, M, SETAL, LOCK, isVariable, isDrive, whole}
-use Rattle.code.specs.Reading.{Answer, good, stop, _>>=_, indexAt}
+use Rattle.tokens.specs.Token.{END, M, SETAL, LOCK, isVariable, isDrive, whole}
+use Rattle.tokens.specs.Reading.{Answer, good, stop, _>>=_, indexAt}
 use Rattle.working.specs.Working.{rightValue}
-use Rattle.state.specs.Set.{maxLines, rankIn}
-use Rattle.engine.specs.Action.{World, Note, Did, fromGot, driveOrder, takenAt, writeTo, assignmentOf, lockOf, commandOf, driveOf, actionOf, actionsOf}
+use Rattle.set.specs.Set.{maxLines, rankIn}
+use Rattle.actions.specs.Action.{World, Note, Did, fromGot, takenAt, assignmentOf, lockOf, commandOf, driveOf, actionOf, actionsOf}
+use Rattle.writing.specs.Drive.{driveOrder}
+use Rattle.writing.specs.Write.{writeTo}
 use Rattle.demands.specs.FlagLaws.{below}
 
 -- ---- answers

@@ -4,10 +4,10 @@ use mathlib.Core.List.{List, [], _∷_}
 use Prim.Native.Nat.{ℕ, _/_, _%_, _^_}
 use lib.Dec.{eqb}
 use lib.IntN.{ℤ}
-use Rattle.code.specs.Reading.{Answer, good, stop}
+use Rattle.tokens.specs.Reading.{Answer, good, stop}
 use Rattle.working.specs.Working.{isYes, conditionValue}
 use Rattle.code.specs.declared.check.Line.{Line}
-use Rattle.engine.specs.Action.{World, fromGot}
+use Rattle.actions.specs.Action.{World, fromGot}
 use Rattle.demands.specs.Record.{Record, takesByRule, triesByRule, actsByRule}
 use Rattle.demands.specs.Run.{Call, doBeat, doLock, doUnlock, doCancel, doReset, Reply}
 

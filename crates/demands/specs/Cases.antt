@@ -5,22 +5,26 @@ use mathlib.Core.List.{List, [], _∷_, map}
 use Prim.Native.Nat.{ℕ}
 use lib.IntN.{pos}
 use lib.ListN.{replicate}
-use Rattle.code.specs.Token.{END, EQUALS, SAME, OPEN, CLOSE, LEFT, RIGHT, ID, IDS, WHEN, WHENEVER, FROM, EVERY, DO, IN, OUT, M, LOCK, wholeToken}
+use Rattle.tokens.specs.Token.{END, EQUALS, SAME, OPEN, CLOSE, LEFT, RIGHT, ID, IDS, WHEN, WHENEVER, FROM, EVERY, DO, IN, OUT, M, LOCK, wholeToken}
 use Rattle.values.specs.Value.{inRange, valued, lessThan, equalTo, wholeUnits, outputOf}
 use Rattle.values.specs.Time.{grownTimer}
-use Rattle.code.specs.Reading.{isIndex, indexOf, isIndexed, indexAt, joined, more, readProduct, readSum, readRest, readExpression, readVariable, operandFrom, readOperand, sumAt, expressionAt}
-use Rattle.code.specs.Index.{isInside}
+use Rattle.tokens.specs.Reading.{isIndex, indexOf, isIndexed, indexAt, joined, more, readProduct, readSum, readRest, readExpression, readVariable, operandFrom, readOperand, sumAt, expressionAt}
+use Rattle.tokens.specs.Index.{isInside}
 use Rattle.working.specs.Variables.{cellOf, variableValue}
-use Rattle.code.specs.Fault.{lower, opensTooMany, wantingFault, numberFault, readFault, joinSights, sight, isWritable, writeFault, codeFault, idFault, callFault, countFault, numberOf, isRemoval, assignedAt, assignmentAt, commandAt, actionAt, actionsAt, lineParts, bodyAt, restAt, lineAt}
+use Rattle.tokens.specs.SingleFault.{lower, opensTooMany, wantingFault, numberFault, readFault, isWritable, writeFault, codeFault, idFault, callFault}
+use Rattle.code.specs.Fault.{joinSights, sight, countFault, numberOf, isRemoval, assignedAt, assignmentAt, commandAt, actionAt, actionsAt, lineParts, bodyAt, restAt, lineAt}
 use Rattle.working.specs.Working.{joinTruths, joinValues, valueOver, conditionValue, rightValue}
-use Rattle.state.specs.Set.{linesFrom, linesRead, rankIn, namesKnown, allKnown, namedLines, soundLines}
+use Rattle.set.specs.Set.{linesFrom, linesRead, rankIn, namesKnown, allKnown, namedLines, soundLines}
 use Rattle.state.specs.State.{powerOn}
-use Rattle.engine.specs.Cells.{grownCells, inputCells, beatCells}
+use Rattle.state.specs.Timers.{grownCells}
+use Rattle.engine.specs.Cells.{inputCells, beatCells}
 use Rattle.state.specs.Sound.{allRanged, isCell, areCells, allZero, isFifoSound, isFlag, areFlags, stateSound, isSound}
-use Rattle.engine.specs.Action.{writeCell, writeInside, writeTo, lockOf, takenAt, assignmentOf, commandOf, actionOf, actionsOf}
-use Rattle.engine.specs.Turn.{tries, acts, remembers, takesTurn, doTurn, tryTurn, turnOf, turnsFrom}
+use Rattle.writing.specs.Write.{writeCell, writeInside, writeTo}
+use Rattle.actions.specs.Action.{lockOf, takenAt, assignmentOf, commandOf, actionOf, actionsOf}
+use Rattle.state.specs.Keyword.{tries, acts, remembers}
+use Rattle.engine.specs.Turn.{takesTurn, doTurn, tryTurn, turnOf, turnsFrom}
 use Rattle.engine.specs.Beat.{areInputs, begun, ended, beatOf, beatAnswer, beatBuffer}
-use Rattle.state.specs.Calls.{foundAt, found, called, lockedCall, lockCall, unlockCall, cancelCall, resetCancelled, zeroed, resetState, resetCall}
+use Rattle.calls.specs.Calls.{foundAt, found, called, lockedCall, lockCall, unlockCall, cancelCall, resetCancelled, zeroed, resetState, resetCall}
 use Rattle.demands.specs.Run.{Call, doBeat, doLock, doUnlock, doCancel, doReset, run, step, runFrom}
 
 abbrev n : ℕ → ℕ

@@ -9,20 +9,21 @@ use native.Mathlib.Nat.{zero-div}
 use lib.Dec.{eqb, ltb}
 use lib.IntN.{ℤ}
 use lib.ListN.{length, getD}
-use Rattle.code.specs.Token.{WHEN, EVERY}
-use Rattle.code.specs.Reading.{Answer, good, stop, _>>=_}
+use Rattle.tokens.specs.Token.{WHEN, EVERY}
+use Rattle.tokens.specs.Reading.{Answer, good, stop, _>>=_}
 use Rattle.working.specs.Working.{isYes, conditionValue}
 use Rattle.code.specs.declared.check.Line.{Line}
-use Rattle.state.specs.declared.set.Lines.{Lines}
+use Rattle.set.specs.declared.set.Lines.{Lines}
 use Rattle.state.specs.declared.state.State.{State}
-use Rattle.state.specs.declared.calls.Found.{Found}
-use Rattle.state.specs.declared.calls.Called.{Called}
-use Rattle.state.specs.Set.{noLine, soundLines}
+use Rattle.calls.specs.declared.host.Found.{Found}
+use Rattle.calls.specs.declared.host.Called.{Called}
+use Rattle.set.specs.Set.{noLine, soundLines}
 use Rattle.state.specs.Sound.{isSound}
-use Rattle.engine.specs.Action.{Vars, World, Note, Did, fromGot, actionsOf}
+use Rattle.writing.specs.Write.{Vars}
+use Rattle.actions.specs.Action.{World, Note, Did, fromGot, actionsOf}
 use Rattle.engine.specs.Turn.{Entry, beatIn, worked, locks, cancels, resets, Turned, counted, doTurn, turnsFrom}
 use Rattle.engine.specs.Beat.{bufferSize, areInputs, begun, beatOf, answered, beatAnswer}
-use Rattle.state.specs.Calls.{withLocked, found, called, lockedCall, lockCall, unlockCall}
+use Rattle.calls.specs.Calls.{withLocked, found, called, lockedCall, lockCall, unlockCall}
 use Rattle.demands.specs.Record.{Record, after, isAutomatic, everTrue, wasTrue, takesByRule, triesByRule, actsByRule}
 use Rattle.demands.specs.Run.{Call, doBeat, doLock, doUnlock, doCancel, doReset, Now, coded, noted, rankOf, codeByRule, cleared, run, stateBy, begunBy, byRank, cancelledBy, tryByRule, turnByRule, turnsByRule, beatByRule, stepByRule, resetByRule, runByRuleFrom, runByRule, beatenByRule}
 use Rattle.demands.specs.Acts.{isActed, conditionNow, triesNow, actsNow, actedSince}

@@ -7,18 +7,18 @@ use native.Mathlib.Omega.{arith}
 use lib.Dec.{ltb}
 use lib.IntN.{ℤ}
 use lib.ListN.{length, getD}
-use Rattle.code.specs.Reading.{Answer, good, stop, _>>=_}
-use Rattle.state.specs.declared.set.Lines.{Lines}
+use Rattle.tokens.specs.Reading.{Answer, good, stop, _>>=_}
+use Rattle.set.specs.declared.set.Lines.{Lines}
 use Rattle.state.specs.declared.state.State.{State}
-use Rattle.state.specs.declared.calls.Found.{Found}
-use Rattle.state.specs.declared.calls.Called.{Called}
-use Rattle.state.specs.Set.{noLine, soundLines}
+use Rattle.calls.specs.declared.host.Found.{Found}
+use Rattle.calls.specs.declared.host.Called.{Called}
+use Rattle.set.specs.Set.{noLine, soundLines}
 use Rattle.state.specs.State.{powerOn}
 use Rattle.state.specs.Sound.{unsoundCode, isSound}
-use Rattle.engine.specs.Action.{Vars}
+use Rattle.writing.specs.Write.{Vars}
 use Rattle.engine.specs.Turn.{Entry, beatIn, locks, cancels, resets, Turned}
 use Rattle.engine.specs.Beat.{bufferSize, areInputs, begun, ended, beatOf, answered, buffered, beatAnswer, beatBuffer}
-use Rattle.state.specs.Calls.{unknownLine, withLocked, withCancelled, foundAt, found, called, lockedCall, lockCall, unlockCall, cancelCall, resetState, resetCall}
+use Rattle.calls.specs.Calls.{unknownLine, withLocked, withCancelled, foundAt, found, called, lockedCall, lockCall, unlockCall, cancelCall, resetState, resetCall}
 use Rattle.demands.specs.Record.{Record, after, isCancelled, isLocked}
 use Rattle.demands.specs.Run.{Call, doBeat, doLock, doUnlock, doCancel, doReset, Now, coded, entriesOf, rankOf, hosted, beaten, step, runFrom, run, byRank, cancelledBy, lockedBy, remembersBy, memoryBy, variablesOf, stateBy, begunBy, endedBy, turnsByRule, beatByRule, codeByRule, hostedByRule, beatenByRule, cleared, resetByRule, stepByRule, runByRuleFrom, runByRule}
 use Rattle.demands.specs.FlagLaws.{below, below-true, byRank-at, count-small, lock-locked, cancel-cancelled, cancel-locked, cancel-memory, reset-locked, reset-cancelled, reset-memory, new-locked, new-cancelled, new-memory}

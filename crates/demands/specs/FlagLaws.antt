@@ -8,12 +8,13 @@ use native.Mathlib.Omega.{arith}
 use lib.Dec.{T, eqb, ltb, eqb→eq, eqb-refl, ltb→lt, lt→ltb, nltb→le, leb·suc-zero}
 use lib.ListN.{length, getD, set, replicate, length-set, length-replicate, getD-replicate}
 use lib.Seq.{getD-set-same, getD-set-other, ext-getD}
-use Rattle.code.specs.Token.{WHEN, FROM, EVERY}
+use Rattle.tokens.specs.Token.{WHEN, FROM, EVERY}
 use Rattle.code.specs.declared.check.Line.{Line}
-use Rattle.state.specs.declared.set.Lines.{Lines}
-use Rattle.state.specs.Set.{maxLines, noLine, noLines, lineCount, lineOf, linesFrom, linesRead, allKnown, namedLines, soundLines}
-use Rattle.engine.specs.Turn.{worked, locks, cancels, resets, remembers}
-use Rattle.state.specs.Calls.{resetCancelled}
+use Rattle.set.specs.declared.set.Lines.{Lines}
+use Rattle.set.specs.Set.{maxLines, noLine, noLines, lineCount, lineOf, linesFrom, linesRead, allKnown, namedLines, soundLines}
+use Rattle.engine.specs.Turn.{worked, locks, cancels, resets}
+use Rattle.state.specs.Keyword.{remembers}
+use Rattle.calls.specs.Calls.{resetCancelled}
 use Rattle.demands.specs.Record.{Record, only, orElse, isCancelled, isLocked, wasTrue, everTrue}
 use Rattle.demands.specs.Run.{ranks, byRank, cancelledBy, lockedBy, remembersBy, memoryBy}
 

@@ -7,7 +7,7 @@ use mathlib.Core.List.{List, [], _∷_, reverseAux}
 use mathlib.Core.Option.{Option, none, some}
 use Prim.Native.Nat.{ℕ}
 use lib.Dec.{eqb}
-use Rattle.code.specs.Token.{WHEN, WHENEVER, FROM, EVERY}
+use Rattle.tokens.specs.Token.{WHEN, WHENEVER, FROM, EVERY}
 use Rattle.code.specs.declared.check.Line.{Line}
 use Rattle.engine.specs.Turn.{Entry, beatIn, worked, locks, cancels, resets}
 

@@ -7,15 +7,15 @@ use Prim.Native.Nat.{ℕ}
 use lib.Dec.{eqb}
 use lib.IntN.{ℤ}
 use lib.ListN.{length}
-use Rattle.code.specs.Reading.{Answer, good, stop}
+use Rattle.tokens.specs.Reading.{Answer, good, stop}
 use Rattle.state.specs.declared.state.State.{State}
-use Rattle.state.specs.declared.calls.Called.{Called}
-use Rattle.state.specs.declared.calls.Found.{Found}
-use Rattle.state.specs.Set.{soundLines}
+use Rattle.calls.specs.declared.host.Called.{Called}
+use Rattle.calls.specs.declared.host.Found.{Found}
+use Rattle.set.specs.Set.{soundLines}
 use Rattle.state.specs.Sound.{unsoundCode, isSound}
 use Rattle.engine.specs.Turn.{Entry, Turned}
 use Rattle.engine.specs.Beat.{beatOf, answered, buffered, beatAnswer, beatBuffer}
-use Rattle.state.specs.Calls.{withLocked, withCancelled, found, called, lockedCall, lockCall, unlockCall, cancelCall, resetState, resetCall}
+use Rattle.calls.specs.Calls.{withLocked, withCancelled, found, called, lockedCall, lockCall, unlockCall, cancelCall, resetState, resetCall}
 use Rattle.demands.specs.Run.{Call, doBeat, doLock, doUnlock, doCancel, doReset, Now, entriesOf, noted, step}
 use Rattle.demands.specs.FlagLaws.{equal-ranks}
 

@@ -6,22 +6,23 @@ use Prim.Native.Nat.{ℕ, zero, suc, _+_, _/_}
 use lib.Dec.{eqb, ltb}
 use lib.IntN.{ℤ}
 use lib.ListN.{length, getD, drop}
-use Rattle.code.specs.Token.{WHEN, FROM, EVERY}
-use Rattle.code.specs.Reading.{Answer, good, stop, _>>=_}
+use Rattle.tokens.specs.Token.{WHEN, FROM, EVERY}
+use Rattle.tokens.specs.Reading.{Answer, good, stop, _>>=_}
 use Rattle.working.specs.Working.{isYes, conditionValue}
 use Rattle.code.specs.declared.check.Line.{Line}
-use Rattle.state.specs.declared.set.Lines.{Lines}
+use Rattle.set.specs.declared.set.Lines.{Lines}
 use Rattle.state.specs.declared.state.State.{State}
 use Rattle.engine.specs.declared.beat.Beaten.{Beaten}
-use Rattle.state.specs.declared.calls.Called.{Called}
-use Rattle.state.specs.Set.{maxLines, noLine, rankIn, soundLines}
+use Rattle.calls.specs.declared.host.Called.{Called}
+use Rattle.set.specs.Set.{maxLines, noLine, rankIn, soundLines}
 use Rattle.state.specs.State.{powerOn}
 use Rattle.engine.specs.Cells.{inputCount, beatCells}
 use Rattle.state.specs.Sound.{unsoundCode, isSound}
-use Rattle.engine.specs.Action.{Vars, World, fromGot}
+use Rattle.writing.specs.Write.{Vars}
+use Rattle.actions.specs.Action.{World, fromGot}
 use Rattle.engine.specs.Turn.{Entry, beatIn, worked, locks, cancels, resets, Turned, doTurn}
 use Rattle.engine.specs.Beat.{shortBuffer, wrongNumbers, bufferSize, areInputs, beatOf, buffered, beatAnswer, beatBuffer}
-use Rattle.state.specs.Calls.{unknownLine, lockCall, unlockCall, cancelCall, resetState, resetCall}
+use Rattle.calls.specs.Calls.{unknownLine, lockCall, unlockCall, cancelCall, resetState, resetCall}
 use Rattle.demands.specs.Record.{Record, after, isCancelled, isLocked, wasTrue, everTrue, isAutomatic, takesByRule, triesByRule, actsByRule}
 
 -- ---- the calls after a load, and what the caller sees of each

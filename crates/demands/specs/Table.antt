@@ -9,28 +9,33 @@ use lib.IntN.{ℤ, pos, negsuc}
 use lib.ListN.{take, replicate}
 use Rattle.values.specs.Value.{inRange, valued, sumOf, differenceOf, productOf, quotientOf, negationOf, lessThan, equalTo, wholeUnits, outputOf, feedOf, signOf}
 use Rattle.values.specs.Time.{millisOf, grownTimer, writtenTimer}
-use Rattle.values.specs.Fifo.{fits, appendAnswer, appended, shifted, removeAnswer, removed, oldestOf, newestOf, sumFirst, sumAll, totalOf, countOf, cleared, emptyAnswer, emptied}
-use Rattle.values.specs.Order.{twosComplement, fourBytes, orderBytes, hasRoom, withOrder}
-use Rattle.code.specs.Reading.{isIndex, indexOf, isIndexed, indexAt, joined, more, readProduct, readSum, readRest, readExpression, readVariable, operandFrom, readOperand, readClose, readTruth, sumAt, expressionAt}
-use Rattle.code.specs.Index.{isInside}
+use Rattle.buffers.specs.Fifo.{fits, appendAnswer, appended, shifted, removeAnswer, removed, oldestOf, newestOf, sumFirst, sumAll, totalOf, countOf, cleared, emptyAnswer, emptied}
+use Rattle.buffers.specs.Order.{twosComplement, fourBytes, orderBytes, hasRoom, withOrder}
+use Rattle.tokens.specs.Reading.{isIndex, indexOf, isIndexed, indexAt, joined, more, readProduct, readSum, readRest, readExpression, readVariable, operandFrom, readOperand, readClose, readTruth, sumAt, expressionAt}
+use Rattle.tokens.specs.Index.{isInside}
 use Rattle.working.specs.Variables.{cellOf, countAt, fifoValue, fifoAt, variableValue}
-use Rattle.code.specs.Fault.{lower, opensTooMany, wantingFault, numberFault, readFault, joinSights, sight, isWritable, writeFault, codeFault, idFault, callFault, countFault, numberOf, isRemoval, assignedAt, assignmentAt, commandAt, actionAt, actionsAt, lineParts, bodyAt, restAt, lineAt}
+use Rattle.tokens.specs.SingleFault.{lower, opensTooMany, wantingFault, numberFault, readFault, isWritable, writeFault, codeFault, idFault, callFault}
+use Rattle.code.specs.Fault.{joinSights, sight, countFault, numberOf, isRemoval, assignedAt, assignmentAt, commandAt, actionAt, actionsAt, lineParts, bodyAt, restAt, lineAt}
 use Rattle.working.specs.Working.{joinLogic, joinTruths, joinValues, valueOver, conditionValue, rightValue}
-use Rattle.state.specs.Set.{linesFrom, linesRead, rankIn, namesKnown, allKnown, namedLines, soundLines, emptySet}
+use Rattle.set.specs.Set.{linesFrom, linesRead, rankIn, namesKnown, allKnown, namedLines, soundLines, emptySet}
 use Rattle.state.specs.State.{powerOn}
-use Rattle.engine.specs.Cells.{grownCells, inputCells, beatCells}
+use Rattle.state.specs.Timers.{grownCells}
+use Rattle.engine.specs.Cells.{inputCells, beatCells}
 use Rattle.state.specs.Sound.{allRanged, isCell, areCells, allZero, isFifoSound, isFlag, areFlags, stateSound, isSound}
-use Rattle.engine.specs.Action.{changeAnswer, changed, changeFifo, writeFifo, writeCell, writeInside, writeTo, driveOrder, alarmOf, lockOf, takenAt, assignmentOf, driveOf, commandOf, actionOf, actionsOf}
-use Rattle.engine.specs.Turn.{tries, acts, remembers, takesTurn, doTurn, tryTurn, turnOf, turnsFrom}
+use Rattle.writing.specs.Write.{changeAnswer, changed, changeFifo, writeFifo, writeCell, writeInside, writeTo}
+use Rattle.writing.specs.Drive.{driveOrder}
+use Rattle.actions.specs.Action.{alarmOf, lockOf, takenAt, assignmentOf, driveOf, commandOf, actionOf, actionsOf}
+use Rattle.state.specs.Keyword.{tries, acts, remembers}
+use Rattle.engine.specs.Turn.{takesTurn, doTurn, tryTurn, turnOf, turnsFrom}
 use Rattle.engine.specs.Beat.{areInputs, begun, ended, beatOf, beatAnswer, beatBuffer}
-use Rattle.state.specs.Calls.{foundAt, found, called, lockedCall, lockCall, unlockCall, cancelCall, resetCancelled, zeroed, resetState, resetCall}
+use Rattle.calls.specs.Calls.{foundAt, found, called, lockedCall, lockCall, unlockCall, cancelCall, resetCancelled, zeroed, resetState, resetCall}
 use Rattle.text.specs.Byte.{bytes, run}
-use Rattle.text.specs.Word.{wordToken}
+use Rattle.words.specs.Word.{wordToken}
 use Rattle.text.specs.Number.{written, isFit, numberToken}
-use Rattle.text.specs.First.{wordFirst, behindPoint, numberWith, numberFirst, signFirst, firstToken}
-use Rattle.text.specs.Tokens.{tokensFrom, tokensOf}
+use Rattle.words.specs.First.{wordFirst, behindPoint, numberWith, numberFirst, signFirst, firstToken}
+use Rattle.words.specs.Tokens.{tokensFrom, tokensOf}
 use Rattle.text.specs.Lines.{textLines, withoutReturn, withoutComment, bodies, isBlank, numbered, tokenLines}
-use Rattle.reader.specs.Row.{numbersOf, leastFrom, leastAbove, rising, plain, placed, setOf}
+use Rattle.draft.specs.Row.{numbersOf, leastFrom, leastAbove, rising, plain, placed, setOf}
 use Rattle.reader.specs.Load.{tokensFault, faultBelow, rowsFrom, firstUnknown, named, outcome, loadAnswer, loadSet}
 use Rattle.demands.specs.Run.{Call, doBeat, doLock, doUnlock, Reply, run as runOf, step, runFrom}
 

@@ -6,14 +6,15 @@ use Prim.Native.Nat.{ℕ, zero, suc, _+_, _<_, _≤_}
 use native.Mathlib.Omega.{arith}
 use lib.Dec.{eqb}
 use lib.ListN.{getD}
-use Rattle.code.specs.Token.{WHEN, WHENEVER, FROM, EVERY}
-use Rattle.code.specs.Reading.{Answer, good, stop, _>>=_}
+use Rattle.tokens.specs.Token.{WHEN, WHENEVER, FROM, EVERY}
+use Rattle.tokens.specs.Reading.{Answer, good, stop, _>>=_}
 use Rattle.working.specs.Working.{isYes, conditionValue}
 use Rattle.code.specs.declared.check.Line.{Line}
-use Rattle.state.specs.declared.set.Lines.{Lines}
-use Rattle.state.specs.Set.{noLine}
-use Rattle.engine.specs.Action.{World, Note, Did, fromGot, actionsOf}
-use Rattle.engine.specs.Turn.{Entry, worked, locks, lockEntry, Turned, counted, tries, acts, takesTurn, doTurn, tryTurn, turnOf, turnsFrom}
+use Rattle.set.specs.declared.set.Lines.{Lines}
+use Rattle.set.specs.Set.{noLine}
+use Rattle.actions.specs.Action.{World, Note, Did, fromGot, actionsOf}
+use Rattle.engine.specs.Turn.{Entry, worked, locks, lockEntry, Turned, counted, takesTurn, doTurn, tryTurn, turnOf, turnsFrom}
+use Rattle.state.specs.Keyword.{tries, acts}
 use Rattle.demands.specs.Record.{Record, after, isAutomatic, isCancelled, isLocked, wasTrue, everTrue, takesByRule, triesByRule, actsByRule}
 use Rattle.demands.specs.Run.{byRank, cancelledBy, lockedBy, remembersBy, memoryBy, tryByRule, turnByRule, turnsByRule}
 use Rattle.demands.specs.FlagLaws.{equal-ranks, below-true, byRank-at, worked-memory, lock-locked}

@@ -7,9 +7,9 @@ use lib.IntN.{ℤ}
 use Rattle.values.specs.Unique.{unique}
 use Rattle.state.specs.declared.state.State.{State}
 use Rattle.engine.specs.declared.beat.Beaten.{Beaten}
-use Rattle.state.specs.declared.calls.Called.{Called}
+use Rattle.calls.specs.declared.host.Called.{Called}
 use Rattle.engine.specs.Beat.{beatAnswer, beatBuffer}
-use Rattle.state.specs.Calls.{lockCall, unlockCall, cancelCall, resetCall}
+use Rattle.calls.specs.Calls.{lockCall, unlockCall, cancelCall, resetCall}
 use Rattle.state.specs.Sound.{isSound}
 
 module _ (s : List ℕ) (st : State) where

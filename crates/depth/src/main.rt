@@ -1,18 +1,18 @@
 // A test: the walks work a right side of 4,000 minus signs before eight brackets within the stack that a program has. It writes what came out:
 // whether each walk was good, and the value.
 use code::check::line_at;
-use code::token::CLOSE;
-use code::token::DO;
-use code::token::EQUALS;
-use code::token::ID;
-use code::token::LEFT;
-use code::token::MINUS;
-use code::token::NUMBER;
-use code::token::OPEN;
-use code::token::R;
-use code::token::RIGHT;
-use code::token::SIZE;
 use libc::STDOUT_FILENO;
+use tokens::token::CLOSE;
+use tokens::token::DO;
+use tokens::token::EQUALS;
+use tokens::token::ID;
+use tokens::token::LEFT;
+use tokens::token::MINUS;
+use tokens::token::NUMBER;
+use tokens::token::OPEN;
+use tokens::token::R;
+use tokens::token::RIGHT;
+use tokens::token::SIZE;
 use working::work::right_side;
 
 // The signs, and the places where they and the brackets begin.

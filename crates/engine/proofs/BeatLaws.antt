@@ -7,16 +7,16 @@ use native.Mathlib.Omega.{arith}
 use borrow.Author.Tests.{eqb-true, lt-ltb, le-ltb}
 use lib.IntN.{ℤ}
 use lib.ListN.{length, take, drop}
-use Rattle.code.specs.Reading.{Answer, good, stop, _>>=_}
-use Rattle.engine.specs.declared.action.Flags.{Flags}
+use Rattle.tokens.specs.Reading.{Answer, good, stop, _>>=_}
+use Rattle.actions.specs.declared.action.Flags.{Flags}
 use Rattle.engine.specs.declared.beat.Beaten.{Beaten}
 use Rattle.state.specs.declared.state.State.{State}
-use Rattle.state.specs.Set.{soundLines}
+use Rattle.set.specs.Set.{soundLines}
 use Rattle.state.specs.Sound.{unsoundCode, stateSound, isSound}
 use Rattle.engine.specs.Turn.{Entry, beatIn, Turned, turnsFrom}
 use Rattle.engine.specs.Beat.{shortBuffer, wrongNumbers, bufferSize, areInputs, begun, ended, beatOf, answered, buffered}
-use Rattle.engine.specs.Held.{worldOf}
-use Rattle.engine.proofs.ActionLaws.{first-true}
+use Rattle.actions.specs.Held.{worldOf}
+use Rattle.actions.proofs.ActionLaws.{first-true}
 
 pub inputs-length : (lent : List ℤ) → areInputs lent ≡ true → length lent ≡ 14
 unfolding areInputs

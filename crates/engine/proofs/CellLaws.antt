@@ -1,6 +1,6 @@
 -- Laws of cells that a loop writes: timers that grow, a list copied into another, inputs put in front; and the cells of a beat, part by part.
 use mathlib.Core.Path.{_≡_, refl, sym, _∙_}
-use mathlib.Core.Bool.{Bool, false, cond}
+use mathlib.Core.Bool.{cond}
 use mathlib.Core.List.{List, [], _++_, append-assoc, append-nil}
 use Prim.Native.Nat.{ℕ, zero, suc, _+_, _-_, _/_, _%_, _^_, _<_}
 use native.Mathlib.Omega.{arith}
@@ -8,29 +8,13 @@ use native.Mathlib.Numerals.{add-one}
 use native.Mathlib.Nat.{pow-suc, div-div-eq-div-mul}
 use lib.Dec.{eqb}
 use lib.IntN.{ℤ, pos}
-use lib.ListN.{length, take, drop, getD, set, length-append, length-drop, length-set, drop-of-length-le}
+use lib.ListN.{length, take, drop, getD, set, length-append, length-drop, drop-of-length-le}
 use lib.Seq.{paste, paste-suc, take-all, take-length, take-at, append-snoc}
 use Rattle.values.specs.Value.{unit}
-use Rattle.values.specs.Time.{timer, grownTimer}
-use Rattle.values.specs.declared.time.Timer.{Timer}
-use Rattle.values.proofs.Lists.{put}
-use Rattle.engine.specs.Cells.{grownCells, inputCell, inputCells}
+use Rattle.buffers.proofs.Lists.{put}
+use Rattle.engine.specs.Cells.{inputCell, inputCells}
 
 -- ---- timers
-
-module _ (runs : List Bool) (c : List ℤ) where
-  pub grown-none : c ≡ grownCells runs c 0
-  unfolding grownCells
-  grown-none = refl
-
-  pub grown-turn : (i : ℕ) (cs : List ℤ) (t : Timer) (v : ℤ) → cs ≡ grownCells runs c i → t ≡ grownTimer (timer (getD cs (80 + i) (pos 0)) (getD runs i false)) → v ≡ t .time .0 → set cs (80 + i) v ≡ grownCells runs c (i + 1)
-  unfolding grownCells
-  grown-turn i cs t v e g h = rw (h, g, e, add-one i)
-
-  pub length-grown : (n : ℕ) → length (grownCells runs c n) ≡ length c
-  unfolding grownCells
-  length-grown zero = refl
-  length-grown (suc n) = simp length-set (length-grown n)
 
 -- ---- a list copied into another
 

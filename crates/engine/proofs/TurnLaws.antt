@@ -8,15 +8,17 @@ use native.Mathlib.Numerals.{add-one}
 use native.Mathlib.Omega.{arith}
 use lib.IntN.{ℤ}
 use lib.ListN.{getD}
-use Rattle.code.specs.Reading.{Answer, good, stop, _>>=_}
+use Rattle.tokens.specs.Reading.{Answer, good, stop, _>>=_}
 use Rattle.working.specs.Working.{isYes, conditionValue}
 use Rattle.code.specs.declared.check.Line.{Line}
-use Rattle.engine.specs.declared.action.Done.{Done}
-use Rattle.state.specs.Set.{noLine}
-use Rattle.engine.specs.Action.{World, Did, fromGot}
-use Rattle.engine.specs.Turn.{Entry, worked, Turned, lockEntry, tries, acts, remembers, remembered, doTurn, tryTurn, turnOf, turnsFrom}
-use Rattle.engine.specs.Held.{worldOf, IsDone, IsTurned}
-use Rattle.engine.proofs.HeldLaws.{clash}
+use Rattle.actions.specs.declared.action.Done.{Done}
+use Rattle.set.specs.Set.{noLine}
+use Rattle.actions.specs.Action.{World, Did, fromGot}
+use Rattle.engine.specs.Turn.{Entry, worked, Turned, lockEntry, remembered, doTurn, tryTurn, turnOf, turnsFrom}
+use Rattle.state.specs.Keyword.{tries, acts, remembers}
+use Rattle.actions.specs.Held.{worldOf, IsDone}
+use Rattle.engine.specs.TurnHeld.{IsTurned}
+use Rattle.writing.proofs.WriteHeldLaws.{clash}
 
 -- what actions did is what their turn comes to
 pub done-turned : (x : Done) (r c : List ℤ) (out : List ℕ) (y : Answer Did) (es : List Entry) → IsDone x r c out y → IsTurned x r c out (y >>= λ d. good (record { world = d .world; entries = es ++ map lockEntry (d .notes) }))

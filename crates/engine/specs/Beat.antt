@@ -5,13 +5,13 @@ use Prim.Native.Nat.{ℕ, _/_}
 use lib.Dec.{eqb, ltb}
 use lib.IntN.{ℤ}
 use lib.ListN.{length, drop}
-use Rattle.code.specs.Reading.{Answer, good, stop, _>>=_}
+use Rattle.tokens.specs.Reading.{Answer, good, stop, _>>=_}
 use Rattle.state.specs.declared.state.State.{State}
 use Rattle.engine.specs.declared.beat.Beaten.{Beaten}
-use Rattle.state.specs.Set.{soundLines}
+use Rattle.set.specs.Set.{soundLines}
 use Rattle.engine.specs.Cells.{inputCount, beatCells}
 use Rattle.state.specs.Sound.{unsoundCode, isSound, allRanged}
-use Rattle.engine.specs.Action.{World}
+use Rattle.actions.specs.Action.{World}
 use Rattle.engine.specs.Turn.{Entry, beatIn, Turned, turnsFrom}
 
 abbrev pub shortBuffer : ℕ

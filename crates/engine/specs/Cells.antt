@@ -1,24 +1,14 @@
 -- The cells of a beat: 30 input cells, then those of the state, whose running timers have grown. Definitions only.
-use mathlib.Core.Bool.{Bool, false, cond}
+use mathlib.Core.Bool.{Bool, cond}
 use mathlib.Core.List.{List, [], _∷_, _++_}
 use Prim.Native.Nat.{ℕ, zero, suc, _+_, _/_, _%_, _^_}
 use lib.Dec.{eqb}
 use lib.IntN.{ℤ, pos}
-use lib.ListN.{getD, set}
 use Rattle.values.specs.Value.{unit}
-use Rattle.values.specs.Time.{timer, grownTimer}
+use Rattle.state.specs.Timers.{grownCells}
 
 abbrev pub inputCount : ℕ
 inputCount = 30
-
-abbrev pub timerCells : ℕ
-timerCells = 80
-
--- a running timer grows at the start of each beat, before any turn: the first n timers have grown
-unfoldable pub grownCells : List Bool → List ℤ → ℕ → List ℤ
-grownCells runs c zero = c
-grownCells runs c (suc n) =
-    set (grownCells runs c n) (timerCells + n) (grownTimer (timer (getD (grownCells runs c n) (timerCells + n) (pos 0)) (getD runs n false)) .time .0)
 
 -- bit i-1 of the input word is $A_IN[i]
 abbrev pub inputCell : ℕ → ℕ → ℤ

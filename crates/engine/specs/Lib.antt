@@ -1,6 +1,5 @@
--- What the beat's promise means, in document 01's order; Held says how the code holds a beat under way. Definitions only.
+-- What the beat's promise means, in document 01's order; TurnHeld says how the code answers a turn. Definitions only.
 pub mod Cells
-pub mod Action
 pub mod Turn
-pub mod Held
+pub mod TurnHeld
 pub mod Beat

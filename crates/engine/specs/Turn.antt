@@ -1,31 +1,16 @@
 -- A turn, by keyword (document 01, "A beat"). Definitions only.
-use mathlib.Core.Bool.{Bool, true, false, cond, not, _&&_, _||_}
+use mathlib.Core.Bool.{Bool, true, false, not, _&&_, _||_}
 use mathlib.Core.List.{List, [], _∷_, _++_, map}
 use Prim.Native.Nat.{ℕ, zero, suc, _+_, _^_}
-use lib.Dec.{eqb}
-use lib.IntN.{ℤ}
 use lib.ListN.{getD, set}
-use Rattle.code.specs.Token.{WHEN, WHENEVER, FROM, EVERY}
-use Rattle.code.specs.Reading.{Answer, good, stop, _>>=_}
+use Rattle.tokens.specs.Reading.{Answer, good, _>>=_}
 use Rattle.working.specs.Working.{isYes, conditionValue}
 use Rattle.code.specs.declared.check.Line.{Line}
-use Rattle.state.specs.Set.{noLine}
-use Rattle.engine.specs.Action.{World, Note, fromGot, actionsOf}
+use Rattle.set.specs.Set.{noLine}
+use Rattle.actions.specs.Action.{World, Note, fromGot, actionsOf}
+use Rattle.state.specs.Keyword.{acts, remembers, tries}
 
 -- ---- by keyword, where m is the line's memory and v what its condition gives
-
--- a WHEN or FROM line that has acted works its condition no more
-unfoldable pub tries : ℕ → Bool → Bool
-tries kw m = cond (eqb kw WHEN || eqb kw FROM) (not m) (eqb kw WHENEVER || eqb kw EVERY)
-
--- no keyword: acts at each turn; WHENEVER: when true; WHEN: at its first true turn only; FROM: at its first true turn and every later one;
--- EVERY: when true, and its turn before was false or there was none
-unfoldable pub acts : ℕ → Bool → Bool → Bool
-acts kw m v = cond (eqb kw WHENEVER) v (cond (eqb kw WHEN || eqb kw EVERY) (v && not m) (cond (eqb kw FROM) (v || m) true))
-
--- what is remembered of a condition that was worked: WHEN and FROM, that it was true once; EVERY, what it gave
-unfoldable pub remembers : ℕ → Bool → Bool → Bool
-remembers kw m v = cond (eqb kw WHEN || eqb kw FROM) (m || v) (cond (eqb kw EVERY) v m)
 
 -- ---- a turn
 

@@ -1,35 +1,36 @@
 // A beat: its checks 22, 20, 21 in that order, the timers' growth, the turns by rising number, and the undoing of all by the first alarm.
 ghost use mathlib.Core.Path.{_≡_};
-ghost use mathlib.Core.Bool.{Bool, true};
+ghost use mathlib.Core.Bool.{Bool};
 ghost use mathlib.Core.List.{List, _++_};
 ghost use Prim.Native.Nat.{ℕ, _+_, _*_, _^_, _≤_, _<_};
 ghost use lib.ListN.{length, take, drop};
-ghost use Rattle.engine.specs.Turn.{Entry, tries, acts, remembers, doTurn, tryTurn, turnOf, turnsFrom};
+ghost use Rattle.engine.specs.Turn.{Entry, doTurn, tryTurn, turnOf, turnsFrom};
+ghost use Rattle.state.specs.Keyword.{acts};
 ghost use Rattle.engine.specs.Beat.{areInputs, begun, answered, buffered, beatAnswer, beatBuffer};
-ghost use Rattle.engine.specs.Held.{worldOf, IsTurned};
-use crate::action::Done;
-use crate::action::Flags;
-use crate::action::ORDERS;
-use crate::action::actions;
-use crate::action::alarm_of;
-use crate::action::did_all;
-use crate::action::not_done;
+ghost use Rattle.actions.specs.Held.{worldOf};
+ghost use Rattle.engine.specs.TurnHeld.{IsTurned};
 use crate::cells::NUMBERS;
 use crate::cells::beat_cells;
 use crate::cells::kept_cells;
+use actions::action::Done;
+use actions::action::Flags;
+use actions::action::ORDERS;
+use actions::action::actions;
+use actions::action::alarm_of;
+use actions::action::did_all;
+use actions::action::not_done;
 use code::check::Line;
-use code::token::EVERY;
-use code::token::FROM;
-use code::token::SIZE;
-use code::token::WHEN;
-use code::token::WHENEVER;
-use state::set::LINES;
-use state::set::Lines;
-use state::set::sound_lines;
+use set::set::LINES;
+use set::set::Lines;
+use set::set::sound_lines;
+use state::keyword::acts_now;
+use state::keyword::remembers_now;
+use state::keyword::tries_now;
 use state::sound::all_ranged;
 use state::sound::is_state_sound;
 use state::state::STATE_CELLS;
 use state::state::State;
+use tokens::token::SIZE;
 use values::arithmetic::is_equal;
 use working::variables::CELLS;
 use working::variables::RS;
@@ -50,54 +51,6 @@ pub struct Beaten {
 }
 
 // ---- by keyword
-
-// Whether a line works its condition: a WHEN or FROM line that has acted does not.
-fn tries_now(keyword: u32, memory: bool) -> bool
-    ensures { λ x. ⌜ x ≡ tries keyword memory ⌝ }
-{
-    if keyword == WHEN {
-        return !memory;
-    }
-    if keyword == FROM {
-        return !memory;
-    }
-    if keyword == WHENEVER {
-        return true;
-    }
-    keyword == EVERY
-}
-
-// Whether a line acts, where v is what its condition gave.
-fn acts_now(keyword: u32, memory: bool, v: bool) -> bool
-    ensures { λ x. ⌜ x ≡ acts keyword memory v ⌝ }
-{
-    if keyword == WHENEVER {
-        return v;
-    }
-    if keyword == WHEN {
-        return v & !memory;
-    }
-    if keyword == EVERY {
-        return v & !memory;
-    }
-    if keyword == FROM {
-        return v | memory;
-    }
-    true
-}
-
-// What is remembered of a condition that was worked.
-fn remembers_now(keyword: u32, memory: bool, v: bool) -> bool
-    ensures { λ x. ⌜ x ≡ remembers keyword memory v ⌝ }
-{
-    if keyword == WHEN {
-        return memory | v;
-    }
-    if keyword == FROM {
-        return memory | v;
-    }
-    if keyword == EVERY { v } else { memory }
-}
 
 // ---- a turn
 

@@ -7,13 +7,11 @@ ghost use lib.Dec.{eqb};
 ghost use lib.IntN.{pos};
 ghost use lib.ListN.{length, take, drop};
 ghost use Rattle.values.specs.Value.{unit};
-ghost use Rattle.engine.specs.Cells.{grownCells, inputCells, beatCells};
+ghost use Rattle.engine.specs.Cells.{inputCells, beatCells};
 use state::state::STATE_CELLS;
-use state::state::TIMER_AT;
 use state::state::TIMERS;
+use state::timers::grow_timers;
 use values::arithmetic::UNIT;
-use values::time::Millis;
-use values::time::Timer;
 use values::time::grown;
 use working::variables::CELLS;
 
@@ -22,25 +20,6 @@ pub const INPUT_CELLS: usize = 30;
 pub const INPUTS: usize = 16;
 // The numbers that the host lends.
 pub const NUMBERS: usize = 14;
-
-// The running timers grow.
-fn grow_timers(cells: &mut [i32; STATE_CELLS], runs: &[bool; TIMERS])
-    ensures { λ x. ⌜ now (cells .exit) ≡ grownCells (now (runs .entry)) (now (cells .entry)) 8 ⌝ }
-{
-    let mut i: usize = 0;
-    while i < TIMERS {
-        let at = TIMER_AT + i;
-        let v = cells[at];
-        let on = runs[i];
-        let t = grown(Timer {
-            time: Millis(v),
-            runs: on,
-        });
-        let next = t.time.0;
-        cells[at] = next;
-        i += 1;
-    }
-}
 
 // All of `from` is copied to the places of `to` from `at` on.
 fn copy_at(to: &mut [i32], at: usize, from: &[i32])

@@ -1,6 +1,5 @@
-// The engine: one beat, over a set and a state of the crate `state`.
+// The engine: one beat, over a set and a state.
 //
 // A set is lent, a state goes in by value and comes back. The beat asks nothing of its caller: what is not sound is answered 22.
-mod action;
 pub mod beat;
 mod cells;

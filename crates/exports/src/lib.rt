@@ -5,7 +5,7 @@ ghost use Rattle.working.specs.Working.{conditionValue, rightValue};
 ghost use Rattle.code.specs.Fault.{lineAt};
 ghost use Rattle.exports.specs.Packed.{packed};
 use code::check;
-use code::token::SIZE;
+use tokens::token::SIZE;
 use working::variables::CELLS;
 use working::variables::RS;
 use working::work;

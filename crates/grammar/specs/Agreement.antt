@@ -9,9 +9,9 @@ use lib.Dec.{T}
 use lib.ListN.{length, getD}
 use borrow.Author.Tests.{le-leb, eq-eqb}
 use Rattle.values.specs.Choice.{holds, chosen, refused}
-use Rattle.code.specs.Token.{NUMBER, OPEN, CLOSE, LEFT, RIGHT, IM, isNumber, isVariable, isFactor, isTerm, isCompare, isLogic, wholeToken, AND, ATLEAST, MINUS, OVER, PLUS, SAME, TIMES, XOR}
+use Rattle.tokens.specs.Token.{NUMBER, OPEN, CLOSE, LEFT, RIGHT, IM, isNumber, isVariable, isFactor, isTerm, isCompare, isLogic, wholeToken, AND, ATLEAST, MINUS, OVER, PLUS, SAME, TIMES, XOR}
 use Rattle.grammar.specs.Tree.{Operand, number, variable, position, truth, bracket, minus, not, Product, product, Factors, noFactor, factor, Sum, sum, Terms, noTerm, term, Expression, plain, compare, row, Sums, last, next, operandTokens, productTokens, factorsTokens, sumTokens, termsTokens, expressionTokens, sumsTokens}
-use Rattle.code.specs.Reading.{Answer, good, Read, read, _>>=_, upTo, Meaning, isRow, isIndex, indexOf, joined, more, readProduct, readSum, readRest, readExpression, readClose, readVariable, readTruth, operandFrom, readOperand, sumAt, expressionAt}
+use Rattle.tokens.specs.Reading.{Answer, good, Read, read, _>>=_, upTo, Meaning, isRow, isIndex, indexOf, joined, more, readProduct, readSum, readRest, readExpression, readClose, readVariable, readTruth, operandFrom, readOperand, sumAt, expressionAt}
 use Rattle.grammar.specs.Meaning.{operandMeaning, productMeaning, factorsMeaning, sumMeaning, termsMeaning, expressionMeaning, sumsMeaning, Stands, EndsSum, EndsExpression}
 use Rattle.grammar.specs.AgreementLaws.{bounds, before, beyond, bind-good, goes-on, stands-split, parts-fit, numbered, number-index, axis-index, index-stands}
 

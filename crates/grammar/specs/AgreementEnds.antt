@@ -5,9 +5,10 @@ use mathlib.Core.List.{List}
 use Prim.Native.Nat.{ℕ, zero, suc, _+_}
 use lib.Dec.{eqb}
 use lib.ListN.{getD}
-use Rattle.code.specs.Token.{isNumber, isVariable, isDrive, isCall, isFactor, isTerm, isCompare, isWhole, CLOSE, END, EQUALS, FALSE, M, MINUS, NOT, OPEN, TRUE}
-use Rattle.code.specs.Reading.{Read, read, ends, then, isRow, isIndexed, joined, more, readProduct, readSum, readRest, readExpression, readClose, readVariable, readTruth, operandFrom, readOperand, sumAt, expressionAt}
-use Rattle.code.specs.Fault.{notInGrammar, lower, Sight, sight, faultFor, isRemoval, assignedAt, assignmentAt, commandAt, actionAt, actionsAt}
+use Rattle.tokens.specs.Token.{isNumber, isVariable, isDrive, isCall, isFactor, isTerm, isCompare, isWhole, CLOSE, END, EQUALS, FALSE, M, MINUS, NOT, OPEN, TRUE}
+use Rattle.tokens.specs.Reading.{Read, read, ends, then, isRow, isIndexed, joined, more, readProduct, readSum, readRest, readExpression, readClose, readVariable, readTruth, operandFrom, readOperand, sumAt, expressionAt}
+use Rattle.tokens.specs.SingleFault.{notInGrammar, lower}
+use Rattle.code.specs.Fault.{Sight, sight, faultFor, isRemoval, assignedAt, assignmentAt, commandAt, actionAt, actionsAt}
 
 -- a reading has a result, or ends with 5
 abbrev pub Five : {A : Type 0} → Read A → Type 0

@@ -9,11 +9,12 @@ use lib.Dec.{T, eqb}
 use lib.ListN.{length, getD, drop, length-append}
 use borrow.Author.Tests.{le-leb, eq-eqb, ne-eqb, eqb-true}
 use Rattle.values.specs.Choice.{holds, both, decide, chosen, refused, same-choice}
-use Rattle.code.specs.Token.{setSize, END, EQUALS, OPEN, CLOSE, DO, LEFT, RIGHT, IM, M, isVariable, isDrive, isCall, isWhole, isFifo, isKeyword, isId, isFactor, isTerm, NUMBER, whole, wholeToken, axisOf, FALSE, FIFO1, FIFO4, IN, MINUS, MOV, NOT, OVER, PLUS, POS, SETAL, TIMES, TRUE, UNLOCK}
+use Rattle.tokens.specs.Token.{setSize, END, EQUALS, OPEN, CLOSE, DO, LEFT, RIGHT, IM, M, isVariable, isDrive, isCall, isWhole, isFifo, isKeyword, isId, isFactor, isTerm, NUMBER, whole, wholeToken, axisOf, FALSE, FIFO1, FIFO4, IN, MINUS, MOV, NOT, OVER, PLUS, POS, SETAL, TIMES, TRUE, UNLOCK}
 use Rattle.grammar.specs.Tree.{Operand, number, variable, position, truth, bracket, minus, not, product, Factors, noFactor, factor, Sum, sum, Terms, noTerm, term, compare, Action, assign, assignPosition, drive, code, call, Condition, always, under, Line, line, operandTokens, factorsTokens, sumTokens, termsTokens, actionTokens, actionsTokens, conditionTokens, lineTokens}
-use Rattle.code.specs.Reading.{read, isIndex, indexOf, isIndexed, indexAt, sumAt}
+use Rattle.tokens.specs.Reading.{read, isIndex, indexOf, isIndexed, indexAt, sumAt}
 use Rattle.grammar.specs.Meaning.{sumMeaning, expressionMeaning, Stands, EndsSum, EndsExpression}
-use Rattle.code.specs.Fault.{lower, opensTooMany, sight, faultFor, writeFault, idFault, countFault, numberOf, isRemoval, assignedAt, assignmentAt, commandAt, actionAt, actionsAt, lineParts, bodyAt, restAt, lineAt}
+use Rattle.tokens.specs.SingleFault.{lower, opensTooMany, writeFault, idFault}
+use Rattle.code.specs.Fault.{sight, faultFor, countFault, numberOf, isRemoval, assignedAt, assignmentAt, commandAt, actionAt, actionsAt, lineParts, bodyAt, restAt, lineAt}
 use Rattle.grammar.specs.TreeFault.{rightFault, isFifoZero, isAlone, isRemovalTree, assignedFault, actionFault, actionsFault, keywordOf, conditionFault, lineFault, conditionPlace, partsFrom, toldFrom}
 use Rattle.grammar.specs.Agreement.{sum-agrees, expression-agrees}
 use Rattle.grammar.specs.AgreementLaws.{bounds, beyond, stands-split, stands-place, parts-fit, numbered, whole-token, number-index, axis-index, index-stands}

@@ -8,8 +8,8 @@ use lib.Dec.{T, eqb, leb}
 use lib.ListN.{length, getD, length-append}
 use borrow.Author.Tests.{leb-true, leb-false, le-leb, lt-leb, eq-eqb, eqb-true}
 use Rattle.values.specs.Choice.{holds, told-so, both}
-use Rattle.code.specs.Token.{NUMBER, LEFT, RIGHT, IM, between, isNumber, isVariable, isNumbered, hasAxis, isAxis, isWhole, load, whole, wholeToken, axisOf, FIFO4, IN}
-use Rattle.code.specs.Reading.{Answer, good, stop, Read, read, ends, _>>=_, then, upTo, isIndex, indexOf, isIndexed, indexAt}
+use Rattle.tokens.specs.Token.{NUMBER, LEFT, RIGHT, IM, between, isNumber, isVariable, isNumbered, hasAxis, isAxis, isWhole, load, whole, wholeToken, axisOf, FIFO4, IN}
+use Rattle.tokens.specs.Reading.{Answer, good, stop, Read, read, ends, _>>=_, then, upTo, isIndex, indexOf, isIndexed, indexAt}
 use Rattle.grammar.specs.Meaning.{Stands}
 
 -- ---- tests

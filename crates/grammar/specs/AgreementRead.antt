@@ -9,9 +9,9 @@ use lib.Dec.{T, eqb}
 use lib.ListN.{getD}
 use borrow.Author.Tests.{leb-true, eqb-true}
 use Rattle.values.specs.Choice.{told-so, both, decide, choice}
-use Rattle.code.specs.Token.{NUMBER, CLOSE, isNumber, isVariable, hasAxis, isFactor, isTerm, isCompare, isLogic, load, FALSE, MINUS, NOT, OPEN, TRUE}
+use Rattle.tokens.specs.Token.{NUMBER, CLOSE, isNumber, isVariable, hasAxis, isFactor, isTerm, isCompare, isLogic, load, FALSE, MINUS, NOT, OPEN, TRUE}
 use Rattle.grammar.specs.Tree.{number, variable, position, truth, bracket, minus, not, product, noFactor, factor, sum, noTerm, term, plain, compare, row, last, next, operandTokens, productTokens, factorsTokens, sumTokens, termsTokens, expressionTokens, sumsTokens}
-use Rattle.code.specs.Reading.{good, Read, read, upTo, Meaning, isRow, indexAt, joined, more, readProduct, readSum, readRest, readExpression, readClose, readVariable, readTruth, operandFrom, readOperand, sumAt, expressionAt}
+use Rattle.tokens.specs.Reading.{good, Read, read, upTo, Meaning, isRow, indexAt, joined, more, readProduct, readSum, readRest, readExpression, readClose, readVariable, readTruth, operandFrom, readOperand, sumAt, expressionAt}
 use Rattle.grammar.specs.Meaning.{operandMeaning, productMeaning, factorsMeaning, sumMeaning, termsMeaning, expressionMeaning, sumsMeaning, Stands, Found}
 use Rattle.grammar.specs.AgreementLaws.{ends-read, then-read, upTo-read, stands-join, number-written, axis-written, variable-kind}
 

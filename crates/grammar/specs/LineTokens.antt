@@ -8,7 +8,7 @@ use lib.Dec.{leb}
 use lib.ListN.{length, getD, length-append, List·getD-eq-default}
 use borrow.Author.Tests.{leb-true, leb-false}
 use Rattle.values.specs.Choice.{decide}
-use Rattle.code.specs.Token.{END, EQUALS, CLOSE, DO, wholeToken, AND, ATLEAST, EVERY, FIFO4, ID, IDS, IN, MINUS, MOV, OVER, PLUS, POS, SAME, SETAL, TIMES, UNLOCK, W, WHEN, X, XOR}
+use Rattle.tokens.specs.Token.{END, EQUALS, CLOSE, DO, wholeToken, AND, ATLEAST, EVERY, FIFO4, ID, IDS, IN, MINUS, MOV, OVER, PLUS, POS, SAME, SETAL, TIMES, UNLOCK, W, WHEN, X, XOR}
 use Rattle.grammar.specs.Tree.{Operand, number, variable, position, truth, bracket, minus, not, Product, product, Factors, noFactor, factor, Sum, sum, Terms, noTerm, term, Expression, plain, compare, row, Sums, last, next, Action, assign, assignPosition, drive, code, call, Condition, always, under, Line, line, operandTokens, productTokens, factorsTokens, sumTokens, termsTokens, expressionTokens, sumsTokens, actionTokens, actionsTokens, conditionTokens, lineTokens}
 use Rattle.grammar.specs.Meaning.{Stands}
 use Rattle.grammar.specs.AgreementLaws.{bounds, stands-split, stands-place}

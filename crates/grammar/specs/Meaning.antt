@@ -5,9 +5,9 @@ use mathlib.Core.Bool.{false}
 use mathlib.Core.List.{List, [], _∷_}
 use Prim.Native.Nat.{ℕ, _+_}
 use lib.ListN.{getD}
-use Rattle.code.specs.Token.{IM, isFactor, isTerm, isCompare, isLogic, axisOf}
+use Rattle.tokens.specs.Token.{IM, isFactor, isTerm, isCompare, isLogic, axisOf}
 use Rattle.grammar.specs.Tree.{Operand, number, variable, position, truth, bracket, minus, not, Product, product, Factors, noFactor, factor, Sum, sum, Terms, noTerm, term, Expression, plain, compare, row, Sums, last, next}
-use Rattle.code.specs.Reading.{Answer, good, _>>=_, Meaning}
+use Rattle.tokens.specs.Reading.{Answer, good, _>>=_, Meaning}
 
 -- ---- what a tree means
 

@@ -3,7 +3,7 @@ use mathlib.Core.Bool.{Bool, true, false}
 use mathlib.Core.List.{List, [], _∷_, _++_}
 use Prim.Native.Nat.{ℕ, _+_}
 use lib.Dec.{T}
-use Rattle.code.specs.Token.{END, EQUALS, MINUS, OPEN, CLOSE, LEFT, RIGHT, DO, TRUE, FALSE, NOT, IM, M, NUMBER, isNumbered, isAxis, isDrive, isCall, isKeyword, isId, isFactor, isTerm, isCompare, isLogic, wholeToken}
+use Rattle.tokens.specs.Token.{END, EQUALS, MINUS, OPEN, CLOSE, LEFT, RIGHT, DO, TRUE, FALSE, NOT, IM, M, NUMBER, isNumbered, isAxis, isDrive, isCall, isKeyword, isId, isFactor, isTerm, isCompare, isLogic, wholeToken}
 
 -- operand: number (its load); variable with index; TRUE; FALSE; bracketed expression; - operand; NOT operand
 -- product: operands joined by * /; sum: products joined by + -; left to right

@@ -13,20 +13,22 @@ use Rattle.values.specs.Choice.{decide, chosen, refused as not-chosen}
 use Rattle.values.specs.Numbers.{clash}
 use Rattle.values.specs.Unique.{unique}
 use Rattle.code.specs.declared.check.Line.{Line as Told}
-use Rattle.code.specs.Token.{END, setSize}
-use Rattle.code.specs.Fault.{tooDeep, notInGrammar, opensTooMany, lineAt}
+use Rattle.tokens.specs.Token.{END, setSize}
+use Rattle.tokens.specs.SingleFault.{tooDeep, notInGrammar, opensTooMany}
+use Rattle.code.specs.Fault.{lineAt}
 use Rattle.grammar.specs.TreeFault.{lineFault, Proper}
 use Rattle.grammar.specs.TreeFaultLaws.{line-proper}
 use Rattle.grammar.specs.AgreementLine.{line-found, line-fault}
-use Rattle.state.specs.Set.{maxLines, isKnown, emptySet}
+use Rattle.set.specs.Set.{maxLines, isKnown, emptySet}
 use Rattle.state.specs.State.{powerOn}
 use Rattle.text.specs.Byte.{run}
-use Rattle.text.specs.Tokens.{Tokens, tokensOf}
+use Rattle.words.specs.Tokens.{Tokens, tokensOf}
 use Rattle.text.specs.Lines.{Numbered, tokenLines, numbered, bodies, textLines, withoutComment, isBlank}
 use Rattle.reader.specs.declared.load.Loaded.{Loaded}
-use Rattle.reader.specs.Row.{Row, ended, byNumber, setOf, numbersOf}
-use Rattle.reader.specs.Load.{Outcome, taken, refused, textSize, tooLong, tooManyLines, notInSet, numberIn, tokensFault, faultBelow, rowOf, rowsFrom, firstUnknown, named, outcome, loadAnswer, loadSet}
-use Rattle.reader.specs.Draft.{workedAnswer, workedSet}
+use Rattle.draft.specs.Row.{Row, ended, byNumber, setOf, numbersOf}
+use Rattle.reader.specs.Load.{Outcome, taken, refused, numberIn, tokensFault, faultBelow, rowOf, rowsFrom, firstUnknown, named, outcome, loadAnswer, loadSet}
+use Rattle.draft.specs.Codes.{textSize, tooLong, tooManyLines, notInSet}
+use Rattle.reader.specs.DraftLoad.{workedAnswer, workedSet}
 use Rattle.reader.specs.DraftLaws.{worked-answer, worked-set}
 use Rattle.reader.specs.RisingLaws.{next-row}
 use Rattle.reader.specs.RoomLaws.{roomOf, text-room}

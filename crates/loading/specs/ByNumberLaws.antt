@@ -8,8 +8,8 @@ use lib.Dec.{ltb}
 use lib.ListN.{length, getD}
 use borrow.Author.Tests.{lt-ltb}
 use Rattle.values.specs.Choice.{decide}
-use Rattle.state.specs.Set.{maxLines}
-use Rattle.reader.specs.Row.{Row, numbersOf, total, leastAbove, noRow, rising, byNumber}
+use Rattle.set.specs.Set.{maxLines}
+use Rattle.draft.specs.Row.{Row, numbersOf, total, leastAbove, noRow, rising, byNumber}
 use Rattle.reader.specs.RisingLaws.{Absent, Apart, Next, Found, sumAbove, sum-next, sumOf, sum-all, countAbove, count-all, least-found}
 use Rattle.loading.specs.TakenLaws.{All}
 

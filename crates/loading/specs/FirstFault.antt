@@ -8,12 +8,13 @@ use native.Mathlib.Omega.{arith}
 use lib.ListN.{length}
 use Rattle.values.specs.Choice.{choice, chosen, refused as not-chosen}
 use Rattle.values.specs.Numbers.{clash}
-use Rattle.code.specs.Token.{setSize}
-use Rattle.state.specs.Set.{namesKnown}
-use Rattle.text.specs.Tokens.{tokensOf}
+use Rattle.tokens.specs.Token.{setSize}
+use Rattle.set.specs.Set.{namesKnown}
+use Rattle.words.specs.Tokens.{tokensOf}
 use Rattle.text.specs.Lines.{Numbered, tokenLines}
-use Rattle.reader.specs.Row.{Row, ended, numbersOf}
-use Rattle.reader.specs.Load.{taken, refused, tooLong, tooManyLines, notInSet, faultBelow, rowOf, rowsFrom, firstUnknown, outcome, loadAnswer}
+use Rattle.draft.specs.Row.{Row, ended, numbersOf}
+use Rattle.reader.specs.Load.{taken, refused, faultBelow, rowOf, rowsFrom, firstUnknown, outcome, loadAnswer}
+use Rattle.draft.specs.Codes.{tooLong, tooManyLines, notInSet}
 use Rattle.reader.specs.RisingLaws.{next-row}
 use Rattle.loading.specs.Answers.{taken-answer, refused-answer, by-load}
 use Rattle.loading.specs.TakenLaws.{All, taking, Fine, text-fine, Named}

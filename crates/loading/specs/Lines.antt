@@ -5,13 +5,13 @@ use Prim.Native.Nat.{ℕ, zero, suc, _+_, _≤_, _<_}
 use native.Mathlib.Omega.{arith}
 use lib.ListN.{length, getD}
 use Rattle.grammar.specs.Tree.{Line, lineTokens}
-use Rattle.code.specs.Token.{setSize}
+use Rattle.tokens.specs.Token.{setSize}
 use Rattle.grammar.specs.Meaning.{Stands}
 use Rattle.grammar.specs.AgreementLaws.{stands-place}
 use Rattle.grammar.specs.TreeFault.{lineFault, partsFrom}
-use Rattle.state.specs.Set.{lineCount, lineOf}
+use Rattle.set.specs.Set.{lineCount, lineOf}
 use Rattle.text.specs.Lines.{tokenLines}
-use Rattle.reader.specs.Row.{Row, ended, noRow, byNumber, setOf}
+use Rattle.draft.specs.Row.{Row, ended, noRow, byNumber, setOf}
 use Rattle.reader.specs.Load.{taken, rowOf, outcome, loadSet}
 use Rattle.loading.specs.Plain.{plainTree}
 use Rattle.loading.specs.Answers.{taken-answer}

@@ -7,12 +7,12 @@ use native.Mathlib.Decide.{decLt}
 use native.Mathlib.Omega.{arith}
 use lib.ListN.{length, getD, replicate, length-replicate, List·getD-eq-default, getD-replicate}
 use borrow.Author.Tests.{ltb-true}
-use Rattle.code.specs.Token.{setSize}
-use Rattle.state.specs.declared.set.Lines.{Lines}
-use Rattle.state.specs.Set.{maxLines, rankIn, isKnown, soundLines}
+use Rattle.tokens.specs.Token.{setSize}
+use Rattle.set.specs.declared.set.Lines.{Lines}
+use Rattle.set.specs.Set.{maxLines, rankIn, isKnown, soundLines}
 use Rattle.soundness.specs.SetLaws.{rank-number}
 use Rattle.text.specs.Lines.{tokenLines}
-use Rattle.reader.specs.Row.{Row, numbersOf, total, noRow, byNumber, setOf}
+use Rattle.draft.specs.Row.{Row, numbersOf, total, noRow, byNumber, setOf}
 use Rattle.reader.specs.Load.{taken, outcome}
 use Rattle.reader.specs.RisingLaws.{Apart, number-at, numbers-length, taken-apart}
 use Rattle.reader.specs.RoomLaws.{taken-room}

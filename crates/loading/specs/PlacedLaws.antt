@@ -5,12 +5,12 @@ use Prim.Native.Nat.{ℕ, suc, _+_, _≤_, _<_}
 use native.Mathlib.Omega.{arith}
 use lib.ListN.{length, getD, set, length-set, length-append, length-map, length-replicate}
 use lib.Seq.{getD-set-same, getD-set-other}
-use Rattle.code.specs.Token.{END, setSize}
+use Rattle.tokens.specs.Token.{END, setSize}
 use Rattle.grammar.specs.Meaning.{Stands}
-use Rattle.state.specs.Set.{maxLines, emptySet}
+use Rattle.set.specs.Set.{maxLines, emptySet}
 use Rattle.reader.specs.PlaceLaws.{stands-same}
 use Rattle.reader.specs.PutLaws.{put-length, put-before, put-stands}
-use Rattle.reader.specs.Row.{Row, ended, total, plain, putAt, placed, firstPlace, setOf}
+use Rattle.draft.specs.Row.{Row, ended, total, plain, putAt, placed, firstPlace, setOf}
 
 -- ---- lines that are placed
 

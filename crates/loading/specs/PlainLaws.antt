@@ -8,15 +8,16 @@ use lib.IntN.{ℤ}
 use lib.ListN.{length-map}
 use borrow.Author.Tests.{le-leb, lt-leb}
 use Rattle.values.specs.Choice.{chosen, refused}
-use Rattle.code.specs.Token.{EQUALS, MINUS, LEFT, RIGHT, IM, NUMBER, IN, FIFO4, X, W, TIMES, OVER, PLUS, SAME, ATLEAST, AND, XOR, POS, MOV, SETAL, UNLOCK, WHEN, EVERY, ID, IDS, wholeToken}
+use Rattle.tokens.specs.Token.{EQUALS, MINUS, LEFT, RIGHT, IM, NUMBER, IN, FIFO4, X, W, TIMES, OVER, PLUS, SAME, ATLEAST, AND, XOR, POS, MOV, SETAL, UNLOCK, WHEN, EVERY, ID, IDS, wholeToken}
 use Rattle.grammar.specs.Tree.{Operand, number, variable, position, truth, bracket, minus, not, Product, product, Factors, noFactor, factor, Sum, sum, Terms, noTerm, term, Expression, plain, compare, row, Sums, last, next, Action, assign, assignPosition, drive, code, call, Condition, always, under, Line, line, operandTokens, productTokens, factorsTokens, sumTokens, termsTokens, expressionTokens, sumsTokens, actionTokens, actionsTokens, conditionTokens, lineTokens}
-use Rattle.code.specs.Reading.{Answer, good, stop, _>>=_, Meaning}
+use Rattle.tokens.specs.Reading.{Answer, good, stop, _>>=_, Meaning}
 use Rattle.grammar.specs.Meaning.{operandMeaning, productMeaning, factorsMeaning, sumMeaning, termsMeaning, expressionMeaning, sumsMeaning}
-use Rattle.code.specs.Fault.{sight, numberFault}
+use Rattle.code.specs.Fault.{sight}
+use Rattle.tokens.specs.SingleFault.{numberFault}
 use Rattle.working.specs.Working.{valueOver}
 use Rattle.grammar.specs.TreeFault.{rightFault, isFifoZero, isAlone, isRemovalTree, assignedFault, actionFault, actionsFault, keywordOf, conditionFault, lineFault}
 use Rattle.grammar.specs.AgreementLaws.{bounds}
-use Rattle.reader.specs.Row.{plain as plainToken}
+use Rattle.draft.specs.Row.{plain as plainToken}
 use Rattle.loading.specs.Plain.{unmarked, plainOperand, plainProduct, plainFactors, plainSum, plainTerms, plainExpression, plainSums, plainAction, plainCondition, plainTree}
 
 -- ---- tokens

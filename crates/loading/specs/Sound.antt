@@ -5,9 +5,9 @@ use mathlib.Core.List.{List, [], _∷_}
 use Prim.Native.Nat.{ℕ, _≤_}
 use native.Mathlib.Omega.{arith}
 use lib.ListN.{length}
-use Rattle.code.specs.Token.{setSize}
+use Rattle.tokens.specs.Token.{setSize}
 use Rattle.state.specs.declared.state.State.{State}
-use Rattle.state.specs.Set.{soundLines}
+use Rattle.set.specs.Set.{soundLines}
 use Rattle.soundness.specs.SetLaws.{empty-sound}
 use Rattle.state.specs.State.{powerOn}
 use Rattle.state.specs.Sound.{isSound}
@@ -16,7 +16,7 @@ use Rattle.soundness.specs.CellLaws.{power-on}
 use Rattle.soundness.specs.SoundLaws.{Call, lock, unlock, cancel, reset, beat, codeAfter, afterAll, Whole, call-keeps, call-not22, power-on-whole, always-sound, never-22}
 use Rattle.demands.specs.Run.{Now, Reply, step, runFrom, run, doBeat, doLock, doUnlock, doCancel, doReset}
 use Rattle.demands.specs.Run.{Call as Asked}
-use Rattle.reader.specs.Row.{Row, byNumber}
+use Rattle.draft.specs.Row.{Row, byNumber}
 use Rattle.reader.specs.Load.{taken, refused, outcome, loadAnswer, loadSet}
 use Rattle.loading.specs.Answers.{taken-answer, refused-empty, by-outcome, load-power-on}
 use Rattle.loading.specs.PlacedLaws.{set-length, empty-length}

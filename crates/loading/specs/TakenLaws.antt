@@ -9,15 +9,16 @@ use lib.ListN.{length, getD}
 use borrow.Author.Tests.{ltb-false}
 use Rattle.values.specs.Choice.{decide, choice}
 use Rattle.values.specs.Numbers.{clash}
-use Rattle.code.specs.Token.{setSize}
+use Rattle.tokens.specs.Token.{setSize}
 use Rattle.code.specs.Fault.{lineAt}
-use Rattle.state.specs.Set.{maxLines, namesKnown}
-use Rattle.text.specs.Tokens.{tokensOf}
-use Rattle.text.specs.TokensLaws.{AllReal, tokens-real}
+use Rattle.set.specs.Set.{maxLines, namesKnown}
+use Rattle.words.specs.Tokens.{tokensOf}
+use Rattle.words.specs.TokensLaws.{AllReal, tokens-real}
 use Rattle.text.specs.Lines.{Numbered, textLines, bodies, isBlank, numbered, tokenLines}
-use Rattle.reader.specs.Row.{Row, ended, numbersOf, total, noRow}
+use Rattle.draft.specs.Row.{Row, ended, numbersOf, total, noRow}
 use Rattle.reader.specs.RisingLaws.{next-row, no-fault}
-use Rattle.reader.specs.Load.{Outcome, taken, refused, textSize, rowOf, rowsFrom, firstUnknown, named, outcome}
+use Rattle.reader.specs.Load.{Outcome, taken, refused, rowOf, rowsFrom, firstUnknown, named, outcome}
+use Rattle.draft.specs.Codes.{textSize}
 
 -- ---- what holds of each row
 

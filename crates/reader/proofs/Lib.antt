@@ -1,5 +1,2 @@
--- Laws that the proofs of the functions cite: LineLaws on the lines and tokens of a text, DraftLaws on the draft, ArrangeLaws on its lines by rising number, LoadLaws on a whole text.
-pub mod LineLaws
-pub mod DraftLaws
-pub mod ArrangeLaws
+-- Laws that the proofs of the functions cite: LoadLaws on a whole text.
 pub mod LoadLaws

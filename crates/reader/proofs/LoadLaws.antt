@@ -1,17 +1,20 @@
 -- Laws of loading: what a text comes to, by the tests of the code.
-use mathlib.Core.Path.{_≡_, sym, ap, _∙_}
+use mathlib.Core.Path.{_≡_, refl, sym, ap, _∙_}
+use mathlib.Core.Bool.{Bool, true, false}
 use mathlib.Core.List.{List}
 use Prim.Native.Nat.{ℕ, suc, _<_, _≤_}
 use native.Mathlib.Omega.{arith}
-use borrow.Author.Tests.{lt-ltb, le-ltb}
+use lib.Dec.{ltb}
 use lib.ListN.{length, set}
-use Rattle.state.specs.Set.{emptySet}
+use Rattle.set.specs.Set.{maxLines, emptySet}
 use Rattle.text.specs.Lines.{tokenLines}
 use Rattle.reader.specs.declared.load.Loaded.{Loaded}
-use Rattle.reader.specs.Load.{textSize, tooLong, tooManyLines, notInSet, loadAnswer, loadSet}
-use Rattle.reader.specs.Draft.{Drafted, noDraft, draftFrom, draftOf, unknownIn, arranged, arrangedSet, answered, draftAnswer, draftSet, workedAnswer, workedSet}
+use Rattle.draft.specs.Codes.{textSize, notInSet}
+use Rattle.reader.specs.Load.{loadAnswer, loadSet}
+use Rattle.draft.specs.Draft.{Drafted, noDraft, draftOf, textDraft, unknownIn, arranged, arrangedSet}
+use Rattle.reader.specs.DraftLoad.{answered, draftAnswer, draftSet, workedAnswer, workedSet}
 use Rattle.reader.specs.DraftLaws.{worked-answer, worked-set}
-use Rattle.reader.proofs.DraftLaws.{coded, code-none, code-some, few-lines}
+use Rattle.draft.proofs.DraftLaws.{coded, code-none, code-some, few-lines}
 
 -- ---- a draft
 
@@ -56,39 +59,36 @@ module _ (t : List ℕ) where
   loads : {a : Loaded} {s : List ℕ} → workedAnswer t ≡ a → workedSet t ≡ s → Loads t a s
   loads e g = (sym e ∙ worked-answer t, sym g ∙ worked-set t)
 
-  pub text-long : textSize < length t → Loads t (answered tooLong 0) emptySet
-  unfolding workedAnswer workedSet
-  text-long h = loads (rw (workedAnswer, lt-ltb textSize (length t) h)) (rw (workedSet, lt-ltb textSize (length t) h))
+  -- d is its draft
+  module _ (d : Drafted) (e : d ≡ textDraft emptySet t) where
+    -- what a text comes to is what its draft comes to: 1 and 2 refuse it there
+    drafts : (a b : Bool) → ltb textSize (length t) ≡ a → ltb maxLines (length (tokenLines t)) ≡ b → (workedAnswer t ≡ draftAnswer (textDraft emptySet t)) × (workedSet t ≡ draftSet (textDraft emptySet t))
+    unfolding workedAnswer workedSet textDraft draftOf draftAnswer draftSet
+    drafts true b h g = (simp (workedAnswer, textDraft, h), simp (workedSet, textDraft, h))
+    drafts false true h g = (simp (workedAnswer, textDraft, h, g), simp (workedSet, textDraft, h, g))
+    drafts false false h g = (simp (workedAnswer, textDraft, draftOf, h, g), simp (workedSet, textDraft, draftOf, h, g))
 
-  module _ (h : length t ≤ textSize) where
-    pub text-many : 32 < length (tokenLines t) → Loads t (answered tooManyLines 0) emptySet
-    unfolding workedAnswer workedSet
-    text-many m = loads (rw (workedAnswer, le-ltb textSize (length t) h, lt-ltb 32 (length (tokenLines t)) m)) (rw (workedSet, le-ltb textSize (length t) h, lt-ltb 32 (length (tokenLines t)) m))
+    comes : {a : Loaded} {s : List ℕ} → Comes d a s → Loads t a s
+    comes w = let x = drafts _ _ refl refl in loads (x .0 ∙ (ap draftAnswer (sym e) ∙ w .0)) (x .1 ∙ (ap draftSet (sym e) ∙ w .1))
 
-    -- d is its draft
-    module _ (m : length (tokenLines t) ≤ 32) (d : Drafted) (e : d ≡ draftOf t) where
-      comes : {a : Loaded} {s : List ℕ} → Comes d a s → Loads t a s
-      unfolding workedAnswer workedSet
-      comes w =
-          loads (rw (workedAnswer, le-ltb textSize (length t) h, le-ltb 32 (length (tokenLines t)) m) (ap draftAnswer (sym e) ∙ w .0))
-          (rw (workedSet, le-ltb textSize (length t) h, le-ltb 32 (length (tokenLines t)) m) (ap draftSet (sym e) ∙ w .1))
+    pub text-faulty : (d .draft .code ≡ 0 → ⊥) → Loads t (answered (d .draft .code) (d .draft .line)) emptySet
+    text-faulty f = comes (draft-faulty d f)
 
-      pub text-faulty : (d .draft .code ≡ 0 → ⊥) → Loads t (answered (d .draft .code) (d .draft .line)) emptySet
-      text-faulty f = comes (draft-faulty d f)
+    module _ (z : d .draft .code ≡ 0) (k : ℕ) (u : k ≡ unknownIn d) where
+      pub text-unknown : (k ≡ 0 → ⊥) → Loads t (answered notInSet k) emptySet
+      text-unknown f = rw u (comes (draft-unknown d z (λ w. f (u ∙ w))))
 
-      module _ (z : d .draft .code ≡ 0) (k : ℕ) (u : k ≡ unknownIn d) where
-        pub text-unknown : (k ≡ 0 → ⊥) → Loads t (answered notInSet k) emptySet
-        text-unknown f = rw u (comes (draft-unknown d z (λ w. f (u ∙ w))))
+      -- the set was empty, its first place has the number of lines, the lines follow
+      pub text-good : k ≡ 0 → (s : List ℕ) → s ≡ arranged d (d .draft .count) 0 0 33 (set emptySet 0 (d .draft .count)) → Loads t (answered 0 0) s
+      unfolding arrangedSet
+      text-good w s g = rw g (comes (draft-good d z (sym u ∙ w)))
 
-        -- the set was empty, its first place has the number of lines, the lines follow
-        pub text-good : k ≡ 0 → (s : List ℕ) → s ≡ arranged d (d .draft .count) 0 0 33 (set emptySet 0 (d .draft .count)) → Loads t (answered 0 0) s
-        unfolding arrangedSet
-        text-good w s g = rw g (comes (draft-good d z (sym u ∙ w)))
+  -- a draft has no more lines than a set
+  few : (a b : Bool) → ltb textSize (length t) ≡ a → ltb maxLines (length (tokenLines t)) ≡ b → textDraft emptySet t .draft .count ≤ 32
+  unfolding textDraft
+  few true b h g = simp (textDraft, h) (omega arith)
+  few false true h g = simp (textDraft, h, g) (omega arith)
+  few false false h g = simp (textDraft, h, g) (few-lines (record { array = emptySet; draft = noDraft }) (tokenLines t) (omega arith))
 
-  pub text-draft : (x : Drafted) → x ≡ draftFrom (record { array = emptySet; draft = noDraft }) (tokenLines t) → x ≡ draftOf t
-  unfolding draftOf
-  text-draft x e = e
-
-  pub text-count : draftOf t .draft .count ≤ 32
-  unfolding draftOf
-  text-count = few-lines (record { array = emptySet; draft = noDraft }) (tokenLines t) (omega arith)
+  pub text-count : textDraft emptySet t .draft .count ≤ 32
+  text-count = few _ _ refl refl

@@ -8,13 +8,15 @@ use lib.Dec.{ltb}
 use lib.ListN.{length, getD, set, length-replicate}
 use borrow.Author.Tests.{ltb-false}
 use Rattle.values.specs.Choice.{eitherBoth}
-use Rattle.code.specs.Token.{setSize}
-use Rattle.state.specs.Set.{maxLines, namesKnown, emptySet}
+use Rattle.tokens.specs.Token.{setSize}
+use Rattle.set.specs.Set.{maxLines, namesKnown, emptySet}
 use Rattle.text.specs.Lines.{Numbered, tokenLines}
 use Rattle.reader.specs.declared.load.Loaded.{Loaded}
-use Rattle.reader.specs.Row.{Row, ended, numbersOf, total, leastAbove, noRow, rising, byNumber, plain, putAt, placed, firstPlace, setOf}
-use Rattle.reader.specs.Load.{textSize, notInSet, Outcome, taken, refused, rowsFrom, firstUnknown, named, outcome, loadAnswer, loadSet}
-use Rattle.reader.specs.Draft.{Drafted, noDraft, unknownFrom, lineIn, arranged, arrangedSet, draftOf, unknownIn, answered, draftAnswer, draftSet, workedAnswer, workedSet}
+use Rattle.draft.specs.Row.{Row, ended, numbersOf, total, leastAbove, noRow, rising, byNumber, plain, putAt, placed, firstPlace, setOf}
+use Rattle.draft.specs.Codes.{textSize, notInSet}
+use Rattle.reader.specs.Load.{Outcome, taken, refused, rowsFrom, firstUnknown, named, outcome, loadAnswer, loadSet}
+use Rattle.draft.specs.Draft.{Drafted, noDraft, unknownFrom, lineIn, arranged, arrangedSet, draftOf, unknownIn}
+use Rattle.reader.specs.DraftLoad.{answered, draftAnswer, draftSet, workedAnswer, workedSet}
 use Rattle.reader.specs.PlaceLaws.{stands-self, names-same}
 use Rattle.reader.specs.RisingLaws.{Apart, number-at, countAbove, sum-next, count-all, least-found, taken-apart}
 use Rattle.reader.specs.RoomLaws.{text-room}

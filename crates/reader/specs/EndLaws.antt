@@ -5,11 +5,11 @@ use mathlib.Core.List.{List, [], _∷_, _++_, append-assoc}
 use Prim.Native.Nat.{ℕ, suc, _+_, _≤_, _<_}
 use native.Mathlib.Omega.{arith}
 use lib.ListN.{length, length-append}
-use Rattle.code.specs.Token.{END, EQUALS, CLOSE, DO, LOCK, UNLOCK, wholeToken, AND, ATLEAST, EVERY, FIFO4, ID, IDS, IN, MINUS, MOV, OVER, PLUS, POS, SAME, SETAL, TIMES, W, WHEN, X, XOR}
+use Rattle.tokens.specs.Token.{END, EQUALS, CLOSE, DO, LOCK, UNLOCK, wholeToken, AND, ATLEAST, EVERY, FIFO4, ID, IDS, IN, MINUS, MOV, OVER, PLUS, POS, SAME, SETAL, TIMES, W, WHEN, X, XOR}
 use Rattle.grammar.specs.Tree.{Operand, number, variable, position, truth, bracket, minus, not, Product, product, Factors, noFactor, factor, Sum, sum, Terms, noTerm, term, Expression, plain, compare, row, Sums, last, next, Action, assign, assignPosition, drive, code, call, Condition, always, under, Line, line, operandTokens, productTokens, factorsTokens, sumTokens, termsTokens, expressionTokens, sumsTokens, actionTokens, actionsTokens, conditionTokens, lineTokens}
 use Rattle.grammar.specs.Meaning.{Stands}
 use Rattle.grammar.specs.AgreementLaws.{bounds}
-use Rattle.text.specs.TokensLaws.{AllReal}
+use Rattle.words.specs.TokensLaws.{AllReal}
 
 -- no token of a row is 0, and behind a LOCK or UNLOCK the row goes on
 abbrev pub Closed : List ℕ → Type 0

@@ -9,17 +9,18 @@ use lib.ListN.{length, getD, set, length-append, length-set, List·getD-append, 
 use lib.Seq.{getD-set-same, getD-set-other, getD-append-seam, ext-getD}
 use borrow.Author.Tests.{lt-ltb}
 use Rattle.values.specs.Choice.{decide}
-use Rattle.code.specs.Token.{setSize}
+use Rattle.tokens.specs.Token.{setSize}
 use Rattle.grammar.specs.Meaning.{Stands}
 use Rattle.code.specs.Fault.{lineAt}
-use Rattle.state.specs.Set.{maxLines, isKnown}
-use Rattle.text.specs.Tokens.{Tokens, tokensOf}
-use Rattle.text.specs.TokensLaws.{tokens-real}
+use Rattle.set.specs.Set.{maxLines, isKnown}
+use Rattle.words.specs.Tokens.{Tokens, tokensOf}
+use Rattle.words.specs.TokensLaws.{tokens-real}
 use Rattle.text.specs.Lines.{Numbered}
-use Rattle.reader.specs.declared.draft.Draft.{Draft}
-use Rattle.reader.specs.Row.{Row, ended, numbersOf, total, noRow, putAt, firstPlace}
-use Rattle.reader.specs.Load.{noToken, usedAbove, numberIn, tokensFault, faultBelow, Outcome, taken, refused, rowOf, rowsFrom}
-use Rattle.reader.specs.Draft.{Drafted, refusedAt, grownBy, keptLine, addedLine, draftFrom, lineIn}
+use Rattle.draft.specs.declared.draft.Draft.{Draft}
+use Rattle.draft.specs.Row.{Row, ended, numbersOf, total, noRow, putAt, firstPlace}
+use Rattle.draft.specs.Codes.{noToken, usedAbove}
+use Rattle.reader.specs.Load.{numberIn, tokensFault, faultBelow, Outcome, taken, refused, rowOf, rowsFrom}
+use Rattle.draft.specs.Draft.{Drafted, refusedAt, grownBy, keptLine, addedLine, draftFrom, lineIn}
 use Rattle.reader.specs.EndLaws.{Closed}
 use Rattle.reader.specs.PlaceLaws.{stands-self, stands-same, up-to-end, line-same, faultless-closed}
 use Rattle.reader.specs.PutLaws.{put-length, put-before, put-stands}

@@ -1,35 +1,18 @@
 -- Loading: text to code, line and set (document 01, "Lines of text" and "Codes"). Definitions only.
-use mathlib.Core.Bool.{Bool, true, false}
+use mathlib.Core.Bool.{true, false}
 use mathlib.Core.List.{List, [], _∷_, _++_}
 use Prim.Native.Nat.{ℕ, zero, suc}
-use lib.Dec.{ltb, eqb}
+use lib.Dec.{ltb}
 use lib.ListN.{length}
 use Rattle.code.specs.Fault.{lineAt}
-use Rattle.code.specs.Token.{setSize}
-use Rattle.state.specs.Set.{maxLines, isKnown, namesKnown, emptySet}
+use Rattle.tokens.specs.Token.{setSize}
+use Rattle.set.specs.Set.{maxLines, isKnown, namesKnown, emptySet}
 use Rattle.state.specs.State.{powerOn}
-use Rattle.text.specs.Tokens.{Tokens, tokensOf}
+use Rattle.words.specs.Tokens.{Tokens, tokensOf}
 use Rattle.text.specs.Lines.{Numbered, tokenLines}
 use Rattle.reader.specs.declared.load.Loaded.{Loaded}
-use Rattle.reader.specs.Row.{Row, ended, numbersOf, byNumber, setOf}
-
-abbrev pub textSize : ℕ
-textSize = 4096
-
-abbrev pub tooLong : ℕ
-tooLong = 1
-
-abbrev pub tooManyLines : ℕ
-tooManyLines = 2
-
-abbrev pub noToken : ℕ
-noToken = 3
-
-abbrev pub usedAbove : ℕ
-usedAbove = 11
-
-abbrev pub notInSet : ℕ
-notInSet = 12
+use Rattle.draft.specs.Row.{Row, ended, numbersOf, byNumber, setOf}
+use Rattle.draft.specs.Codes.{noToken, notInSet, textSize, tooLong, tooManyLines, usedAbove}
 
 -- ---- a line: its lowest fault of 3 to 11
 

@@ -6,7 +6,7 @@ use native.Mathlib.Omega.{arith}
 use lib.ListN.{length, getD, set, length-set}
 use lib.Seq.{getD-set-same, getD-set-other}
 use Rattle.grammar.specs.Meaning.{Stands}
-use Rattle.reader.specs.Row.{putAt}
+use Rattle.draft.specs.Row.{putAt}
 
 pub put-length : (l s : List ℕ) (p : ℕ) → length (putAt s p l) ≡ length s
 put-length [] s p = refl

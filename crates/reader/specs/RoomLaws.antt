@@ -6,11 +6,11 @@ use native.Mathlib.Omega.{arith}
 use lib.ListN.{length}
 use Rattle.values.specs.Choice.{decide}
 use Rattle.values.specs.Numbers.{clash}
-use Rattle.text.specs.Tokens.{tokensOf}
-use Rattle.text.specs.TokensLaws.{tokens-within}
+use Rattle.words.specs.Tokens.{tokensOf}
+use Rattle.words.specs.TokensLaws.{tokens-within}
 use Rattle.text.specs.Lines.{Numbered, textLines, bodies, isBlank, numbered, tokenLines}
 use Rattle.text.specs.LinesLaws.{room, lines-room}
-use Rattle.reader.specs.Row.{Row, total}
+use Rattle.draft.specs.Row.{Row, total}
 use Rattle.reader.specs.Load.{taken, rowOf, rowsFrom}
 use Rattle.reader.specs.RisingLaws.{next-row}
 

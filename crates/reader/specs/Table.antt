@@ -5,18 +5,19 @@ use mathlib.Core.List.{List, [], _∷_, map}
 use Prim.Native.Nat.{ℕ}
 use Prim.Native.String.{String}
 use lib.ListN.{take}
-use Rattle.code.specs.Reading.{isIndex, indexOf, isIndexed, indexAt, joined, more, readProduct, readSum, readRest, readExpression, readVariable, operandFrom, readOperand, readClose, readTruth, sumAt, expressionAt}
-use Rattle.code.specs.Index.{isInside}
-use Rattle.code.specs.Fault.{lower, opensTooMany, wantingFault, numberFault, readFault, joinSights, sight, isWritable, writeFault, codeFault, idFault, callFault, countFault, numberOf, isRemoval, assignedAt, assignmentAt, commandAt, actionAt, actionsAt, lineParts, bodyAt, restAt, lineAt}
-use Rattle.state.specs.Set.{rankIn, namesKnown, emptySet}
+use Rattle.tokens.specs.Reading.{isIndex, indexOf, isIndexed, indexAt, joined, more, readProduct, readSum, readRest, readExpression, readVariable, operandFrom, readOperand, readClose, readTruth, sumAt, expressionAt}
+use Rattle.tokens.specs.Index.{isInside}
+use Rattle.tokens.specs.SingleFault.{lower, opensTooMany, wantingFault, numberFault, readFault, isWritable, writeFault, codeFault, idFault, callFault}
+use Rattle.code.specs.Fault.{joinSights, sight, countFault, numberOf, isRemoval, assignedAt, assignmentAt, commandAt, actionAt, actionsAt, lineParts, bodyAt, restAt, lineAt}
+use Rattle.set.specs.Set.{rankIn, namesKnown, emptySet}
 use Rattle.state.specs.State.{powerOn}
 use Rattle.text.specs.Byte.{bytes, run}
-use Rattle.text.specs.Word.{wordToken}
+use Rattle.words.specs.Word.{wordToken}
 use Rattle.text.specs.Number.{written, isFit, numberToken}
-use Rattle.text.specs.First.{wordFirst, behindPoint, numberWith, numberFirst, signFirst, firstToken}
-use Rattle.text.specs.Tokens.{tokensFrom, tokensOf}
+use Rattle.words.specs.First.{wordFirst, behindPoint, numberWith, numberFirst, signFirst, firstToken}
+use Rattle.words.specs.Tokens.{tokensFrom, tokensOf}
 use Rattle.text.specs.Lines.{textLines, withoutReturn, withoutComment, bodies, isBlank, numbered, tokenLines}
-use Rattle.reader.specs.Row.{numbersOf, leastFrom, leastAbove, rising, plain, placed, setOf}
+use Rattle.draft.specs.Row.{numbersOf, leastFrom, leastAbove, rising, plain, placed, setOf}
 use Rattle.reader.specs.Load.{tokensFault, faultBelow, rowsFrom, firstUnknown, named, outcome, loadAnswer, loadSet}
 
 -- the code and the line that loading answers

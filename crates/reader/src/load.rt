@@ -1,22 +1,15 @@
 // Loading a text.
 ghost use mathlib.Core.Path.{_≡_};
 ghost use Rattle.reader.specs.Load.{loadAnswer, loadSet};
-ghost use Rattle.reader.specs.Draft.{answered};
-use crate::arrange::arrange;
-use crate::arrange::first_unknown;
-use crate::draft::TOO_MANY_LINES;
-use crate::draft::count_lines;
-use crate::draft::put;
-use crate::draft::read_lines;
-use code::token::SIZE;
-use state::set::LINES;
-use state::set::empty_set;
+ghost use Rattle.reader.specs.DraftLoad.{answered};
+use draft::arrange::arrange;
+use draft::arrange::first_unknown;
+use draft::draft::put;
+use draft::draft::read_text;
+use set::set::empty_set;
 use state::state::State;
 use state::state::power_on;
-
-pub const TEXT_SIZE: usize = 4096;
-
-pub const TOO_LONG: u8 = 1;
+use tokens::token::SIZE;
 
 pub const NOT_IN_SET: u8 = 12;
 
@@ -43,14 +36,8 @@ pub fn load(text: &[u8], set: &mut [u32; SIZE]) -> Loaded
     ensures { λ x. ⌜ now (set .exit) ≡ loadSet (now (text .entry)) ⌝ }
 {
     *set = empty_set();
-    if TEXT_SIZE < text.len() {
-        return answered(TOO_LONG, 0);
-    }
-    if LINES < count_lines(text) {
-        return answered(TOO_MANY_LINES, 0);
-    }
     let mut s = empty_set();
-    let d = read_lines(text, &mut s);
+    let d = read_text(text, &mut s);
     let code = d.code;
     if code != 0 {
         return answered(code, d.line);

@@ -13,11 +13,11 @@ use Rattle.values.specs.Choice.{decide, either}
 use Rattle.values.specs.Numbers.{clash}
 use Rattle.engine.specs.declared.beat.Beaten.{Beaten}
 use Rattle.text.specs.Byte.{bytes, LF, SPACE}
-use Rattle.text.specs.Word.{sameBytes}
+use Rattle.words.specs.Word.{sameBytes}
 use Rattle.text.specs.Lines.{before, textLines}
 use Rattle.reader.specs.Load.{loadAnswer, loadSet}
 use Rattle.transcript.specs.Input.{inputOf}
-use Rattle.transcript.specs.BeatLine.{Lent, startOf, fields, lineLent}
+use Rattle.beat_lines.specs.BeatLine.{Lent, startOf, fields, lineLent}
 use Rattle.transcript.specs.Output.{digitsUp, decimal, signedText, fourOf, codeLine, orderLine, orderLines, errorLine, endLine}
 use Rattle.transcript.specs.Run.{maxBeats, Totals, noTotals, ended, oneIf, counted, answerOf, bufferOf, beatText, beatsText, synrun}
 use Rattle.transcript.specs.RoomLaws.{byLent}

@@ -12,11 +12,11 @@ use Rattle.values.specs.Choice.{decide, either, eitherBoth}
 use Rattle.values.specs.Numbers.{clash}
 use Rattle.text.specs.Byte.{LF}
 use Rattle.text.specs.Lines.{before, textLines}
-use Rattle.reader.specs.Row.{putAt}
+use Rattle.draft.specs.Row.{putAt}
 use Rattle.transcript.specs.declared.session.Place.{Place}
-use Rattle.transcript.specs.declared.beat_line.Reading.{Reading}
+use Rattle.beat_lines.specs.declared.beat_line.Reading.{Reading}
 use Rattle.reader.specs.Load.{loadAnswer}
-use Rattle.transcript.specs.Reading.{readByte, readOn, withoutCR, readLent}
+use Rattle.beat_lines.specs.Reading.{readByte, readOn, withoutCR, readLent}
 use Rattle.transcript.specs.Run.{maxBeats, counted, answerOf}
 use Rattle.transcript.specs.Machine.{TEXT, BEATS, keptSize, Machine, Fed, totalsOf, withPlace, withReading, starAfter, starOn, placeOn, opened, textEnd, beatOf, beatEnd, chunk, lineEnd, behind, fedLines}
 use Rattle.transcript.specs.RoomLaws.{byCode, byLent}

@@ -16,7 +16,7 @@ use Rattle.text.specs.Lines.{before, textLines}
 use Rattle.transcript.specs.declared.session.Place.{Place}
 use Rattle.transcript.specs.Run.{synrun}
 use Rattle.transcript.specs.Machine.{TEXT, BEATS, keptSize, Machine, Fed, begun, withPlace, isFit, placeOn, starOn, chunk, lineEnd, behind, fedLines, finished, finishedText, outSize, lineRoom, Work, workFrom, worked}
-use Rattle.transcript.specs.Reading.{readOn}
+use Rattle.beat_lines.specs.Reading.{readOn}
 use Rattle.transcript.specs.RoomLaws.{Fit, fit-parts, fit-whole, Lives, chunk-lives, line-lives, line-room}
 use Rattle.sessions.specs.MachineLaws.{Held, chunk-text, chunk-beats, chunk-else, fed-line, fed-held, lines-some, pieces}
 use Rattle.sessions.specs.SessionLaws.{prints, over-fed, over-finished, starting, session-prints}

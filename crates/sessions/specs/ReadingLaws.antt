@@ -16,10 +16,10 @@ use Rattle.values.specs.Numbers.{clash}
 use Rattle.text.specs.Byte.{CR, SPACE, isDigit}
 use Rattle.text.specs.Number.{digitsValue}
 use Rattle.text.specs.Lines.{withoutReturn}
-use Rattle.transcript.specs.declared.beat_line.Reading.{Reading}
-use Rattle.transcript.specs.BeatLine.{Lent, startOf, fields, modeOf, allDigits, areDigits, wholeOf, wordOf, positive, negative, lentNumber, withNumber, lentNumbers, lentOf, fieldsLent, lineLent}
+use Rattle.beat_lines.specs.declared.beat_line.Reading.{Reading}
+use Rattle.beat_lines.specs.BeatLine.{Lent, startOf, fields, modeOf, allDigits, areDigits, wholeOf, wordOf, positive, negative, lentNumber, withNumber, lentNumbers, lentOf, fieldsLent, lineLent}
 use Rattle.transcript.specs.RoomLaws.{closed-field}
-use Rattle.transcript.specs.Reading.{noReading, illFormed, withStage, highest, greatest, signed, withField, closed, spaceAfter, modeByte, minusByte, digitByte, fieldByte, readByte, readOn, isUntouched, withoutCR, readLent}
+use Rattle.beat_lines.specs.Reading.{noReading, illFormed, withStage, highest, greatest, signed, withField, closed, spaceAfter, modeByte, minusByte, digitByte, fieldByte, readByte, readOn, isUntouched, withoutCR, readLent}
 
 -- ---- the bytes of one field
 

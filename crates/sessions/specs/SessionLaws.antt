@@ -14,15 +14,16 @@ use Rattle.values.specs.Numbers.{clash}
 use Rattle.state.specs.State.{powerOn}
 use Rattle.text.specs.Byte.{LF, CR}
 use Rattle.text.specs.Lines.{textLines, withoutReturn}
-use Rattle.reader.specs.Row.{putAt}
-use Rattle.reader.specs.Load.{textSize, Outcome, refused, outcome, loadAnswer, loadSet}
+use Rattle.draft.specs.Row.{putAt}
+use Rattle.draft.specs.Codes.{textSize}
+use Rattle.reader.specs.Load.{Outcome, refused, outcome, loadAnswer, loadSet}
 use Rattle.transcript.specs.declared.session.Place.{Place}
-use Rattle.transcript.specs.declared.beat_line.Reading.{Reading}
+use Rattle.beat_lines.specs.declared.beat_line.Reading.{Reading}
 use Rattle.transcript.specs.Input.{Input, isStar, beatLines, lineBefore, cut, inputOf}
-use Rattle.transcript.specs.BeatLine.{Lent, lineLent}
+use Rattle.beat_lines.specs.BeatLine.{Lent, lineLent}
 use Rattle.transcript.specs.Output.{loadLine, errorLine}
 use Rattle.transcript.specs.Run.{maxBeats, Totals, noTotals, ended, counted, answerOf, beatText, beatsText, loadedText, synrun}
-use Rattle.transcript.specs.Reading.{noReading, readOn, withoutCR, isUntouched, readLent}
+use Rattle.beat_lines.specs.Reading.{noReading, readOn, withoutCR, isUntouched, readLent}
 use Rattle.transcript.specs.Machine.{TEXT, BEATS, OVER, keptSize, Machine, Fed, begun, withPhase, withTotals, starAfter, starOn, placeOn, placeEnd, opened, textEnd, beatOf, beatEnd, chunk, lineEnd, behind, fedLines, textOver, lastOver, finished}
 use Rattle.transcript.specs.RoomLaws.{byCode, byLent, over-chunk, over-line}
 use Rattle.sessions.specs.ReadingLaws.{byOption, lent-last, lent-ended, untouched}

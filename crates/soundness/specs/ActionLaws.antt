@@ -11,12 +11,15 @@ use borrow.Author.Tests.{eqb-true, eqb-false, leb-true, le-leb, ltb-true}
 use Rattle.values.specs.Choice.{either, ifNot, eitherBoth, and-left, and-right, and-true}
 use Rattle.values.specs.Value.{notAllowed, inRange, lessThan, feedOf}
 use Rattle.values.specs.Numbers.{clash}
-use Rattle.code.specs.Token.{END, EQUALS, OPEN, CLOSE, LEFT, RIGHT, IN, IM, POS, FA, MOV, M, SETAL, LOCK, UNLOCK, X, W, between, isVariable, isAxis, hasAxis, isFifo, isDrive, isCall, isWhole, whole, setSize}
-use Rattle.code.specs.Reading.{Answer, good, stop, _>>=_, Read, read, ends, then, isIndex, indexOf, isIndexed, indexAt, sumAt, expressionAt}
-use Rattle.code.specs.Fault.{outside, lower, Sight, wanting, sight, faultFor, writeFault, idFault, callFault, isRemoval, assignedAt, assignmentAt, commandAt, actionAt}
+use Rattle.tokens.specs.Token.{END, EQUALS, OPEN, CLOSE, LEFT, RIGHT, IN, IM, POS, FA, MOV, M, SETAL, LOCK, UNLOCK, X, W, between, isVariable, isAxis, hasAxis, isFifo, isDrive, isCall, isWhole, whole, setSize}
+use Rattle.tokens.specs.Reading.{Answer, good, stop, _>>=_, Read, read, ends, then, isIndex, indexOf, isIndexed, indexAt, sumAt, expressionAt}
+use Rattle.tokens.specs.SingleFault.{outside, lower, writeFault, idFault, callFault}
+use Rattle.code.specs.Fault.{Sight, wanting, sight, faultFor, isRemoval, assignedAt, assignmentAt, commandAt, actionAt}
 use Rattle.working.specs.Working.{fromWorked, told, valueOver, rightValue, conditionValue}
-use Rattle.state.specs.Set.{maxLines, rankIn, isKnown, isLock, soundLines}
-use Rattle.engine.specs.Action.{Vars, World, Taken, Did, fromGot, changeFifo, writeTo, driveOrder, lockOf, takenAt, assignmentOf, driveOf, commandOf, actionOf}
+use Rattle.set.specs.Set.{maxLines, rankIn, isKnown, isLock, soundLines}
+use Rattle.writing.specs.Write.{Vars, changeFifo, writeTo}
+use Rattle.actions.specs.Action.{World, Taken, Did, fromGot, lockOf, takenAt, assignmentOf, driveOf, commandOf, actionOf}
+use Rattle.writing.specs.Drive.{driveOrder}
 use Rattle.soundness.specs.GoodAnswers.{Holds, holds-then}
 use Rattle.soundness.specs.SetLaws.{rank-inside}
 use Rattle.soundness.specs.CellLaws.{FlagsRight, lock-keeps}

@@ -15,12 +15,12 @@ use Rattle.values.specs.Choice.{either, ifNot}
 use Rattle.values.specs.Numbers.{clash}
 use Rattle.code.specs.declared.check.Line.{Line}
 use Rattle.state.specs.declared.state.State.{State}
-use Rattle.state.specs.declared.calls.Called.{Called}
-use Rattle.state.specs.declared.calls.Found.{Found}
-use Rattle.state.specs.Set.{maxLines, rankIn, soundLines}
+use Rattle.calls.specs.declared.host.Called.{Called}
+use Rattle.calls.specs.declared.host.Found.{Found}
+use Rattle.set.specs.Set.{maxLines, rankIn, soundLines}
 use Rattle.state.specs.State.{stateCells}
 use Rattle.state.specs.Sound.{isSound, isCell, isFlag}
-use Rattle.state.specs.Calls.{withLocked, withCancelled, foundAt, found, called, lockedCall, lockCall, unlockCall, cancelCall, resetCancelled, zeroed, resetState, resetCall}
+use Rattle.calls.specs.Calls.{withLocked, withCancelled, foundAt, found, called, lockedCall, lockCall, unlockCall, cancelCall, resetCancelled, zeroed, resetState, resetCall}
 use Rattle.soundness.specs.GoodAnswers.{Not22}
 use Rattle.soundness.specs.CellLaws.{append-behind, CellsRight, FlagsRight, same-each, zero-cell, set-sound, state-right, right-state, flag-clear, flag-none, flag-beyond, lock-keeps, cancel-keeps, cells-swapped}
 

@@ -14,15 +14,15 @@ use Rattle.values.specs.Choice.{and-left, and-right, and-true}
 use Rattle.values.specs.Value.{inRange, lessThan, equalTo, wholeUnits, outputOf}
 use Rattle.values.specs.ValueLaws.{abs-range, equal-same, same-equal}
 use Rattle.values.specs.TimeLaws.{Timed}
-use Rattle.values.specs.Fifo.{places, Unused}
-use Rattle.values.specs.FifoLaws.{PlacesRanged}
+use Rattle.buffers.specs.Fifo.{places, Unused}
+use Rattle.buffers.specs.FifoLaws.{PlacesRanged}
 use Rattle.values.specs.Numbers.{clash}
 use Rattle.working.specs.Variables.{asCount}
 use Rattle.state.specs.declared.state.State.{State}
-use Rattle.state.specs.Set.{soundLines}
+use Rattle.set.specs.Set.{soundLines}
 use Rattle.state.specs.State.{stateCells, powerOn}
 use Rattle.state.specs.Sound.{allRanged, isOutput, isCell, areCells, allZero, fifoRun, isFifoSound, isFlag, areFlags, stateSound, isSound}
-use Rattle.engine.specs.Action.{withRunAt}
+use Rattle.writing.specs.Write.{withRunAt}
 
 -- ---- lists, place by place
 

@@ -2,9 +2,9 @@
 use mathlib.Core.Path.{_≡_, refl}
 use mathlib.Core.Bool.{Bool, true, false, cond, _&&_}
 use Prim.Native.Nat.{ℕ}
-use Rattle.values.specs.Fifo.{unsound}
+use Rattle.buffers.specs.Fifo.{unsound}
 use Rattle.values.specs.Numbers.{clash}
-use Rattle.code.specs.Reading.{Answer, good, stop, _>>=_}
+use Rattle.tokens.specs.Reading.{Answer, good, stop, _>>=_}
 
 -- a code other than 22
 abbrev pub Not22 : ℕ → Type 0

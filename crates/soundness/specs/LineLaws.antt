@@ -9,12 +9,13 @@ use lib.ListN.{length, getD, drop}
 use borrow.Author.Tests.{eqb-true, leb-true}
 use Rattle.values.specs.Choice.{either, ifNot, and-left, and-right}
 use Rattle.values.specs.Numbers.{clash}
-use Rattle.code.specs.Token.{END, EQUALS, DO, ID, IDS, WHEN, EVERY, isNumber, isKeyword, isId, isWhole, setSize}
-use Rattle.code.specs.Reading.{good, _>>=_, Read, read, ends, then, expressionAt}
-use Rattle.code.specs.Fault.{tooMany, lower, sight, faultFor, countFault, actionAt, actionsAt, opensTooMany, faultyLine, lineParts, bodyAt, restAt, lineAt}
+use Rattle.tokens.specs.Token.{END, EQUALS, DO, ID, IDS, WHEN, EVERY, isNumber, isKeyword, isId, isWhole, setSize}
+use Rattle.tokens.specs.Reading.{good, _>>=_, Read, read, ends, then, expressionAt}
+use Rattle.tokens.specs.SingleFault.{tooMany, lower, opensTooMany}
+use Rattle.code.specs.Fault.{sight, faultFor, countFault, actionAt, actionsAt, faultyLine, lineParts, bodyAt, restAt, lineAt}
 use Rattle.code.specs.declared.check.Line.{Line}
-use Rattle.state.specs.Set.{namesKnown, soundLines}
-use Rattle.engine.specs.Action.{World, Did, actionOf, actionsOf}
+use Rattle.set.specs.Set.{namesKnown, soundLines}
+use Rattle.actions.specs.Action.{World, Did, actionOf, actionsOf}
 use Rattle.soundness.specs.GoodAnswers.{Holds, holds-then}
 use Rattle.soundness.specs.WriteLaws.{lower-zero, unless-zero}
 use Rattle.soundness.specs.PassLaws.{between-some, equal-some, number-some, Passed, passed-none, passed-next, passed-on, Past, expressionAt-past, fault-past, action-past, names-known}

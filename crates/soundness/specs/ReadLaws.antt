@@ -7,8 +7,8 @@ use Prim.Native.Nat.{ℕ, zero, suc, _+_}
 use lib.Dec.{eqb}
 use lib.ListN.{getD}
 use Rattle.values.specs.Choice.{either, eitherBoth}
-use Rattle.code.specs.Token.{TRUE, FALSE, OPEN, CLOSE, MINUS, NOT, isNumber, isVariable, isFactor, isTerm, isCompare, load}
-use Rattle.code.specs.Reading.{Answer, good, stop, Read, read, ends, then, upTo, Meaning, isRow, isIndexed, indexAt, joined, more, readProduct, readSum, readRest, readExpression, readClose, readVariable, readTruth, operandFrom, readOperand, sumAt, expressionAt}
+use Rattle.tokens.specs.Token.{TRUE, FALSE, OPEN, CLOSE, MINUS, NOT, isNumber, isVariable, isFactor, isTerm, isCompare, load}
+use Rattle.tokens.specs.Reading.{Answer, good, stop, Read, read, ends, then, upTo, Meaning, isRow, isIndexed, indexAt, joined, more, readProduct, readSum, readRest, readExpression, readClose, readVariable, readTruth, operandFrom, readOperand, sumAt, expressionAt}
 
 -- ---- two meanings in step
 

@@ -15,21 +15,23 @@ use Rattle.values.specs.Value.{unit, inRange}
 use Rattle.values.specs.ValueLaws.{abs-range}
 use Rattle.values.specs.Time.{timer}
 use Rattle.values.specs.TimeLaws.{grown-keeps}
-use Rattle.values.specs.FifoLaws.{PlacesRanged}
+use Rattle.buffers.specs.FifoLaws.{PlacesRanged}
 use Rattle.values.specs.Numbers.{clash}
-use Rattle.code.specs.Token.{WHEN, WHENEVER, FROM, EVERY, isKeyword, setSize}
-use Rattle.code.specs.Reading.{Answer, good, stop}
+use Rattle.tokens.specs.Token.{WHEN, WHENEVER, FROM, EVERY, isKeyword, setSize}
+use Rattle.tokens.specs.Reading.{Answer, good, stop}
 use Rattle.working.specs.Working.{isYes, conditionValue}
 use Rattle.state.specs.declared.state.State.{State}
-use Rattle.state.specs.declared.calls.Called.{Called}
-use Rattle.state.specs.Set.{lineOf, soundLines}
+use Rattle.calls.specs.declared.host.Called.{Called}
+use Rattle.set.specs.Set.{lineOf, soundLines}
 use Rattle.state.specs.State.{stateCells, powerOn}
-use Rattle.engine.specs.Cells.{inputCount, timerCells, grownCells, inputCell, inputCells, beatCells}
+use Rattle.engine.specs.Cells.{inputCount, inputCell, inputCells, beatCells}
+use Rattle.state.specs.Timers.{timerCells, grownCells}
 use Rattle.state.specs.Sound.{isSound}
-use Rattle.engine.specs.Action.{World, Did, fromGot, actionsOf}
-use Rattle.engine.specs.Turn.{Entry, Turned, tries, remembers, remembered, counted, takesTurn, doTurn, tryTurn, turnOf, turnsFrom}
+use Rattle.actions.specs.Action.{World, Did, fromGot, actionsOf}
+use Rattle.engine.specs.Turn.{Entry, Turned, remembered, counted, takesTurn, doTurn, tryTurn, turnOf, turnsFrom}
+use Rattle.state.specs.Keyword.{tries, remembers}
 use Rattle.engine.specs.Beat.{bufferSize, areInputs, begun, ended, beatOf, answered, beatAnswer}
-use Rattle.state.specs.Calls.{lockCall, unlockCall, cancelCall, resetCall}
+use Rattle.calls.specs.Calls.{lockCall, unlockCall, cancelCall, resetCall}
 use Rattle.soundness.specs.GoodAnswers.{Not22, Holds, holds-then}
 use Rattle.soundness.specs.SetLaws.{lines-lined, lines-known}
 use Rattle.soundness.specs.CellLaws.{zero-in-range, ranged-each, cell-ranged, timer-cell, right-timer, CellsSound, cell-keeps, memory-keeps, state-right, right-state, set-sound, power-on}

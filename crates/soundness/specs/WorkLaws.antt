@@ -11,20 +11,21 @@ use borrow.Author.Tests.{eqb-false, leb-true, ne-eqb, le-leb, lt-leb, le-ltb, no
 use Rattle.values.specs.Choice.{either, ifNot, either-cond, and-left}
 use Rattle.values.specs.Value.{top, outOfRange, zeroDivisor, inRange, lessThan, valued, sumOf, differenceOf, productOf, quotientOf, negationOf}
 use Rattle.values.specs.ValueLaws.{Ranged, abs-range, sum-in-range, difference-in-range, product-in-range, quotient-in-range, negation-in-range}
-use Rattle.values.specs.Fifo.{places, fifoEmpty, sumFirst, seen, oldestOf, newestOf, totalOf, countOf}
-use Rattle.values.specs.FifoLaws.{fits-holds, PlacesRanged, SeenRanged, oldest-in-range, newest-in-range, total-in-range, count-in-range}
+use Rattle.buffers.specs.Fifo.{places, fifoEmpty, sumFirst, seen, oldestOf, newestOf, totalOf, countOf}
+use Rattle.buffers.specs.FifoLaws.{fits-holds, PlacesRanged, SeenRanged, oldest-in-range, newest-in-range, total-in-range, count-in-range}
 use Rattle.values.specs.Numbers.{clash}
 use Rattle.values.specs.declared.arithmetic.Worked.{Worked}
 use Rattle.values.specs.declared.arithmetic.Worked.the-variants as W
-use Rattle.values.specs.declared.fifo.Seen.{Seen}
-use Rattle.values.specs.declared.fifo.Seen.the-variants as S
-use Rattle.code.specs.Token.{MINUS, PLUS, TIMES, OVER, MARKER, PARAM, R, TIMER, FIFO1, FIFO4, isLogic, isFifo, thousandths}
-use Rattle.code.specs.Reading.{Answer, good}
-use Rattle.code.specs.Index.{lastIndex, isInside}
+use Rattle.buffers.specs.declared.fifo.Seen.{Seen}
+use Rattle.buffers.specs.declared.fifo.Seen.the-variants as S
+use Rattle.tokens.specs.Token.{MINUS, PLUS, TIMES, OVER, MARKER, PARAM, R, TIMER, FIFO1, FIFO4, isLogic, isFifo, thousandths}
+use Rattle.tokens.specs.Reading.{Answer, good}
+use Rattle.tokens.specs.Index.{lastIndex, isInside}
 use Rattle.working.specs.Variables.{cellOf, run, countAt, fromSeen, fifoValue, fifoAt, variableValue}
-use Rattle.code.specs.Fault.{outside, readOnly, lower, unless, wanting, Sight, numberFault, readFault, joinSights, sight}
+use Rattle.tokens.specs.SingleFault.{outside, readOnly, lower, unless, numberFault, readFault}
+use Rattle.code.specs.Fault.{wanting, Sight, joinSights, sight}
 use Rattle.working.specs.Working.{fromWorked, yesNo, isYes, joinTruths, joinValues, valueOver}
-use Rattle.engine.specs.Action.{alarmOf}
+use Rattle.actions.specs.Action.{alarmOf}
 use Rattle.soundness.specs.GoodAnswers.{Not22}
 use Rattle.soundness.specs.CellLaws.{run-ranged}
 use Rattle.soundness.specs.WriteLaws.{inside-high, lower-zero, unless-zero, BeatSound, run-length, count-few}

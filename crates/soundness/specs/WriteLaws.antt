@@ -15,23 +15,23 @@ use Rattle.values.specs.Value.{unit, notAllowed, inRange, equalTo, wholeUnits, 
 use Rattle.values.specs.ValueLaws.{abs-range, whole-in-range, whole-whole, output-either, output-same}
 use Rattle.values.specs.Time.{timer}
 use Rattle.values.specs.TimeLaws.{written-keeps}
-use Rattle.values.specs.Fifo.{places, Unused, countAfter, fits, appendAnswer, appended, removeAnswer, removed, emptyAnswer, emptied}
-use Rattle.values.specs.FifoLaws.{fits-holds, PlacesRanged, append-length, append-count, append-unused, append-ranged, remove-length, remove-count, remove-unused, remove-ranged, removed-in-range, empty-length, empty-count, empty-unused, empty-ranged}
+use Rattle.buffers.specs.Fifo.{places, Unused, countAfter, fits, appendAnswer, appended, removeAnswer, removed, emptyAnswer, emptied}
+use Rattle.buffers.specs.FifoLaws.{fits-holds, PlacesRanged, append-length, append-count, append-unused, append-ranged, remove-length, remove-count, remove-unused, remove-ranged, removed-in-range, empty-length, empty-count, empty-unused, empty-ranged}
 use Rattle.values.specs.Numbers.{clash}
 use Rattle.values.specs.declared.arithmetic.Worked.{Worked}
 use Rattle.values.specs.declared.arithmetic.Worked.the-variants as W
-use Rattle.values.specs.declared.fifo.Moved.{Moved}
-use Rattle.values.specs.declared.fifo.Moved.the-variants as M
-use Rattle.code.specs.Token.{OUT, MARKER, PARAM, R, TIMER, FIFO1, isFifo}
-use Rattle.code.specs.Reading.{good, _>>=_}
-use Rattle.code.specs.Index.{firstIndex, lastIndex, isInside}
+use Rattle.buffers.specs.declared.fifo.Moved.{Moved}
+use Rattle.buffers.specs.declared.fifo.Moved.the-variants as M
+use Rattle.tokens.specs.Token.{OUT, MARKER, PARAM, R, TIMER, FIFO1, isFifo}
+use Rattle.tokens.specs.Reading.{good, _>>=_}
+use Rattle.tokens.specs.Index.{firstIndex, lastIndex, isInside}
 use Rattle.working.specs.Variables.{runStart, cellOf, cellCount, counts, countAt, run, asCount}
-use Rattle.code.specs.Fault.{outside, readOnly, lower, unless, isWritable, writeFault}
+use Rattle.tokens.specs.SingleFault.{outside, readOnly, lower, unless, isWritable, writeFault}
 use Rattle.working.specs.Working.{fromWorked}
 use Rattle.state.specs.State.{stateCells}
 use Rattle.engine.specs.Cells.{inputCount}
 use Rattle.state.specs.Sound.{isCell, isOutput}
-use Rattle.engine.specs.Action.{Vars, Changed, Celled, withRunAt, moved, writeTimer, changeAnswer, changed, changeFifo, writeFifo, writeCell, writeInside, writeTo}
+use Rattle.writing.specs.Write.{Vars, Changed, Celled, withRunAt, moved, writeTimer, changeAnswer, changed, changeFifo, writeFifo, writeCell, writeInside, writeTo}
 use Rattle.soundness.specs.GoodAnswers.{Not22, Holds, holds-then}
 use Rattle.soundness.specs.CellLaws.{set-each, zero-in-range, cell-ranged, timer-cell, count-cell, right-output, right-marker, right-parameter, right-timer, fifoCount, CellsSound, run-ranged, replaced-length, r-keeps, cell-keeps, fifo-keeps}
 

@@ -1,4 +1,3 @@
--- Laws that several proofs cite: SetLaws on the lines of a set, SoundLaws on tests of each element and of each rank, CallLaws on the host's calls.
-pub mod SetLaws
+-- Laws that several proofs cite: SoundLaws on tests of each element and of each rank, TimerLaws on timers that grow.
 pub mod SoundLaws
-pub mod CallLaws
+pub mod TimerLaws

@@ -11,10 +11,10 @@ use lib.Seq.{drop-cons}
 use Rattle.values.specs.Value.{inRange, equalTo, outputOf}
 use Rattle.values.specs.declared.arithmetic.Worked.the-variants.{Value, Alarm}
 use Rattle.state.specs.Sound.{allRanged, isCell, areCells, allZero, isFlag, areFlags, stateSound, isSound}
-use Rattle.state.specs.Set.{soundLines}
-use Rattle.state.specs.declared.set.Lines.{Lines}
+use Rattle.set.specs.Set.{soundLines}
+use Rattle.set.specs.declared.set.Lines.{Lines}
 use Rattle.state.specs.declared.state.State.{State}
-use Rattle.state.proofs.SetLaws.{turn}
+use Rattle.set.proofs.SetLaws.{turn}
 
 -- a rule f for a list, from place i on: the test p of its first element, and the rule for the rest; x is what the test of the element at i said
 module _ (p : ℕ → ℤ → Bool) (f : List ℤ → ℕ → Bool) (some : (v : ℤ) (vs : List ℤ) (i : ℕ) → f (v ∷ vs) i ≡ (p i v && f vs (i + 1))) (xs : List ℤ) (i : ℕ) (l : i < length xs) (x : Bool) (e : x ≡ p i (getD xs i (pos 0))) where

@@ -1,5 +1,5 @@
--- A set, a state, whether they are sound, and the host's calls, in document 01's order. Definitions only.
-pub mod Set
+-- A state and when it is sound with its set, the timers among its cells, and what a keyword makes of a line's memory. Definitions only.
 pub mod State
 pub mod Sound
-pub mod Calls
+pub mod Timers
+pub mod Keyword

@@ -6,11 +6,11 @@ use lib.Dec.{eqb, leb, ltb}
 use lib.IntN.{ℤ, pos}
 use lib.ListN.{getD, take, drop}
 use Rattle.values.specs.Value.{inRange, lessThan, equalTo, wholeUnits, outputOf, codeOf}
-use Rattle.values.specs.Fifo.{places}
+use Rattle.buffers.specs.Fifo.{places}
 use Rattle.working.specs.Variables.{asCount}
-use Rattle.state.specs.declared.set.Lines.{Lines}
+use Rattle.set.specs.declared.set.Lines.{Lines}
 use Rattle.state.specs.declared.state.State.{State}
-use Rattle.state.specs.Set.{soundLines}
+use Rattle.set.specs.Set.{soundLines}
 
 -- the code of whatever is not sound
 abbrev pub unsoundCode : ℕ

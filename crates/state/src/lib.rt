@@ -1,7 +1,7 @@
-// A set and a state, whether they are sound, and the host's calls.
+// A state, whether a set and a state are sound, the timers' growth, and what each keyword makes of a line's memory.
 //
-// A set is lent, a state goes in by value and comes back. No public call asks anything of its caller: what is not sound is answered 22.
-pub mod calls;
-pub mod set;
+// A state goes in by value and comes back. No public call asks anything of its caller.
+pub mod keyword;
 pub mod sound;
 pub mod state;
+pub mod timers;

@@ -9,7 +9,7 @@ use Rattle.transcript.specs.declared.session.Stepped.{Stepped}
 use Rattle.transcript.specs.Machine.{Machine, worked, finishedText, outSize}
 use Rattle.transcript.specs.Held.{IsWork}
 use Rattle.transcript.specs.RoomLaws.{finished-text-room}
-use Rattle.reader.specs.Row.{putAt}
+use Rattle.draft.specs.Row.{putAt}
 use Rattle.reader.specs.PutLaws.{put-length}
 use Rattle.sessions.specs.PieceLaws.{worked-room, taken-within, taken-some}
 

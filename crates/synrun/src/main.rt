@@ -1,8 +1,8 @@
 // synrun: reads standard input, hands it to a session piece by piece, and writes what the session prints. Nothing else happens here.
-use code::token::SIZE;
 use libc::STDIN_FILENO;
 use libc::STDOUT_FILENO;
-use state::set::empty_set;
+use set::set::empty_set;
+use tokens::token::SIZE;
 use transcript::session::KEPT;
 use transcript::session::OUT;
 use transcript::session::Session;

@@ -6,7 +6,7 @@ use Prim.Native.Char.{code}
 use Prim.Native.String.{String}
 use Prim.Native.String.{[] as no-text, _∷_ as _and_}
 use lib.Dec.{eqb}
-use Rattle.code.specs.Token.{between}
+use Rattle.tokens.specs.Token.{between}
 use Rattle.text.specs.declared.bytes.Kind.{Kind}
 use Rattle.text.specs.declared.bytes.Kind.the-variants.{Digit, Word, Line, Body}
 

@@ -5,7 +5,7 @@ use Prim.Native.Nat.{ℕ, zero, suc, _+_, _-_, _*_, _^_}
 use lib.Dec.{leb}
 use lib.ListN.{length}
 use Rattle.values.specs.Value.{unit, top}
-use Rattle.code.specs.Token.{NUMBER}
+use Rattle.tokens.specs.Token.{NUMBER}
 
 -- the value of digits behind others of the value n
 abbrev pub digitsValue : List ℕ → ℕ → ℕ

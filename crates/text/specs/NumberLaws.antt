@@ -11,7 +11,7 @@ use lib.ListN.{length, drop, getD, drop-of-length-le}
 use lib.Seq.{drop-cons}
 use borrow.Author.Tests.{le-leb, lt-leb}
 use Rattle.values.specs.Value.{top, unit}
-use Rattle.code.specs.Token.{NUMBER}
+use Rattle.tokens.specs.Token.{NUMBER}
 use Rattle.text.specs.Number.{digitsValue, written, isFit, tooLarge, pointMark, numberToken}
 
 -- ---- digits

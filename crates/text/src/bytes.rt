@@ -2,7 +2,7 @@
 ghost use mathlib.Core.Path.{_≡_};
 ghost use Prim.Native.Nat.{_+_};
 ghost use lib.ListN.{drop};
-ghost use Rattle.code.specs.Token.{between};
+ghost use Rattle.tokens.specs.Token.{between};
 ghost use Rattle.text.specs.Byte.{isDigit, isLetter, startsWord, isWordByte, kindOf, run};
 
 pub const LF: u8 = 10;

@@ -3,7 +3,7 @@ ghost use mathlib.Core.Path.{_≡_};
 ghost use Prim.Native.Nat.{_-_, _^_, _≤_};
 ghost use lib.ListN.{length};
 ghost use Rattle.text.specs.Number.{digitsValue, pointMark, numberToken};
-use code::token::NUMBER;
+use tokens::token::NUMBER;
 
 // The digits before the point and behind it, and the thousandths, of the largest numbers.
 const WHOLE_DIGITS: usize = 7;

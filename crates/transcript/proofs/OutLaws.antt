@@ -7,7 +7,7 @@ use native.Mathlib.Numerals.{add-one}
 use borrow.Author.Tests.{lt-ltb, le-ltb}
 use lib.ListN.{length, getD, set, drop, length-append, drop-of-length-le}
 use lib.Seq.{set-out, drop-cons, append-snoc, getD-drop, drop-drop}
-use Rattle.reader.specs.Row.{putAt}
+use Rattle.draft.specs.Row.{putAt}
 use Rattle.reader.specs.PutLaws.{put-join}
 use Rattle.transcript.specs.Output.{digitsUp, decimal, fourOf, signedText, orderLine, orderLines}
 use Rattle.transcript.specs.Held.{IsPut}

@@ -11,24 +11,25 @@ use borrow.Author.Tests.{eq-eqb, ne-eqb, le-leb, lt-ltb}
 use lib.Dec.{eqb, leb}
 use lib.ListN.{length, getD, set, take, drop, replicate, drop-of-length-le}
 use lib.Seq.{drop-cons}
-use Rattle.code.proofs.Between.{never}
+use Rattle.tokens.proofs.Between.{never}
 use Rattle.engine.specs.declared.beat.Beaten.{Beaten}
 use Rattle.engine.specs.Beat.{bufferSize, beatAnswer, beatBuffer}
 use Rattle.text.specs.Byte.{LF, CR}
 use Rattle.reader.specs.declared.load.Loaded.{Loaded}
-use Rattle.reader.specs.Row.{putAt}
+use Rattle.draft.specs.Row.{putAt}
 use Rattle.reader.specs.Load.{loadAnswer, loadSet}
 use Rattle.transcript.specs.declared.session.Place.{Place}
 use Rattle.transcript.specs.declared.session.Session.{Session}
 use Rattle.transcript.specs.declared.session.Ended.{Ended}
-use Rattle.transcript.specs.declared.beat_line.Reading.{Reading}
-use Rattle.transcript.specs.declared.beat_line.Told.{Told}
-use Rattle.transcript.specs.BeatLine.{Lent}
+use Rattle.beat_lines.specs.declared.beat_line.Reading.{Reading}
+use Rattle.beat_lines.specs.declared.beat_line.Told.{Told}
+use Rattle.beat_lines.specs.BeatLine.{Lent}
 use Rattle.transcript.specs.Output.{loadLine, errorLine, codeLine, orderLines}
-use Rattle.transcript.specs.Reading.{noReading, readOn, readLent, withoutCR}
+use Rattle.beat_lines.specs.Reading.{noReading, readOn, readLent, withoutCR}
 use Rattle.transcript.specs.Run.{maxBeats, oneIf, counted, ended, answerOf, bufferOf, beatText}
 use Rattle.transcript.specs.Machine.{TEXT, BEATS, OVER, keptSize, Fed, isFit, withPhase, withPlace, withReading, withTotals, totalsOf, starAfter, starOn, placeOn, placeEnd, opened, textEnd, beatOf, beatEnd, chunk, lineEnd}
-use Rattle.transcript.specs.Held.{IsPut, IsFed, toldOf, lentIn, machineOf}
+use Rattle.transcript.specs.Held.{IsPut, IsFed, machineOf}
+use Rattle.beat_lines.specs.Told.{toldOf, lentIn}
 use Rattle.transcript.specs.OrdersLaws.{orders-within}
 use Rattle.transcript.specs.RoomLaws.{Fit, Lives}
 

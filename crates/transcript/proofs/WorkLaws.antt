@@ -12,12 +12,12 @@ use lib.Seq.{drop-drop}
 use Rattle.text.specs.Byte.{inLine, run}
 use Rattle.text.specs.ByteLaws.{run-within}
 use Rattle.reader.specs.declared.load.Loaded.{Loaded}
-use Rattle.reader.specs.Row.{putAt}
+use Rattle.draft.specs.Row.{putAt}
 use Rattle.reader.specs.Load.{loadAnswer}
 use Rattle.transcript.specs.declared.session.Session.{Session}
 use Rattle.transcript.specs.declared.session.Ended.{Ended}
 use Rattle.transcript.specs.Output.{loadLine}
-use Rattle.transcript.specs.Reading.{isUntouched}
+use Rattle.beat_lines.specs.Reading.{isUntouched}
 use Rattle.transcript.specs.Run.{ended}
 use Rattle.transcript.specs.Machine.{TEXT, BEATS, Machine, Fed, Work, totalsOf, isFit, beatEnd, chunk, lineEnd, textOver, lastOver, finished, finishedText, workFrom, worked}
 use Rattle.transcript.specs.Held.{IsPut, IsFed, IsWork, machineOf}

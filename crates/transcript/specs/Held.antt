@@ -1,32 +1,18 @@
 -- How the code holds what it prints and reads: text put at a place of a buffer, what a beat line lends, what a session came to. Definitions only.
 use mathlib.Core.Path.{_≡_}
-use mathlib.Core.Bool.{true, false}
 use mathlib.Core.List.{List}
-use mathlib.Core.Option.{Option, none, some}
 use Prim.Native.Nat.{ℕ, _+_}
-use lib.IntN.{pos}
-use lib.ListN.{length, replicate}
-use Rattle.reader.specs.Row.{putAt}
-use Rattle.transcript.specs.declared.beat_line.Told.{Told}
+use lib.ListN.{length}
+use Rattle.draft.specs.Row.{putAt}
 use Rattle.transcript.specs.declared.session.Session.{Session}
 use Rattle.transcript.specs.declared.session.Stepped.{Stepped}
 use Rattle.transcript.specs.declared.session.Ended.{Ended}
-use Rattle.transcript.specs.BeatLine.{Lent}
 use Rattle.transcript.specs.Machine.{Machine, Fed, Work}
 
 -- a text is put into a buffer at a place, past whose end nothing is written; the place behind the text is `end`
 pub record IsPut (buffer : List ℕ) (at : ℕ) (text exit : List ℕ) (end : ℕ) : Type 0 where
   pub put : exit ≡ putAt buffer at text
   pub behind : end ≡ at + length text
-
--- what a beat line lends, if it lends anything
-abbrev pub toldOf : Option Lent → Told
-toldOf none = record { good = false; automatic = false; word = 0; numbers = replicate 14 (pos 0) }
-toldOf (some l) = record { good = true; automatic = l .automatic; word = l .word; numbers = l .numbers }
-
--- what it lends, where it lends something
-abbrev pub lentIn : Told → Lent
-lentIn t = record { automatic = t .automatic; word = t .word; numbers = t .numbers }
 
 abbrev pub machineOf : List ℕ → List ℕ → Session → Machine
 machineOf t s x = record { text = t; lines = s; session = x }

@@ -8,16 +8,16 @@ use lib.ListN.{length, set, take, drop}
 use Rattle.state.specs.State.{powerOn}
 use Rattle.engine.specs.declared.beat.Beaten.{Beaten}
 use Rattle.text.specs.Byte.{LF, CR, inLine, run}
-use Rattle.reader.specs.Row.{putAt}
+use Rattle.draft.specs.Row.{putAt}
 use Rattle.reader.specs.Load.{loadAnswer, loadSet}
 use Rattle.transcript.specs.declared.session.Place.{Place}
 use Rattle.transcript.specs.declared.session.Session.{Session}
 use Rattle.transcript.specs.declared.session.Stepped.{Stepped}
-use Rattle.transcript.specs.declared.beat_line.Reading.{Reading}
-use Rattle.transcript.specs.BeatLine.{Lent}
+use Rattle.beat_lines.specs.declared.beat_line.Reading.{Reading}
+use Rattle.beat_lines.specs.BeatLine.{Lent}
 use Rattle.transcript.specs.Output.{loadLine, errorLine, endLine}
 use Rattle.transcript.specs.Run.{maxBeats, Totals, ended, counted, answerOf, beatText}
-use Rattle.transcript.specs.Reading.{noReading, readOn, isUntouched, withoutCR, readLent}
+use Rattle.beat_lines.specs.Reading.{noReading, readOn, isUntouched, withoutCR, readLent}
 
 -- the phases: set text, beat lines, over
 abbrev pub TEXT : ℕ

@@ -8,18 +8,21 @@ use lib.Dec.{eqb, ltb}
 use lib.IntN.{ℤ}
 use lib.ListN.{length, getD, length-append}
 use Rattle.values.specs.Choice.{either}
-use Rattle.values.specs.OrderLaws.{eight-bytes}
-use Rattle.values.specs.declared.order.Order.{Order}
-use Rattle.code.specs.Token.{END, M, SETAL, LOCK, isVariable, isDrive, whole}
-use Rattle.code.specs.Reading.{Answer, good, stop, _>>=_, indexAt}
+use Rattle.buffers.specs.OrderLaws.{eight-bytes}
+use Rattle.buffers.specs.declared.order.Order.{Order}
+use Rattle.tokens.specs.Token.{END, M, SETAL, LOCK, isVariable, isDrive, whole}
+use Rattle.tokens.specs.Reading.{Answer, good, stop, _>>=_, indexAt}
 use Rattle.working.specs.Working.{rightValue, conditionValue, isYes}
 use Rattle.code.specs.declared.check.Line.{Line}
 use Rattle.state.specs.declared.state.State.{State}
-use Rattle.state.specs.Set.{maxLines, rankIn, noLine, soundLines}
+use Rattle.set.specs.Set.{maxLines, rankIn, noLine, soundLines}
 use Rattle.soundness.specs.SetLaws.{lines-lined}
 use Rattle.state.specs.Sound.{isSound}
-use Rattle.engine.specs.Action.{World, Did, ordered, fromGot, driveOrder, lockOf, takenAt, writeTo, assignmentOf, driveOf, commandOf, actionOf, actionsOf}
-use Rattle.engine.specs.Turn.{Entry, Turned, worked, remembered, counted, tries, acts, remembers, takesTurn, doTurn, tryTurn, turnOf, turnsFrom}
+use Rattle.actions.specs.Action.{World, Did, ordered, fromGot, lockOf, takenAt, assignmentOf, driveOf, commandOf, actionOf, actionsOf}
+use Rattle.writing.specs.Drive.{driveOrder}
+use Rattle.writing.specs.Write.{writeTo}
+use Rattle.engine.specs.Turn.{Entry, Turned, worked, remembered, counted, takesTurn, doTurn, tryTurn, turnOf, turnsFrom}
+use Rattle.state.specs.Keyword.{tries, acts, remembers}
 use Rattle.engine.specs.Beat.{bufferSize, areInputs, begun, beatOf, answered, beatAnswer}
 
 -- ---- answers

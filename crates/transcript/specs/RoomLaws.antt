@@ -15,11 +15,11 @@ use Rattle.engine.specs.Beat.{bufferSize}
 use Rattle.reader.specs.Load.{loadAnswer}
 use Rattle.transcript.specs.declared.session.Place.{Place}
 use Rattle.transcript.specs.declared.session.Session.{Session}
-use Rattle.transcript.specs.declared.beat_line.Reading.{Reading}
-use Rattle.transcript.specs.BeatLine.{Lent}
+use Rattle.beat_lines.specs.declared.beat_line.Reading.{Reading}
+use Rattle.beat_lines.specs.BeatLine.{Lent}
 use Rattle.transcript.specs.Output.{digitsUp, decimal, signedText, fourOf, loadLine, errorLine, codeLine, orderLine, orderLines, endLine}
 use Rattle.transcript.specs.Run.{maxBeats, Totals, ended, counted, oneIf, answerOf, bufferOf, beatText}
-use Rattle.transcript.specs.Reading.{illFormed, withField, closed, spaceAfter, modeByte, minusByte, digitByte, fieldByte, readByte, readOn, greatest, readLent, withoutCR, isUntouched}
+use Rattle.beat_lines.specs.Reading.{illFormed, withField, closed, spaceAfter, modeByte, minusByte, digitByte, fieldByte, readByte, readOn, greatest, readLent, withoutCR, isUntouched}
 use Rattle.transcript.specs.Machine.{TEXT, BEATS, OVER, keptSize, Machine, Fed, totalsOf, isFit, placeOn, placeEnd, opened, textEnd, beatOf, beatEnd, chunk, lineEnd, textOver, lastOver, finished, finishedText, lineRoom}
 use Rattle.transcript.specs.OrdersLaws.{orders-within}
 

@@ -3,7 +3,7 @@ ghost use mathlib.Core.Path.{_≡_};
 ghost use mathlib.Core.List.{[], _∷_, _++_};
 ghost use Prim.Native.Nat.{_+_, _≤_};
 ghost use lib.ListN.{set};
-ghost use Rattle.reader.specs.Row.{putAt};
+ghost use Rattle.draft.specs.Row.{putAt};
 ghost use Rattle.transcript.specs.Output.{digitsUp, decimal};
 ghost use Rattle.transcript.specs.Held.{IsPut};
 

@@ -7,9 +7,9 @@ ghost use Rattle.transcript.specs.Output.{fourOf, signedText, loadLine, 
 ghost use Rattle.transcript.specs.Held.{IsPut};
 use crate::out::put;
 use crate::out::put_number;
+use buffers::order::ORDER_BYTES;
 use text::bytes::LF;
 use text::bytes::SPACE;
-use values::order::ORDER_BYTES;
 
 // A letter and a space.
 fn put_letter(out: &mut [u8], at: usize, letter: u8) -> usize

@@ -10,10 +10,10 @@ use mir.Syntax.{w8, w32}
 use mir.Val.{Fits, SFits, toZ, ofZ}
 use borrow.Author.Tests.{ltb-true, ltb-false, eqb-true, eqb-false, le-leb, lt-leb, ne-eqb}
 use Rattle.values.proofs.Signed.{back}
-use Rattle.code.specs.Token.{INA, OUT, MARKER, PARAM, R, TIMER, IM, isFifo}
-use Rattle.code.specs.Index.{lastIndex, isInside}
-use Rattle.code.proofs.Between.{never}
-use Rattle.code.proofs.Indices.{last-other, last-inside}
+use Rattle.tokens.specs.Token.{INA, OUT, MARKER, PARAM, R, TIMER, IM, isFifo}
+use Rattle.tokens.specs.Index.{lastIndex, isInside}
+use Rattle.tokens.proofs.Between.{never}
+use Rattle.tokens.proofs.Indices.{last-other, last-inside}
 use Rattle.working.specs.Variables.{cellStart, cellOf, asCount}
 
 -- ---- a cell as a count, read back from its bits

@@ -9,7 +9,7 @@ use mir.Val.{SFits, toZ, ofZ}
 use Rattle.values.specs.declared.arithmetic.Worked.{Worked}
 use Rattle.values.proofs.Signed.{back}
 use Rattle.working.specs.declared.work.Got.{Got}
-use Rattle.code.specs.Reading.{Read, read, ends, then, upTo}
+use Rattle.tokens.specs.Reading.{Read, read, ends, then, upTo}
 use Rattle.working.specs.Working.{fromWorked, told, heard}
 use Rattle.code.proofs.Answers as answers
 

@@ -7,13 +7,13 @@ use Prim.Native.Nat.{ℕ, _+_, _-_, _*_}
 use lib.Dec.{eqb, leb}
 use lib.IntN.{ℤ, pos, negsuc}
 use lib.ListN.{take, drop, getD}
-use Rattle.values.specs.Fifo.{places, unsound, oldestOf, newestOf, totalOf, countOf}
+use Rattle.buffers.specs.Fifo.{places, unsound, oldestOf, newestOf, totalOf, countOf}
 use Rattle.values.specs.declared.arithmetic.Worked.{Worked}
 use Rattle.values.specs.declared.arithmetic.Worked.the-variants.{Value, Alarm}
-use Rattle.values.specs.declared.fifo.Seen.{Seen}
-use Rattle.values.specs.declared.fifo.Seen.the-variants as S
-use Rattle.code.specs.Token.{INA, OUT, MARKER, PARAM, R, TIMER, FIFO1, IM, isFifo}
-use Rattle.code.specs.Index.{firstIndex, isInside}
+use Rattle.buffers.specs.declared.fifo.Seen.{Seen}
+use Rattle.buffers.specs.declared.fifo.Seen.the-variants as S
+use Rattle.tokens.specs.Token.{INA, OUT, MARKER, PARAM, R, TIMER, FIFO1, IM, isFifo}
+use Rattle.tokens.specs.Index.{firstIndex, isInside}
 
 -- ---- where they lie
 

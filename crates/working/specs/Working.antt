@@ -6,12 +6,12 @@ use Prim.Native.Nat.{ℕ}
 use lib.Dec.{eqb}
 use lib.IntN.{ℤ, pos, natAbs}
 use Rattle.values.specs.Value.{sumOf, differenceOf, productOf, quotientOf, negationOf, lessThan, equalTo}
-use Rattle.values.specs.Fifo.{unsound}
+use Rattle.buffers.specs.Fifo.{unsound}
 use Rattle.values.specs.declared.arithmetic.Worked.{Worked}
 use Rattle.values.specs.declared.arithmetic.Worked.the-variants as W
 use Rattle.working.specs.declared.work.Got.{Got}
-use Rattle.code.specs.Token.{setSize, SAME, OTHER, LESS, MORE, ATMOST, ATLEAST, PLUS, MINUS, TIMES, OVER, AND, OR, thousandths}
-use Rattle.code.specs.Reading.{Answer, good, stop, Read, read, ends, upTo, Meaning, sumAt, expressionAt}
+use Rattle.tokens.specs.Token.{setSize, SAME, OTHER, LESS, MORE, ATMOST, ATLEAST, PLUS, MINUS, TIMES, OVER, AND, OR, thousandths}
+use Rattle.tokens.specs.Reading.{Answer, good, stop, Read, read, ends, upTo, Meaning, sumAt, expressionAt}
 use Rattle.working.specs.Variables.{variableValue}
 
 abbrev pub fromWorked : Worked → Answer ℤ

@@ -4,22 +4,22 @@
 // parameters, timers, and the counts of the four FIFOs. The same table stands in specs/Variables.
 ghost use mathlib.Core.Path.{_≡_};
 ghost use mathlib.Core.Bool.{true};
-ghost use Rattle.code.specs.Token.{isFifo};
+ghost use Rattle.tokens.specs.Token.{isFifo};
 ghost use Rattle.working.specs.Variables.{cellOf, cellStart, asCount, fromSeen, fifoValue, fifoAt, variableValue};
-use code::index::first_index;
-use code::index::is_inside;
-use code::token::FIFO1;
-use code::token::IM;
-use code::token::INA;
-use code::token::MARKER;
-use code::token::OUT;
-use code::token::PARAM;
-use code::token::R;
-use code::token::TIMER;
-use code::token::is_fifo;
+use buffers::fifo::PLACES;
+use buffers::fifo::Seen;
+use tokens::index::first_index;
+use tokens::index::is_inside;
+use tokens::token::FIFO1;
+use tokens::token::IM;
+use tokens::token::INA;
+use tokens::token::MARKER;
+use tokens::token::OUT;
+use tokens::token::PARAM;
+use tokens::token::R;
+use tokens::token::TIMER;
+use tokens::token::is_fifo;
 use values::arithmetic::Worked;
-use values::fifo::PLACES;
-use values::fifo::Seen;
 
 // The places of R.
 pub const RS: usize = 164;
@@ -107,16 +107,16 @@ fn fifo_value(part: &[i32], count: u8, i: u32) -> Worked
     ensures { λ r. ⌜ r ≡ fifoValue (now (part .entry)) count i ⌝ }
 {
     if i == 1 {
-        return from_seen(values::fifo::oldest(part, count));
+        return from_seen(buffers::fifo::oldest(part, count));
     }
     if i == 2 {
-        return from_seen(values::fifo::newest(part, count));
+        return from_seen(buffers::fifo::newest(part, count));
     }
     if i == 3 {
-        return from_seen(values::fifo::total(part, count));
+        return from_seen(buffers::fifo::total(part, count));
     }
     if i == 4 {
-        return from_seen(values::fifo::count_value(part, count));
+        return from_seen(buffers::fifo::count_value(part, count));
     }
     Worked::Alarm(UNSOUND)
 }

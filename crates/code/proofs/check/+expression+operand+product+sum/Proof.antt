@@ -5,18 +5,18 @@ use mathlib.Core.Path.{sym, ap, _∙_}
 use mathlib.Core.Bool.{true, false}
 use Prim.Native.Nat.{_+_, _*_}
 use native.Mathlib.Omega.{arith}
-use Rattle.code.specs.Token.{SAME, ATLEAST, PLUS, MINUS, TIMES, OVER, IN, IM, isFactor, isTerm}
-use Rattle.code.specs.Reading.{isRow, readClose, readProduct, readSum, readExpression, readOperand}
+use Rattle.tokens.specs.Token.{SAME, ATLEAST, PLUS, MINUS, TIMES, OVER, IN, IM, isFactor, isTerm}
+use Rattle.tokens.specs.Reading.{isRow, readClose, readProduct, readSum, readExpression, readOperand}
 use Rattle.code.specs.Fault.{sight, shown, shownSight, signedSight}
 use Rattle.code.proofs.Arms.{spent, number-arm, variable-arm, open-arm, minus-arm, not-arm, truth-arm}
-use Rattle.code.proofs.Between.{no-end, row-no-end}
+use Rattle.tokens.proofs.Between.{no-end, row-no-end}
 use Rattle.code.proofs.Rows.{Kept, row-stops, row-ends, row-spent, row-goes, product-begins, sum-begins, expression-stops, comparison, row-after}
 use Rattle.code.proofs.Shown.{sight-shown, answer, step, sight-ends, sight-read}
 use Rattle.code.proofs.check.again.Reads as again
 use Rattle.code.proofs.check.closed.Reads as closed
 use Rattle.code.proofs.check.expression.Reads as expression
 use Rattle.code.proofs.check.joined.Reads as joined
-use Rattle.code.proofs.check.number_fault.Reads as number-fault
+use Rattle.tokens.proofs.fault.number_fault.Reads as number-fault
 use Rattle.code.proofs.check.operand.Reads as operand
 use Rattle.code.proofs.check.product.Reads as product
 use Rattle.code.proofs.check.signed.Reads as signed
@@ -24,12 +24,12 @@ use Rattle.code.proofs.check.stopped.Reads as stopped
 use Rattle.code.proofs.check.sum.Reads as sum
 use Rattle.code.proofs.check.truth.Reads as truth
 use Rattle.code.proofs.check.variable.Reads as variable
-use Rattle.code.proofs.token.is_compare.Reads as is-compare
-use Rattle.code.proofs.token.is_factor.Reads as is-factor
-use Rattle.code.proofs.token.is_row.Reads as is-row
-use Rattle.code.proofs.token.is_term.Reads as is-term
-use Rattle.code.proofs.token.is_variable.Reads as is-variable
-use Rattle.code.proofs.token.token_at.Reads as token-at
+use Rattle.tokens.proofs.token.is_compare.Reads as is-compare
+use Rattle.tokens.proofs.token.is_factor.Reads as is-factor
+use Rattle.tokens.proofs.token.is_row.Reads as is-row
+use Rattle.tokens.proofs.token.is_term.Reads as is-term
+use Rattle.tokens.proofs.token.is_variable.Reads as is-variable
+use Rattle.tokens.proofs.token.token_at.Reads as token-at
 use Rattle.code.proofs.check.+expression+operand+product+sum.Lts-expression as expression-lts
 use Rattle.code.proofs.check.+expression+operand+product+sum.Lts-operand as operand-lts
 use Rattle.code.proofs.check.+expression+operand+product+sum.Lts-product as product-lts

@@ -2,7 +2,7 @@
 use borrow.Author.Needs.{needs}
 use native.Mathlib.Omega.{arith}
 use mathlib.Core.Path.{sym, _∙_}
-use Rattle.code.specs.Reading.{sumAt, readSum}
+use Rattle.tokens.specs.Reading.{sumAt, readSum}
 use Rattle.code.specs.Fault.{assignedAt}
 use Rattle.code.proofs.Shown.{answer, fault-of}
 use Rattle.code.proofs.check.assigned.Statement.{statement}

@@ -6,10 +6,11 @@ use mathlib.Core.Path.{_≡_, sym, ap, _∙_}
 use mathlib.Core.Bool.{true}
 use Prim.Native.Nat.{ℕ, _+_}
 use lib.ListN.{getD}
-use Rattle.code.specs.Token.{isWhole, whole}
-use Rattle.code.specs.Reading.{read}
-use Rattle.code.specs.Fault.{shownFault, codeFault, callFault}
-use Rattle.code.proofs.Between.{tested}
+use Rattle.tokens.specs.Token.{isWhole, whole}
+use Rattle.tokens.specs.Reading.{read}
+use Rattle.code.specs.Fault.{shownFault}
+use Rattle.tokens.specs.SingleFault.{codeFault, callFault}
+use Rattle.tokens.proofs.Between.{tested}
 use Rattle.code.proofs.FaultLaws.{no-command, no-code, a-code, no-call, no-open, no-close, a-call}
 use Rattle.code.proofs.check.command.Statement.{statement}
 use Rattle.code.proofs.check.command.Tie as tie

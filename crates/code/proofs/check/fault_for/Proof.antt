@@ -1,7 +1,7 @@
 -- `check::fault_for` meets its contract: a look that is not good stays as it is; otherwise the fault is the calls'.
 use borrow.Author.Needs.{needs}
 use mathlib.Core.Path.{sym, ap, _∙_}
-use Rattle.code.specs.Reading.{Read}
+use Rattle.tokens.specs.Reading.{Read}
 use Rattle.code.specs.Fault.{Sight, faultFor, shown, shownFault}
 use Rattle.code.proofs.Shown.{sight-ends, sight-read}
 use Rattle.code.proofs.check.fault_for.Statement.{statement}

@@ -4,9 +4,9 @@ use borrow.Author.Tests.{not-true, not-false, eq-eqb, ne-eqb}
 use mathlib.Core.Path.{_≡_, refl, sym, _∙_}
 use mathlib.Core.Bool.{true}
 use native.Mathlib.Omega.{arith}
-use Rattle.code.specs.Token.{FIFO1, FIFO4, isFifo}
-use Rattle.code.specs.Reading.{isIndexed}
-use Rattle.code.proofs.Between.{no-end}
+use Rattle.tokens.specs.Token.{FIFO1, FIFO4, isFifo}
+use Rattle.tokens.specs.Reading.{isIndexed}
+use Rattle.tokens.proofs.Between.{no-end}
 use Rattle.code.proofs.FaultLaws.{removal}
 use Rattle.code.proofs.check.is_removal.Statement.{statement}
 use Rattle.code.proofs.check.is_removal.Tie as tie

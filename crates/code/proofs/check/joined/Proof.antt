@@ -3,8 +3,8 @@ use borrow.Author.Needs.{needs}
 use mathlib.Core.Path.{_≡_, refl, sym, _∙_}
 use mathlib.Core.Bool.{Bool, true, _||_, not}
 use Rattle.code.specs.declared.check.Look.{Look}
-use Rattle.code.specs.Token.{isFactor, isTerm}
-use Rattle.code.specs.Reading.{read, then}
+use Rattle.tokens.specs.Token.{isFactor, isTerm}
+use Rattle.tokens.specs.Reading.{read, then}
 use Rattle.code.specs.Fault.{joinSights, shown, shownSight}
 use Rattle.code.proofs.Shown.{passes, enters}
 use Rattle.code.proofs.check.joined.Statement.{statement}

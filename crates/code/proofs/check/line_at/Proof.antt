@@ -6,9 +6,9 @@ use mathlib.Core.Path.{_≡_, sym, _∙_}
 use mathlib.Core.Bool.{true}
 use Prim.Native.Nat.{_<_}
 use lib.ListN.{getD}
-use Rattle.code.specs.Token.{ID, IDS, isId, isWhole}
+use Rattle.tokens.specs.Token.{ID, IDS, isId, isWhole}
 use Rattle.code.specs.Fault.{lineAt}
-use Rattle.code.proofs.Between.{tested, no-end}
+use Rattle.tokens.proofs.Between.{tested, no-end}
 use Rattle.code.proofs.check.line_at.Statement.{statement}
 use Rattle.code.proofs.check.line_at.Tie as tie
 

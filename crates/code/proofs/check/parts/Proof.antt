@@ -4,7 +4,7 @@ use native.Mathlib.Omega.{arith}
 use mathlib.Core.Path.{sym, ap, _∙_}
 use Prim.Native.Nat.{ℕ}
 use lib.Dec.{eqb}
-use Rattle.code.specs.Token.{whole, IDS}
+use Rattle.tokens.specs.Token.{whole, IDS}
 use Rattle.code.specs.Fault.{numberOf}
 use Rattle.code.proofs.FaultLaws.{parts-end, parts-faulty, parts-good}
 use Rattle.code.proofs.check.parts.Statement.{statement}

@@ -3,10 +3,10 @@ use borrow.Author.Needs.{needs}
 use native.Mathlib.Omega.{arith}
 use borrow.Author.Tests.{not-true}
 use mathlib.Core.Bool.{true}
-use Rattle.code.specs.Token.{isKeyword}
-use Rattle.code.specs.Reading.{readExpression, expressionAt}
+use Rattle.tokens.specs.Token.{isKeyword}
+use Rattle.tokens.specs.Reading.{readExpression, expressionAt}
 use Rattle.code.specs.Fault.{restAt}
-use Rattle.code.proofs.Between.{tested}
+use Rattle.tokens.proofs.Between.{tested}
 use Rattle.code.proofs.FaultLaws.{rest-end, rest-goes}
 use Rattle.code.proofs.Shown.{answer, fault-of}
 use Rattle.code.proofs.check.rest.Statement.{statement}

@@ -4,9 +4,10 @@ use borrow.Author.Tests.{not-true, not-false}
 use mathlib.Core.Path.{refl}
 use native.Mathlib.Omega.{arith}
 use denote.Ref.{now}
-use Rattle.engine.specs.Action.{actionsOf}
+use Rattle.actions.specs.Action.{actionsOf}
 use Rattle.engine.specs.Turn.{doTurn, counted}
-use Rattle.engine.specs.Held.{worldOf}
+use Rattle.actions.specs.Held.{worldOf}
+use Rattle.actions.proofs.ActionLaws.{with-room}
 use Rattle.engine.proofs.TurnLaws.{done-turned}
 use Rattle.engine.proofs.beat.act.Statement.{statement}
 use Rattle.engine.proofs.beat.act.Tie as tie
@@ -29,6 +30,6 @@ act-spec =
           rw (not-false (a .yes) (i .if1 .left))
           (done-turned (d .result) (o .0) (o .1 .0) (o .1 .1 .0)
           (actionsOf (now (a .code)) (now (a .numbers)) (now (a .cancelled)) (a .l .number) 8 (counted (worldOf (now (a .r)) (now (a .cells)) (now (a .out)) (a .flags)) k) (a .l .actions))
-          es (rw e at (d .ensures .0))),
+          es (rw (with-room (a .flags .count) _ (omega arith), e) at (d .ensures .0))),
       (omega arith, omega (arith, d .ensures .1 .1)),
     )))

@@ -4,10 +4,10 @@ use borrow.Author.Tests.{not-true, not-false}
 use mathlib.Core.Path.{refl}
 use native.Mathlib.Omega.{arith}
 use denote.Ref.{now}
-use Rattle.code.specs.Reading.{Answer}
+use Rattle.tokens.specs.Reading.{Answer}
 use Rattle.engine.specs.Turn.{Turned, turnsFrom}
 use Rattle.engine.specs.Beat.{begun}
-use Rattle.engine.specs.Held.{IsTurned}
+use Rattle.engine.specs.TurnHeld.{IsTurned}
 use Rattle.engine.proofs.TurnLaws.{turned-good, turned-stop}
 use Rattle.engine.proofs.BeatLaws.{refuses, answers, writes}
 use Rattle.engine.proofs.beat.all_turns.Statement.{statement}

@@ -4,10 +4,10 @@ use borrow.Author.Tests.{not-true, not-false}
 use mathlib.Core.Path.{_≡_, sym, _∙_}
 use mathlib.Core.Bool.{true, false}
 use denote.Ref.{now}
-use Rattle.state.specs.Set.{soundLines}
+use Rattle.set.specs.Set.{soundLines}
 use Rattle.state.specs.Sound.{stateSound}
 use Rattle.engine.specs.Beat.{areInputs, beatAnswer, beatBuffer}
-use Rattle.state.proofs.SetLaws.{sound-count}
+use Rattle.set.proofs.SetLaws.{sound-count}
 use Rattle.engine.proofs.BeatLaws.{inputs-length, lines-unsound, state-unsound, too-short, no-inputs, turns-told, refuses}
 use Rattle.engine.proofs.beat.beat.Statement.{statement}
 use Rattle.engine.proofs.beat.beat.Tie as tie

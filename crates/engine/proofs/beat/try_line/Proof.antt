@@ -11,12 +11,13 @@ use denote.Ref.{now}
 use mir.Syntax.{w32}
 use Rattle.values.specs.Value.{equalTo}
 use Rattle.values.proofs.Signed.{back}
-use Rattle.code.specs.Reading.{good, stop}
+use Rattle.tokens.specs.Reading.{good, stop}
 use Rattle.working.specs.Working.{isYes, conditionValue}
-use Rattle.engine.specs.Action.{World, alarmOf, fromGot}
-use Rattle.engine.specs.Turn.{worked, tries, acts, remembers}
-use Rattle.engine.specs.Held.{worldOf}
-use Rattle.engine.proofs.HeldLaws.{got-good, got-stop}
+use Rattle.actions.specs.Action.{World, alarmOf, fromGot}
+use Rattle.engine.specs.Turn.{worked}
+use Rattle.state.specs.Keyword.{tries, acts, remembers}
+use Rattle.actions.specs.Held.{worldOf}
+use Rattle.actions.proofs.HeldLaws.{got-good, got-stop}
 use Rattle.engine.proofs.TurnLaws.{room, untried, stops, tried-so}
 use Rattle.engine.proofs.beat.try_line.Statement.{statement}
 use Rattle.engine.proofs.beat.try_line.Tie as tie

@@ -8,11 +8,12 @@ use native.Mathlib.Omega.{arith}
 use lib.IntN.{ℤ}
 use lib.ListN.{getD}
 use denote.Ref.{now}
-use Rattle.code.specs.Reading.{Answer, good}
-use Rattle.engine.specs.declared.action.Done.{Done}
-use Rattle.state.specs.Set.{noLine}
+use Rattle.tokens.specs.Reading.{Answer, good}
+use Rattle.actions.specs.declared.action.Done.{Done}
+use Rattle.set.specs.Set.{noLine}
 use Rattle.engine.specs.Turn.{Entry, Turned, turnOf, turnsFrom}
-use Rattle.engine.specs.Held.{worldOf, IsTurned}
+use Rattle.actions.specs.Held.{worldOf}
+use Rattle.engine.specs.TurnHeld.{IsTurned}
 use Rattle.engine.proofs.TurnLaws.{doubled, room, word-fits, next-bit, passed, turned-good, turned-stop, all-pass, turns-none, turns-stop, turns-on}
 use Rattle.engine.proofs.beat.turns.Statement.{statement}
 use Rattle.engine.proofs.beat.turns.Tie as tie

@@ -6,7 +6,8 @@ use mathlib.Core.List.{List, _++_}
 use lib.IntN.{ℤ, pos}
 use lib.ListN.{length, replicate}
 use Rattle.engine.specs.Cells.{inputCells, beatCells}
-use Rattle.engine.proofs.CellLaws.{length-grown, length-inputs, parts}
+use Rattle.state.proofs.TimerLaws.{length-grown}
+use Rattle.engine.proofs.CellLaws.{length-inputs, parts}
 use Rattle.engine.proofs.cells.beat_cells.Statement.{statement}
 use Rattle.engine.proofs.cells.beat_cells.Tie as tie
 

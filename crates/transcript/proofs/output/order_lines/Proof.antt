@@ -4,7 +4,7 @@ use mathlib.Core.Path.{_≡_, refl, sym, ap, _∙_}
 use Prim.Native.Nat.{_+_, _-_, _*_, _≤_}
 use lib.ListN.{length}
 use denote.Ref.{now}
-use Rattle.reader.specs.Row.{putAt}
+use Rattle.draft.specs.Row.{putAt}
 use Rattle.transcript.specs.Output.{orderLines}
 use Rattle.transcript.proofs.OutLaws.{ordersLeft, all-left, none-left, one-less, rest-put, rest-behind}
 use Rattle.transcript.proofs.output.order_lines.Statement.{statement}

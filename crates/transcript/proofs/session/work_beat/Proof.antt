@@ -3,7 +3,7 @@ use borrow.Author.Needs.{needs}
 use native.Mathlib.Omega.{arith}
 use denote.Ref.{now}
 use Prim.Native.Nat.{_≤_}
-use Rattle.transcript.specs.Held.{lentIn}
+use Rattle.beat_lines.specs.Told.{lentIn}
 use Rattle.transcript.proofs.StepLaws.{fed, few-orders, beat-last, beat-more}
 use Rattle.transcript.proofs.OutLaws.{put-both}
 use Rattle.transcript.proofs.session.work_beat.Statement.{statement}

@@ -8,11 +8,11 @@ use lib.IntN.{ℤ, pos}
 use lib.ListN.{take, drop, getD}
 use mir.Syntax.{w32}
 use mir.Val.{SFits, toZ, ofZ}
-use Rattle.values.specs.Fifo.{places}
+use Rattle.buffers.specs.Fifo.{places}
 use Rattle.values.proofs.Signed.{back}
-use Rattle.code.specs.Token.{FIFO1, FIFO4}
+use Rattle.tokens.specs.Token.{FIFO1, FIFO4}
 use Rattle.working.specs.Variables.{counts, runStart, asCount, countAt, fifoValue, fifoAt}
-use Rattle.code.proofs.Between.{inside}
+use Rattle.tokens.proofs.Between.{inside}
 use Rattle.working.proofs.variables.fifo_at.Statement.{statement}
 use Rattle.working.proofs.variables.fifo_at.Tie as tie
 

@@ -10,8 +10,8 @@ use lib.ListN.{getD}
 use mir.Syntax.{w32}
 use Rattle.values.specs.declared.arithmetic.Worked.the-variants.{Value}
 use Rattle.values.proofs.Signed.{back}
-use Rattle.code.specs.Index.{isInside}
-use Rattle.code.proofs.Indices.{last-inside}
+use Rattle.tokens.specs.Index.{isInside}
+use Rattle.tokens.proofs.Indices.{last-inside}
 use Rattle.working.specs.Variables.{variableValue}
 use Rattle.working.proofs.Cells.{cell-inside}
 use Rattle.working.proofs.variables.variable_value.Statement.{statement}

@@ -7,19 +7,19 @@ use native.Mathlib.Omega.{arith}
 use lib.IntN.{ℤ}
 use mir.Syntax.{w32}
 use mir.ValLaws.{toZ-pos}
-use Rattle.code.specs.Token.{SAME, ATLEAST, PLUS, MINUS, TIMES, OVER, IN, IM, isFactor, isTerm}
-use Rattle.code.specs.Reading.{read, isRow, readClose, readProduct, readSum, readExpression, readOperand}
+use Rattle.tokens.specs.Token.{SAME, ATLEAST, PLUS, MINUS, TIMES, OVER, IN, IM, isFactor, isTerm}
+use Rattle.tokens.specs.Reading.{read, isRow, readClose, readProduct, readSum, readExpression, readOperand}
 use Rattle.working.specs.Working.{valueOver, told, heard, negated, inverted}
 use Rattle.code.proofs.Arms.{spent, number-arm, variable-arm, open-arm, minus-arm, not-arm, truth-arm}
-use Rattle.code.proofs.Between.{no-end, row-no-end}
+use Rattle.tokens.proofs.Between.{no-end, row-no-end}
 use Rattle.code.proofs.Rows.{Kept, row-stops, row-ends, row-spent, row-goes, product-begins, sum-begins, expression-stops, comparison, row-after}
 use Rattle.working.proofs.Told.{heard-told, answer, step, heard-alarm, heard-value, heard-back}
-use Rattle.code.proofs.token.is_compare.Reads as is-compare
-use Rattle.code.proofs.token.is_factor.Reads as is-factor
-use Rattle.code.proofs.token.is_row.Reads as is-row
-use Rattle.code.proofs.token.is_term.Reads as is-term
-use Rattle.code.proofs.token.is_variable.Reads as is-variable
-use Rattle.code.proofs.token.token_at.Reads as token-at
+use Rattle.tokens.proofs.token.is_compare.Reads as is-compare
+use Rattle.tokens.proofs.token.is_factor.Reads as is-factor
+use Rattle.tokens.proofs.token.is_row.Reads as is-row
+use Rattle.tokens.proofs.token.is_term.Reads as is-term
+use Rattle.tokens.proofs.token.is_variable.Reads as is-variable
+use Rattle.tokens.proofs.token.token_at.Reads as token-at
 use Rattle.working.proofs.work.again.Reads as again
 use Rattle.working.proofs.work.closed.Reads as closed
 use Rattle.working.proofs.work.expression.Reads as expression

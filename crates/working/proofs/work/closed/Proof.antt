@@ -6,7 +6,7 @@ use native.Mathlib.Omega.{arith}
 use lib.IntN.{ℤ}
 use mir.Syntax.{w32}
 use Rattle.values.proofs.Signed.{back}
-use Rattle.code.specs.Reading.{read}
+use Rattle.tokens.specs.Reading.{read}
 use Rattle.working.specs.Working.{valueOver, told}
 use Rattle.code.proofs.Arms.{closes, closes-not}
 use Rattle.working.proofs.Told.{passes, enters}

@@ -1,6 +1,6 @@
 -- `work::condition` meets its contract: it is the expression with all tokens left.
 use borrow.Author.Needs.{needs}
-use Rattle.code.specs.Reading.{expressionAt}
+use Rattle.tokens.specs.Reading.{expressionAt}
 use Rattle.working.specs.Working.{conditionValue}
 use Rattle.working.proofs.work.condition.Statement.{statement}
 use Rattle.working.proofs.work.condition.Tie as tie

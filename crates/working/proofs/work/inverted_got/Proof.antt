@@ -5,7 +5,7 @@ use mathlib.Core.Bool.{Bool, not}
 use lib.IntN.{ℤ}
 use mir.Syntax.{w32}
 use Rattle.values.proofs.Signed.{back}
-use Rattle.code.specs.Reading.{read}
+use Rattle.tokens.specs.Reading.{read}
 use Rattle.working.specs.Working.{yesNo, isYes, told}
 use Rattle.working.proofs.Told.{passes, enters}
 use Rattle.working.proofs.work.inverted_got.Statement.{statement}

@@ -6,7 +6,7 @@ use lib.IntN.{ℤ}
 use mir.Syntax.{w32}
 use Rattle.values.specs.Value.{sumOf, differenceOf, productOf, quotientOf}
 use Rattle.values.proofs.Signed.{back}
-use Rattle.code.specs.Reading.{read}
+use Rattle.tokens.specs.Reading.{read}
 use Rattle.working.specs.Working.{yesNo, joinTruths, joinValues, told}
 use Rattle.working.proofs.Told.{both, gives}
 use Rattle.working.proofs.work.join_values.Statement.{statement}

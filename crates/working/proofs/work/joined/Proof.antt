@@ -2,7 +2,7 @@
 use borrow.Author.Needs.{needs}
 use mathlib.Core.Path.{refl, _∙_}
 use lib.IntN.{ℤ}
-use Rattle.code.specs.Reading.{upTo}
+use Rattle.tokens.specs.Reading.{upTo}
 use Rattle.working.specs.Working.{joinValues, told}
 use Rattle.working.proofs.Told.{both, passes, enters}
 use Rattle.working.proofs.work.joined.Statement.{statement}

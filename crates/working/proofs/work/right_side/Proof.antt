@@ -1,6 +1,6 @@
 -- `work::right_side` meets its contract: it is the sum with all tokens left.
 use borrow.Author.Needs.{needs}
-use Rattle.code.specs.Reading.{sumAt}
+use Rattle.tokens.specs.Reading.{sumAt}
 use Rattle.working.specs.Working.{rightValue}
 use Rattle.working.proofs.work.right_side.Statement.{statement}
 use Rattle.working.proofs.work.right_side.Tie as tie

@@ -1,0 +1,44 @@
+-- `action::action` meets its contract: by the word at the place.
+use borrow.Author.Needs.{needs}
+use borrow.Author.Tests.{ne-eqb}
+use mathlib.Core.Path.{refl, sym, _∙_}
+use Prim.Native.Nat.{_<_}
+use native.Mathlib.Omega.{arith}
+use denote.Ref.{now}
+use Rattle.actions.specs.Action.{actionOf}
+use Rattle.actions.proofs.HeldLaws.{same-flags}
+use Rattle.actions.proofs.action.action.Statement.{statement}
+use Rattle.actions.proofs.action.action.Tie as tie
+
+-- a word that is no end lies in the set
+place : (c : tie.Else1) → c .before .before .before .args .p < 4130
+place c = omega (arith, c .before .token-at .ensures .1 (c .if1 .left))
+
+pub action-spec : {M : Type 1} → statement M
+unfolding actionOf
+action-spec =
+    tie.close
+    (tie.spec
+    (λ c κs. search needs)
+    (λ c κs. search needs)
+    (λ c. let t = c .before .before in (simp (actionOf, sym (t .token-at .ensures .0) ∙ c .before .if1 .taken, c .not-done .ensures) (refl, refl), same-flags 1 (c .not-done .ensures)))
+    (λ c κs. search needs)
+    (λ c κs. place (c .before .before .before .before))
+    (λ c.
+    let v = c .before .before .before in
+    let e = v .before .before in
+    (simp (actionOf, sym (e .before .token-at .ensures .0), ne-eqb _ _ (e .if1 .left), sym (v .before .is-variable .ensures) ∙ v .if2 .taken) (c .assign .ensures .0 (now (e .before .before .before .args .out))), (omega arith, c .assign .ensures .1 .1)))
+    (λ c κs. search needs)
+    (λ c κs. (place (c .before .before .before .before .before .before .before), search needs))
+    (λ c.
+    let d = c .before .before .before .before in
+    let v = d .before .before in
+    let e = v .before .before in
+    (simp (actionOf, sym (e .before .token-at .ensures .0), ne-eqb _ _ (e .if1 .left), sym (v .before .is-variable .ensures) ∙ v .if2 .left, sym (d .before .is-drive .ensures) ∙ d .if3 .taken) (c .drive .ensures .0), c .drive .ensures .1))
+    (λ c κs. (place (c .before .before .before .before .before), search needs))
+    (λ c.
+    let d = c .before .before in
+    let v = d .before .before in
+    let e = v .before .before in
+    let a = e .before .before .before .args in
+    (simp (actionOf, sym (e .before .token-at .ensures .0), ne-eqb _ _ (e .if1 .left), sym (v .before .is-variable .ensures) ∙ v .if2 .left, sym (d .before .is-drive .ensures) ∙ d .if3 .left) (c .command .ensures .0 (now (a .r)) (now (a .cells))), c .command .ensures .1)))

@@ -1,0 +1,2 @@
+-- Laws that several proofs cite: LineLaws on a beat line read byte by byte.
+pub mod LineLaws

@@ -1,0 +1,59 @@
+-- Laws of an order's bytes: what follows from the definitions of Order.
+use mathlib.Core.Path.{_≡_, refl, sym, ap, _∙_}
+use mathlib.Core.Bool.{Bool, true, false, cond}
+use mathlib.Core.List.{List, _++_}
+use Prim.Native.Nat.{ℕ, _+_, _*_, _-_, _/_, _%_, _≤_, _<_}
+use native.Mathlib.Omega.{arith}
+use lib.Dec.{ltb}
+use lib.IntN.{ℤ, pos, negsuc}
+use lib.ListN.{length, getD, take, drop, length-append, length-take, length-drop}
+use mir.Syntax.{w32}
+use mir.Val.{SFits}
+use borrow.Author.Tests.{lt-ltb, le-ltb, leb-true}
+use Rattle.buffers.specs.declared.order.Order.{Order}
+use Rattle.buffers.specs.Order.{orderSize, twosComplement, fourBytes, orderBytes, hasRoom, withOrder}
+
+-- an order is eight bytes
+pub eight-bytes : (o : Order) → length (orderBytes o) ≡ orderSize
+unfolding orderBytes fourBytes
+eight-bytes o = refl
+
+-- writing an order keeps the buffer's length
+pub order-length : (xs : List ℕ) (at : ℕ) (o : Order) → length (withOrder xs at o) ≡ length xs
+unfolding withOrder hasRoom
+order-length xs at o = by-room (hasRoom xs at) refl
+  where
+    by-room : (b : Bool) → hasRoom xs at ≡ b → length (cond b (take at xs ++ (orderBytes o ++ drop (at + orderSize) xs)) xs) ≡ length xs
+    by-room false p = refl
+    by-room true p =
+        let h : at + 8 ≤ length xs = leb-true (at + 8) (length xs) p in
+        simp (length-append, length-take, length-drop, eight-bytes) (omega arith)
+
+-- the number that 32 bits stand for in two's complement
+unfoldable pub signed : ℕ → ℤ
+signed b = cond (ltb b 2147483648) (pos b) (negsuc (4294967295 - b))
+
+-- the value that four bytes stand for, low first
+unfoldable pub valueFrom : List ℕ → ℤ
+valueFrom bs = signed (getD bs 0 0 + 256 * getD bs 1 0 + 65536 * getD bs 2 0 + 16777216 * getD bs 3 0)
+
+signed-back : {v : ℤ} → SFits w32 v → signed (twosComplement v) ≡ v
+unfolding signed twosComplement
+signed-back {v = pos n} h = rw (lt-ltb n 2147483648 (h .sfits))
+signed-back {v = negsuc n} h =
+    let l : n < 2147483648 = h .sfits in
+    let e : 4294967295 - (4294967295 - n) ≡ n = omega arith in
+    rw (le-ltb (4294967295 - n) 2147483648 (omega arith), e)
+
+four-back : (b : ℕ) → b % 256 + 256 * (b / 256 % 256) + 65536 * (b / 65536 % 256) + 16777216 * (b / 16777216) ≡ b
+four-back b = omega arith
+
+-- the four bytes determine the value
+pub value-back : {v : ℤ} → SFits w32 v → valueFrom (fourBytes (twosComplement v)) ≡ v
+unfolding valueFrom fourBytes
+value-back {v} h = ap signed (four-back (twosComplement v)) ∙ signed-back h
+
+-- orders with the same bytes have the same value
+pub same-value : (o p : Order) → SFits w32 (o .value) → SFits w32 (p .value) → orderBytes o ≡ orderBytes p → o .value ≡ p .value
+unfolding orderBytes
+same-value o p ho hp e = sym (value-back ho) ∙ ap (λ (bs : List ℕ). valueFrom (drop 4 bs)) e ∙ value-back hp

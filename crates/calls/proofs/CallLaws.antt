@@ -1,0 +1,159 @@
+-- Laws of the host's calls: the line that a call names, what a call answers, and the turns of reset's two loops.
+use mathlib.Core.Path.{_≡_, refl, sym, ap, _∙_}
+use mathlib.Core.Bool.{Bool, true, false, _||_}
+use mathlib.Core.List.{List, _++_, append-assoc}
+use Prim.Native.Nat.{ℕ, zero, suc, _+_, _-_, _<_, _≤_}
+use native.Mathlib.Omega.{arith}
+use native.Mathlib.Numerals.{add-one}
+use lib.Dec.{ltb}
+use lib.IntN.{ℤ, pos}
+use lib.ListN.{length, take, drop, getD, set, replicate, length-append, length-replicate, take-append-drop}
+use lib.Seq.{length-take-le, set-getD, getD-set-other}
+use borrow.Author.Tests.{ltb-true, ltb-false, lt-ltb, le-ltb, eq-eqb, ne-eqb}
+use Rattle.buffers.proofs.Lists.{put, replicate-more}
+use Rattle.code.specs.declared.check.Line.{Line}
+use Rattle.set.specs.declared.set.Lines.{Lines}
+use Rattle.state.specs.declared.state.State.{State}
+use Rattle.calls.specs.declared.host.Called.{Called}
+use Rattle.calls.specs.declared.host.Found.{Found}
+use Rattle.set.specs.Set.{noLine, rankIn, soundLines}
+use Rattle.state.specs.Sound.{isSound}
+use Rattle.calls.specs.Calls.{foundAt, found, called, resetCancelled, zeroed, resetState, resetCall}
+use Rattle.set.proofs.SetLaws.{sound-count}
+
+-- ---- the line that a call names
+
+abbrev refused : ℕ → Found
+refused k = record { code = k; rank = 0 }
+
+module _ (count : ℕ) (cancelled : List Bool) (k : ℕ) where
+  at-none : count ≤ k → foundAt count cancelled k ≡ refused 40
+  unfolding foundAt
+  at-none h = rw (foundAt, le-ltb k count h)
+
+  at-cancelled : k < count → getD cancelled k false ≡ true → foundAt count cancelled k ≡ refused 40
+  unfolding foundAt
+  at-cancelled h z = simp (foundAt, lt-ltb k count h, z)
+
+  at-rank : k < count → getD cancelled k false ≡ false → foundAt count cancelled k ≡ record { code = 0; rank = k }
+  unfolding foundAt
+  at-rank h z = simp (foundAt, lt-ltb k count h, z)
+
+module _ (s : List ℕ) (st : State) (n : ℕ) where
+  pub found-unsound : isSound s st ≡ false → found s st n ≡ refused 22
+  unfolding found
+  found-unsound z = rw (found, z)
+
+  -- the lines of the set are l, and the number's rank is k
+  module _ (z : isSound s st ≡ true) (l : Lines) (e : l ≡ soundLines s) (k : ℕ) (g : k ≡ rankIn (l .numbers) n 0) where
+    at : found s st n ≡ foundAt (l .count) (st .cancelled) k
+    unfolding found
+    at = rw (e, g ∙ ap (λ (y : Lines). rankIn (y .numbers) n 0) e) (rw (found, z))
+
+    pub found-none : l .count ≤ k → found s st n ≡ refused 40
+    found-none h = at ∙ at-none (l .count) (st .cancelled) k h
+
+    pub found-cancelled : k < l .count → getD (st .cancelled) k false ≡ true → found s st n ≡ refused 40
+    found-cancelled h c = at ∙ at-cancelled (l .count) (st .cancelled) k h c
+
+    pub found-rank : k < l .count → getD (st .cancelled) k false ≡ false → found s st n ≡ record { code = 0; rank = k }
+    found-rank h c = at ∙ at-rank (l .count) (st .cancelled) k h c
+
+-- a rank that was found is below 32
+at-below : (count : ℕ) (cancelled : List Bool) (k : ℕ) → count ≤ 32 → foundAt count cancelled k .rank < 32
+at-below count cancelled k h = go (ltb k count) (getD cancelled k false) refl refl
+  where
+    go : (b d : Bool) → ltb k count ≡ b → getD cancelled k false ≡ d → foundAt count cancelled k .rank < 32
+    go true true e f = rw (at-cancelled count cancelled k (ltb-true k count e) f) (omega arith)
+    go true false e f = let l = ltb-true k count e in rw (at-rank count cancelled k l f) (omega arith)
+    go false d e f = rw (at-none count cancelled k (ltb-false k count e)) (omega arith)
+
+pub found-below : (s : List ℕ) (st : State) (n : ℕ) → found s st n .rank < 32
+unfolding found
+found-below s st n = go (isSound s st) refl
+  where
+    go : (b : Bool) → isSound s st ≡ b → found s st n .rank < 32
+    go true z = rw (found, z) (at-below (soundLines s .count) (st .cancelled) (rankIn (soundLines s .numbers) n 0) (sound-count s))
+    go false z = rw (found, z) (omega arith)
+
+-- ---- what a call answers
+
+module _ (st : State) (f : Found) (change : ℕ → State) where
+  refuses : (f .code ≡ 0 → ⊥) → called st f change ≡ record { code = f .code; state = st }
+  unfolding called
+  refuses z = simp (called, ne-eqb (f .code) 0 z)
+
+  does : f .code ≡ 0 → called st f change ≡ record { code = 0; state = change (f .rank) }
+  unfolding called
+  does z = simp (called, eq-eqb (f .code) 0 z)
+
+module _ (st : State) (f g : Found) (e : f ≡ g) (change : ℕ → State) where
+  pub called-refused : (f .code ≡ 0 → ⊥) → _≡_ {A = Called} (record { code = f .code; state = st }) (called st g change)
+  called-refused z = sym (refuses st f change z) ∙ ap (λ (x : Found). called st x change) e
+
+  pub called-done : f .code ≡ 0 → _≡_ {A = Called} (record { code = 0; state = change (f .rank) }) (called st g change)
+  called-done z = sym (does st f change z) ∙ ap (λ (x : Found). called st x change) e
+
+-- ---- reset
+
+-- what reset has not come to is as it was
+reset-keeps : (ls : List Line) (cs : List Bool) (n m : ℕ) → n ≤ m → getD (resetCancelled ls cs n) m false ≡ getD cs m false
+unfolding resetCancelled
+reset-keeps ls cs zero m h = refl
+reset-keeps ls cs (suc n) m h = getD-set-other (resetCancelled ls cs n) n m _ false (λ z. omega arith) ∙ reset-keeps ls cs n m (omega arith)
+
+or-true : (b : Bool) → (b || true) ≡ true
+or-true true = refl
+or-true false = refl
+
+or-false : (b : Bool) → (b || false) ≡ b
+or-false true = refl
+or-false false = refl
+
+module _ (ls : List Line) (cs : List Bool) where
+  pub reset-none : cs ≡ resetCancelled ls cs 0
+  unfolding resetCancelled
+  reset-none = refl
+
+  module _ (k : ℕ) (x : List Bool) (e : x ≡ resetCancelled ls cs k) where
+    pub reset-id : getD ls k noLine .ids ≡ false → set x k true ≡ resetCancelled ls cs (k + 1)
+    unfolding resetCancelled
+    reset-id z = rw (e, add-one k, z, or-true)
+
+    pub reset-ids : getD ls k noLine .ids ≡ true → x ≡ resetCancelled ls cs (k + 1)
+    unfolding resetCancelled
+    reset-ids z =
+        let h : getD cs k false ≡ getD (resetCancelled ls cs k) k false = sym (reset-keeps ls cs k k (omega arith)) in
+        rw (e, add-one k, z, or-false, h, set-getD)
+
+-- cells from 16 on, zero up to place i
+module _ (c : List ℤ) where
+  unfoldable pub zeroTo : ℕ → List ℤ
+  zeroTo i = take 16 c ++ (replicate (i - 16) (pos 0) ++ drop i c)
+
+  pub zero-none : c ≡ zeroTo 16
+  unfolding zeroTo
+  zero-none = sym (take-append-drop 16 c)
+
+  pub zero-all : zeroTo 88 ≡ zeroed c
+  unfolding zeroTo zeroed
+  zero-all = refl
+
+  pub zero-turn : (i : ℕ) (x : List ℤ) → x ≡ zeroTo i → 16 ≤ i → i < length c → set x i (pos 0) ≡ zeroTo (i + 1)
+  unfolding zeroTo
+  zero-turn i x e h l =
+      let p = take 16 c ++ replicate (i - 16) (pos 0) in
+      let n : length p ≡ i = simp (length-append, length-replicate, length-take-le 16 c (omega arith)) (omega arith) in
+      let m : i + 1 - 16 ≡ i - 16 + 1 = omega arith in
+      rw (e, ← append-assoc) (put p i n c l (pos 0) (pos 0) ∙ rw (append-assoc, replicate-more, m))
+
+module _ (s : List ℕ) (st : State) where
+  pub reset-unsound : isSound s st ≡ false → resetCall s st ≡ record { code = 22; state = st }
+  unfolding resetCall
+  reset-unsound z = rw (resetCall, z)
+
+  -- the lines of the set are l, the cells cs and the cancelled lines xs
+  pub reset-sound : isSound s st ≡ true → (l : Lines) → l ≡ soundLines s → (cs : List ℤ) → cs ≡ zeroed (st .cells) → (xs : List Bool) → xs ≡ resetCancelled (l .items) (st .cancelled) (l .count)
+      → resetCall s st ≡ record { code = 0; state = record { r = st .r; cells = cs; runs = replicate 8 false; locked = replicate 32 false; cancelled = xs; memory = replicate 32 false } }
+  unfolding resetCall resetState
+  reset-sound z l e cs g xs h = rw (h, g, e) (rw (resetCall, z))

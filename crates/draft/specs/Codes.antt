@@ -1,0 +1,20 @@
+-- The codes 1, 2, 3, 11 and 12 of a text, and how many bytes it may have (document 01, "Codes"). Definitions only.
+use Prim.Native.Nat.{ℕ}
+
+abbrev pub textSize : ℕ
+textSize = 4096
+
+abbrev pub tooLong : ℕ
+tooLong = 1
+
+abbrev pub tooManyLines : ℕ
+tooManyLines = 2
+
+abbrev pub noToken : ℕ
+noToken = 3
+
+abbrev pub usedAbove : ℕ
+usedAbove = 11
+
+abbrev pub notInSet : ℕ
+notInSet = 12

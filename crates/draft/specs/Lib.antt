@@ -1,0 +1,4 @@
+-- Row and Codes say what is taken of a text, in document 01's words; Draft is how the code works, line by line in one array. Definitions only.
+pub mod Row
+pub mod Codes
+pub mod Draft

@@ -1,0 +1,158 @@
+// A short host: it loads a set, works ten beats with a lock, an unlock and a reset in between, and writes what each call answered. A real host reads its inputs from
+// the terminals and hands the orders to the drives; this one has its inputs in `inputs_at` and writes the orders down. docs/HOST.md goes through it.
+use calls::host::Called;
+use calls::host::lock;
+use calls::host::reset;
+use calls::host::unlock;
+use engine::beat::Beaten;
+use engine::beat::beat;
+use libc::STDOUT_FILENO;
+use reader::load::load;
+use set::set::empty_set;
+use state::state::State;
+use tokens::token::SIZE;
+
+const BEATS: u32 = 10;
+// The order buffer: room for every order that a beat can give.
+const ORDERS: usize = 2048;
+
+fn main() {
+    // R[100] may not be written: code 8, line 1.
+    serve(b"ID=10 DO $R[100]=1\n");
+    // Line 10 counts pulses, line 20 moves X at the second, line 30 divides by analogue 1.
+    serve(
+        b"ID=10 EVERY $A_IN[1]==1 DO $AC_MARKER[0]=$AC_MARKER[0]+1 M=7\n\
+        IDS=20 EVERY $AC_MARKER[0]>=2 DO POS[X]=-12.5\n\
+        IDS=30 WHENEVER $A_IN[2]==1 DO $AC_PARAM[0]=60/$A_INA[1]\n",
+    );
+}
+
+// A set text has come. If it is refused, code and line are shown and nothing is worked.
+fn serve(text: &[u8]) {
+    let mut set = empty_set();
+    let l = load(text, &mut set);
+    let code = l.code;
+    tell(b"load: code ", code as u64);
+    tell(b", line ", l.line as u64);
+    end_line();
+    if code != 0 {
+        return;
+    }
+    let state = l.state;
+    work(&set, state);
+}
+
+// Every 4 ms: what the operator asks for, then a beat. With any code the state of the answer is the one to keep.
+fn work(set: &[u32; SIZE], first: State) {
+    let mut state = first;
+    let mut k: u32 = 1;
+    while k <= BEATS {
+        state = asked_at(k, set, state);
+        let b = one_beat(k, set, state);
+        let next = b.state;
+        state = next;
+        if stops_on(b.code) {
+            return;
+        }
+        k += 1;
+    }
+}
+
+// What the operator asks for before beat k.
+fn asked_at(k: u32, set: &[u32; SIZE], state: State) -> State {
+    match k {
+        2 => called(b"lock 10: code ", lock(set, state, 10)),
+        4 => called(b"unlock 10: code ", unlock(set, state, 10)),
+        9 => called(b"reset: code ", reset(set, state)),
+        10 => called(b"lock 10: code ", lock(set, state, 10)),
+        _ => state,
+    }
+}
+
+fn called(text: &[u8], c: Called) -> State {
+    tell(text, c.code as u64);
+    end_line();
+    let state = c.state;
+    state
+}
+
+// Beat k, in AUTOMATIC and with 14 numbers that are all 0. Its orders are carried out.
+fn one_beat(k: u32, set: &[u32; SIZE], state: State) -> Beaten {
+    let numbers = [0i32; 14];
+    let mut orders = [0u8; ORDERS];
+    let b = beat(set, state, true, inputs_at(k), &numbers, &mut orders);
+    tell(b"beat ", k as u64);
+    tell(b": code ", b.code as u64);
+    tell(b", orders ", b.orders as u64);
+    tell(b", acted ", b.acted as u64);
+    end_line();
+    carry_out_all(&orders, b.orders);
+    b
+}
+
+// The input word. Input 1 is the wheel: one pulse in beats 1 to 4, the next from 6 on. Input 2 is high in beat 7.
+fn inputs_at(k: u32) -> u16 {
+    match k {
+        5 => 0,
+        7 => 3,
+        _ => 1,
+    }
+}
+
+// 20, a fault of the host, and 22, damaged memory, stop it. On 21 nothing was worked, and an alarm, 30 to 34, has undone its beat: the next one goes on.
+fn stops_on(code: u8) -> bool {
+    match code {
+        20 | 22 => true,
+        _ => false,
+    }
+}
+
+// ---- orders
+
+// The first n orders of the buffer.
+fn carry_out_all(orders: &[u8; ORDERS], n: u32) {
+    let mut i: u32 = 0;
+    while i < n {
+        carry_out(orders, i);
+        i += 1;
+    }
+}
+
+fn carry_out(orders: &[u8; ORDERS], i: u32) {
+    tell(b"  order of line ", byte_of(orders, i, 1) as u64);
+    tell(b": kind ", byte_of(orders, i, 0) as u64);
+    tell(b", target ", byte_of(orders, i, 2) as u64);
+    tell_value(orders, i);
+    end_line();
+}
+
+// The value, low byte first; from 2^31 on it is negative.
+fn tell_value(orders: &[u8; ORDERS], i: u32) {
+    let low = byte_of(orders, i, 4) as u64 + 256 * byte_of(orders, i, 5) as u64;
+    let high = byte_of(orders, i, 6) as u64 + 256 * byte_of(orders, i, 7) as u64;
+    let value = low + 65536 * high;
+    if value < 2147483648 {
+        tell(b", value ", value);
+    } else {
+        tell(b", value -", 4294967296 - value);
+    }
+}
+
+// Byte j of order i, of the eight that it has.
+fn byte_of(orders: &[u8; ORDERS], i: u32, j: u8) -> u8 {
+    let all = &orders[..];
+    let at = i as usize * 8 + j as usize;
+    if at < all.len() { all[at] } else { 0 }
+}
+
+// ---- writing
+
+// A text, and a number behind it.
+fn tell(text: &[u8], n: u64) {
+    io::write_all(STDOUT_FILENO, text);
+    io::print_decimal(STDOUT_FILENO, n);
+}
+
+fn end_line() {
+    io::write_all(STDOUT_FILENO, b"\n");
+}

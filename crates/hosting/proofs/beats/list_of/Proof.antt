@@ -1,0 +1,29 @@
+-- `beats::list_of` ends: a place less is left at each turn.
+use borrow.Author.Needs.{needs}
+use Prim.Native.Nat.{_-_}
+use Rattle.hosting.proofs.beats.list_of.Statement.{statement}
+use Rattle.hosting.proofs.beats.list_of.Tie as tie
+
+abbrev Inv-loop : tie.InvT-loop
+Inv-loop line given numbers₀ k₀ numbers k = Unit {0}
+
+abbrev μ-loop : tie.MeasureT-loop
+μ-loop line given numbers₀ k₀ numbers k = 32 - k
+
+pub list-of-spec : {M : Type 1} → statement M
+list-of-spec =
+    tie.close
+    (tie.spec
+    Inv-loop
+    μ-loop
+    (λ c. search needs)
+    (λ c. search needs)
+    (λ c. search needs)
+    (λ c κs. search needs)
+    (λ c κs. search needs)
+    (λ c. search needs)
+    (λ c κs. search needs)
+    (λ c. search needs)
+    (λ c. search needs)
+    (λ c. search needs)
+    (λ c. search needs))
