@@ -2,7 +2,7 @@
 
 use crate::beat::Beat;
 use crate::code::Code;
-use crate::token::{Comparison, Joint};
+use crate::token::Joint;
 use crate::tree::Expression;
 use crate::value::Value;
 
@@ -15,7 +15,7 @@ impl Beat<'_> {
             Expression::Compared(left, comparison, right) => {
                 let left = self.number(left)?;
                 let right = self.number(right)?;
-                Ok(compare(*comparison, left, right))
+                Ok(comparison.holds(left, right))
             }
             Expression::Joined(joint, members) => {
                 let mut truths = Vec::with_capacity(members.len());
@@ -43,17 +43,6 @@ impl Beat<'_> {
             }
             _ => unreachable!("yes/no where the checks found a number"),
         }
-    }
-}
-
-fn compare(comparison: Comparison, left: Value, right: Value) -> bool {
-    match comparison {
-        Comparison::Equal => left == right,
-        Comparison::Unequal => left != right,
-        Comparison::Less => left < right,
-        Comparison::Greater => left > right,
-        Comparison::AtMost => left <= right,
-        Comparison::AtLeast => left >= right,
     }
 }
 

@@ -55,6 +55,20 @@ pub enum Comparison {
     AtLeast,
 }
 
+impl Comparison {
+    #[inline]
+    pub fn holds(self, left: Value, right: Value) -> bool {
+        match self {
+            Comparison::Equal => left == right,
+            Comparison::Unequal => left != right,
+            Comparison::Less => left < right,
+            Comparison::Greater => left > right,
+            Comparison::AtMost => left <= right,
+            Comparison::AtLeast => left >= right,
+        }
+    }
+}
+
 /// A number as written. `fits` says that its digits and size are allowed; if not, `value` says nothing.
 #[derive(Clone, Copy, PartialEq, Eq, Debug)]
 pub struct Number {

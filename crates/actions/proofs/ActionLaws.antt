@@ -1,6 +1,6 @@
 -- Laws of the actions: what a change of a FIFO comes to, what a byte can hold, the bytes of one order more, and actions in a row.
 use mathlib.Core.Path.{_≡_, refl, ap, _∙_}
-use mathlib.Core.Bool.{Bool, true, false, _&&_}
+use mathlib.Core.Bool.{Bool, true, false}
 use mathlib.Core.List.{List, _++_, append-assoc}
 use Prim.Native.Nat.{ℕ, zero, suc, _+_, _*_, _-_, _<_, _≤_}
 use native.Mathlib.Omega.{arith}
@@ -12,8 +12,11 @@ use lib.Signed.{ltZ, nonNeg}
 use mir.Syntax.{w8}
 use mir.Val.{Fits}
 use borrow.Author.Tests.{ltb-false, lt-ltb, le-ltb, le-leb, ne-eqb}
+use Rattle.values.specs.Numbers.{clash}
+use Rattle.values.specs.Choice.{both}
 use Rattle.buffers.specs.Fifo.{unsound}
-use Rattle.buffers.specs.Order.{orderBytes, fourBytes, hasRoom, withOrder}
+use Rattle.buffers.specs.Order.{orderBytes, hasRoom, withOrder}
+use Rattle.buffers.specs.OrderLaws.{eight-bytes}
 use Rattle.buffers.specs.declared.order.Order.{Order}
 use Rattle.tokens.specs.Token.{END, isFifo}
 use Rattle.tokens.specs.Reading.{Answer, good, stop, _>>=_}
@@ -25,28 +28,19 @@ use Rattle.actions.specs.Held.{IsDone}
 -- a number that is not below 1 and not above 255 is a byte
 pub byte : (z : ℤ) → ltZ z (pos 1) ≡ false → ltZ (pos 255) z ≡ false → T (nonNeg z) × Fits w8 (natAbs z)
 byte (pos n) h k = (tt, omega (arith, ltb-false 255 n k))
-byte (negsuc n) h k = absurd (let q : _≡_ {A = ℕ} 0 1 = cc in omega arith)
-
--- the first of two tests that both hold
-pub first-true : (a b : Bool) → a && b ≡ true → a ≡ true
-first-true true b h = refl
-first-true false b h = h
+byte (negsuc n) h k = clash (cc)
 
 -- what is removed stands in a FIFO
 pub removal-fifo : (s : List ℕ) (p : ℕ) → isRemoval s p ≡ true → isFifo (getD s p 0) ≡ true
 unfolding isRemoval
-removal-fifo s p h = first-true (isFifo (getD s p 0)) _ h
-
-order-length : (o : Order) → length (orderBytes o) ≡ 8
-unfolding orderBytes fourBytes
-order-length o = refl
+removal-fifo s p h = both (isFifo (getD s p 0)) _ h .0
 
 -- the orders are eight bytes more
 pub one-more : (out : List ℕ) (n : ℕ) (o : Order) → 8 * n + 8 ≤ length out → take (8 * (n + 1)) (withOrder out (n * 8) o) ≡ take (8 * n) out ++ orderBytes o
 unfolding withOrder hasRoom
 one-more out n o h =
     let m : n * 8 ≡ 8 * n = omega arith in
-    let l : length (take (8 * n) out ++ orderBytes o) ≡ 8 * (n + 1) = rw (length-append, length-take-le (8 * n) out (omega arith), order-length o) (omega arith) in
+    let l : length (take (8 * n) out ++ orderBytes o) ≡ 8 * (n + 1) = rw (length-append, length-take-le (8 * n) out (omega arith), eight-bytes o) (omega arith) in
     rw (m, le-leb (8 * n + 8) (length out) h, ← append-assoc, take-at (take (8 * n) out ++ orderBytes o) (drop (8 * n + 8) out) (8 * (n + 1)) l)
 
 -- ---- room for orders
@@ -71,8 +65,8 @@ pub all-come : (x : Done) (r c : List ℤ) (out : List ℕ) (y z : Answer Did) �
 all-come x r c out (good d) (good e) q h =
     let w : _≡_ {A = World × ℕ} (d .world, d .next) (e .world, e .next) = cc in
     (h .0, (h .1 .0 ∙ ap (λ (z : World × ℕ). z .1) w, h .1 .1 ∙ ap (λ (z : World × ℕ). z .0) w))
-all-come x r c out (good d) (stop k) q h = absurd (let z : _≡_ {A = ℕ} 0 1 = cc in omega arith)
-all-come x r c out (stop k) (good e) q h = absurd (let z : _≡_ {A = ℕ} 0 1 = cc in omega arith)
+all-come x r c out (good d) (stop k) q h = clash (cc)
+all-come x r c out (stop k) (good e) q h = clash (cc)
 all-come x r c out (stop k) (stop l) q h = (h .0, h .1 ∙ (cc))
 
 module _ (s numbers : List ℕ) (cancelled : List Bool) (number : ℕ) where

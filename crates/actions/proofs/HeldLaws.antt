@@ -14,7 +14,7 @@ use Rattle.writing.specs.Write.{Vars}
 use Rattle.actions.specs.Action.{World, Taken, Did, Note, alarmOf, fromGot}
 use Rattle.writing.specs.WriteHeld.{varsOf}
 use Rattle.actions.specs.Held.{worldOf, IsWorked, IsTaken, IsDone, Within}
-use Rattle.writing.proofs.WriteHeldLaws.{clash}
+use Rattle.writing.proofs.WriteHeldLaws.{contrary}
 
 module _ (g : Got) where
   pub got-good : g .good ≡ true → fromGot g ≡ good (g .value, g .next)
@@ -26,28 +26,28 @@ module _ (g : Got) where
 module _ (x : Took) where
   pub worked-good : (y : Answer (ℤ × ℕ)) → IsWorked x y → x .good ≡ true → y ≡ good (x .value, x .next)
   worked-good (good a) h e = rw (h .1 .0, h .1 .1)
-  worked-good (stop k) h e = clash e (h .0)
+  worked-good (stop k) h e = contrary e (h .0)
 
   pub worked-stop : (y : Answer (ℤ × ℕ)) → IsWorked x y → x .good ≡ false → y ≡ stop (x .alarm)
-  worked-stop (good a) h e = clash (h .0) e
+  worked-stop (good a) h e = contrary (h .0) e
   worked-stop (stop k) h e = cc
 
 module _ (x : Took) (r c : List ℤ) (runs : List Bool) where
   pub taken-good : (y : Answer Taken) → IsTaken x r c runs y → x .good ≡ true → y ≡ good (record { value = x .value; vars = varsOf r c runs; next = x .next })
   taken-good (good a) h e = rw (h .1 .0, h .1 .1 .0) (ap (λ (v : Vars). good (record { value = a .value; vars = v; next = a .next })) (sym (h .1 .1 .1)))
-  taken-good (stop k) h e = clash e (h .0)
+  taken-good (stop k) h e = contrary e (h .0)
 
   pub taken-stop : (y : Answer Taken) → IsTaken x r c runs y → x .good ≡ false → y ≡ stop (x .alarm)
-  taken-stop (good a) h e = clash (h .0) e
+  taken-stop (good a) h e = contrary (h .0) e
   taken-stop (stop k) h e = cc
 
 module _ (x : Done) (r c : List ℤ) (out : List ℕ) where
   pub done-good : (y : Answer Did) → IsDone x r c out y → x .good ≡ true → (ns : List Note) × (y ≡ good (record { world = worldOf r c out (x .flags); next = x .next; notes = ns }))
   done-good (good a) h e = (a .notes, rw (h .1 .0) (ap (λ (w : World). good (record { world = w; next = a .next; notes = a .notes })) (sym (h .1 .1))))
-  done-good (stop k) h e = clash e (h .0)
+  done-good (stop k) h e = contrary e (h .0)
 
   pub done-stop : (y : Answer Did) → IsDone x r c out y → x .good ≡ false → y ≡ stop (x .alarm)
-  done-stop (good a) h e = clash (h .0) e
+  done-stop (good a) h e = contrary (h .0) e
   done-stop (stop k) h e = cc
 
 -- what a right side gave is taken, and changes nothing

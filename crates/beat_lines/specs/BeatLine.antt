@@ -7,6 +7,7 @@ use lib.Dec.{eqb, leb}
 use lib.IntN.{ℤ, pos, negsuc}
 use lib.ListN.{length, take, replicate}
 use Rattle.text.specs.Byte.{bytes, SPACE, isDigit}
+use Rattle.text.specs.Lines.{split}
 use Rattle.words.specs.Word.{sameBytes}
 use Rattle.text.specs.Number.{digitsValue}
 
@@ -16,15 +17,9 @@ pub record Lent : Type 0 where
   pub word : ℕ
   pub numbers : List ℤ
 
--- a byte before the first of some fields
-abbrev pub startOf : ℕ → List (List ℕ) → List (List ℕ)
-startOf b [] = (b ∷ []) ∷ []
-startOf b (f ∷ fs) = (b ∷ f) ∷ fs
-
 -- the fields of a line: a space ends one and begins the next
-unfoldable pub fields : List ℕ → List (List ℕ)
-fields [] = [] ∷ []
-fields (b ∷ bs) = elim (eqb b SPACE) [ true ↦ [] ∷ fields bs | false ↦ startOf b (fields bs) ]
+abbrev pub fields : List ℕ → List (List ℕ)
+fields l = split SPACE l
 
 -- A (AUTOMATIC) or M
 unfoldable pub modeOf : List ℕ → Option Bool

@@ -143,21 +143,26 @@ module _ (xs : List ℤ) (n : ℕ) (l : 0 < n) (h : n ≤ length xs) where
       by-place (no m) (yes e) = rw (e, shifted-last) z
       by-place (no m) (no e) = rw (shifted-behind i (omega (arith, m, e))) (p i)
 
-set-each : (P : ℤ → Type 0) (xs : List ℤ) (n : ℕ) (v : ℤ) → P v → ((i : ℕ) → P (getD xs i (pos 0))) → (i : ℕ) → P (getD (set xs n v) i (pos 0))
-set-each P xs n v e p i = by-place (ℕ-discrete i n) (decLt n (length xs))
+-- what holds of a value and of every place holds after the value is set
+pub set-each : {A : Type 0} (P : ℕ → A → Type 0) (xs : List A) (n : ℕ) (v d : A) → P n v → ((i : ℕ) → P i (getD xs i d)) → (i : ℕ) → P i (getD (set xs n v) i d)
+set-each P xs n v d e p i = by-place (ℕ-discrete i n) (decLt n (length xs))
   where
-    by-place : Dec (i ≡ n) → Dec (n < length xs) → P (getD (set xs n v) i (pos 0))
-    by-place (yes q) (yes l) = rw (q, getD-set-same xs n v (pos 0) l) e
+    by-place : Dec (i ≡ n) → Dec (n < length xs) → P i (getD (set xs n v) i d)
+    by-place (yes q) (yes l) = rw (q, getD-set-same xs n v d l) e
     by-place (yes q) (no l) = rw (set-out xs n v (omega (arith, l))) (p i)
-    by-place (no q) d = rw (getD-set-other xs n i v (pos 0) q) (p i)
+    by-place (no q) m = rw (getD-set-other xs n i v d q) (p i)
+
+-- every place of a list of one value holds it, where that is the default too
+pub same-each : {A : Type 0} (n i : ℕ) (v : A) → getD (replicate n v) i v ≡ v
+same-each n i v = by-place (decLt i n)
+  where
+    by-place : Dec (i < n) → getD (replicate n v) i v ≡ v
+    by-place (yes l) = getD-replicate n i v v l
+    by-place (no l) = List·getD-eq-default (replicate n v) v {n = i} (rw length-replicate (omega (arith, l)))
 
 cleared-place : (xs : List ℤ) (i : ℕ) → getD (cleared xs) i (pos 0) ≡ pos 0
 unfolding cleared
-cleared-place xs i = by-place (decLt i (length xs))
-  where
-    by-place : Dec (i < length xs) → getD (replicate (length xs) (pos 0)) i (pos 0) ≡ pos 0
-    by-place (yes l) = getD-replicate (length xs) i (pos 0) (pos 0) l
-    by-place (no l) = List·getD-eq-default (replicate (length xs) (pos 0)) (pos 0) {n = i} (rw length-replicate (omega (arith, l)))
+cleared-place xs i = same-each (length xs) i (pos 0)
 
 -- ---- unused places stay 0
 
@@ -183,15 +188,16 @@ empty-unused xs n v u = empty-cases Unused xs n u v (λ i m. cleared-place xs i)
 abbrev pub PlacesRanged : List ℤ → Type 0
 PlacesRanged xs = (i : ℕ) → inRange (getD xs i (pos 0)) ≡ true
 
-abbrev InRange : ℤ → Type 0
+abbrev pub InRange : ℤ → Type 0
 InRange z = inRange z ≡ true
 
-zero-in-range : inRange (pos 0) ≡ true
+-- 0 is in range
+pub zero-in-range : inRange (pos 0) ≡ true
 zero-in-range = abs-range (pos 0) (omega arith)
 
 -- after an append of a value in range
 pub append-ranged : (xs : List ℤ) (n : ℕ) (v : ℤ) → PlacesRanged xs → inRange v ≡ true → PlacesRanged (appended xs n v)
-append-ranged xs n v r e = append-cases (λ ys k. PlacesRanged ys) xs n r v (λ p h. set-each InRange xs n v e r)
+append-ranged xs n v r e = append-cases (λ ys k. PlacesRanged ys) xs n r v (λ p h. set-each (λ _. InRange) xs n v (pos 0) e r)
 
 -- after a removal
 pub remove-ranged : (xs : List ℤ) (n : ℕ) → PlacesRanged xs → PlacesRanged (removed xs n)

@@ -1,33 +1,22 @@
 -- Laws of an order's bytes: what follows from the definitions of Order.
 use mathlib.Core.Path.{_≡_, refl, sym, ap, _∙_}
-use mathlib.Core.Bool.{Bool, true, false, cond}
-use mathlib.Core.List.{List, _++_}
-use Prim.Native.Nat.{ℕ, _+_, _*_, _-_, _/_, _%_, _≤_, _<_}
+use mathlib.Core.Bool.{cond}
+use mathlib.Core.List.{List}
+use Prim.Native.Nat.{ℕ, _+_, _*_, _-_, _/_, _%_, _<_}
 use native.Mathlib.Omega.{arith}
 use lib.Dec.{ltb}
 use lib.IntN.{ℤ, pos, negsuc}
-use lib.ListN.{length, getD, take, drop, length-append, length-take, length-drop}
+use lib.ListN.{length, getD, drop}
 use mir.Syntax.{w32}
 use mir.Val.{SFits}
-use borrow.Author.Tests.{lt-ltb, le-ltb, leb-true}
+use borrow.Author.Tests.{lt-ltb, le-ltb}
 use Rattle.buffers.specs.declared.order.Order.{Order}
-use Rattle.buffers.specs.Order.{orderSize, twosComplement, fourBytes, orderBytes, hasRoom, withOrder}
+use Rattle.buffers.specs.Order.{orderSize, twosComplement, fourBytes, orderBytes}
 
 -- an order is eight bytes
 pub eight-bytes : (o : Order) → length (orderBytes o) ≡ orderSize
 unfolding orderBytes fourBytes
 eight-bytes o = refl
-
--- writing an order keeps the buffer's length
-pub order-length : (xs : List ℕ) (at : ℕ) (o : Order) → length (withOrder xs at o) ≡ length xs
-unfolding withOrder hasRoom
-order-length xs at o = by-room (hasRoom xs at) refl
-  where
-    by-room : (b : Bool) → hasRoom xs at ≡ b → length (cond b (take at xs ++ (orderBytes o ++ drop (at + orderSize) xs)) xs) ≡ length xs
-    by-room false p = refl
-    by-room true p =
-        let h : at + 8 ≤ length xs = leb-true (at + 8) (length xs) p in
-        simp (length-append, length-take, length-drop, eight-bytes) (omega arith)
 
 -- the number that 32 bits stand for in two's complement
 unfoldable pub signed : ℕ → ℤ

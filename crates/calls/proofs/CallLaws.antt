@@ -1,6 +1,6 @@
 -- Laws of the host's calls: the line that a call names, what a call answers, and the turns of reset's two loops.
 use mathlib.Core.Path.{_≡_, refl, sym, ap, _∙_}
-use mathlib.Core.Bool.{Bool, true, false, _||_}
+use mathlib.Core.Bool.{Bool, true, false, or-true, or-false}
 use mathlib.Core.List.{List, _++_, append-assoc}
 use Prim.Native.Nat.{ℕ, zero, suc, _+_, _-_, _<_, _≤_}
 use native.Mathlib.Omega.{arith}
@@ -97,18 +97,10 @@ module _ (st : State) (f g : Found) (e : f ≡ g) (change : ℕ → State) where
 -- ---- reset
 
 -- what reset has not come to is as it was
-reset-keeps : (ls : List Line) (cs : List Bool) (n m : ℕ) → n ≤ m → getD (resetCancelled ls cs n) m false ≡ getD cs m false
+pub reset-keeps : (ls : List Line) (cs : List Bool) (n m : ℕ) → n ≤ m → getD (resetCancelled ls cs n) m false ≡ getD cs m false
 unfolding resetCancelled
 reset-keeps ls cs zero m h = refl
 reset-keeps ls cs (suc n) m h = getD-set-other (resetCancelled ls cs n) n m _ false (λ z. omega arith) ∙ reset-keeps ls cs n m (omega arith)
-
-or-true : (b : Bool) → (b || true) ≡ true
-or-true true = refl
-or-true false = refl
-
-or-false : (b : Bool) → (b || false) ≡ b
-or-false true = refl
-or-false false = refl
 
 module _ (ls : List Line) (cs : List Bool) where
   pub reset-none : cs ≡ resetCancelled ls cs 0

@@ -1,6 +1,5 @@
 -- What one turn by the rule, and the turns of a beat, do to the word of the lines that acted and to what the record says of conditions. Assumes nothing.
 use mathlib.Core.Path.{_≡_, refl, ap, _∙_}
-use mathlib.Core.Logic.{_≢_}
 use mathlib.Core.Bool.{Bool, true, false, cond, _&&_, _||_, and-true}
 use mathlib.Core.List.{List, [], _∷_, _++_, map}
 use Prim.Native.Nat.{ℕ, zero, suc, _+_, _*_, _^_, _<_, _≤_}
@@ -10,18 +9,20 @@ use native.Mathlib.Nat.{pow-suc, one-le-pow, div-eq-of-lt, add-mul-div-left, add
 use lib.Dec.{eqb}
 use lib.IntN.{ℤ}
 use lib.ListN.{getD}
+use borrow.Author.Tests.{eq-eqb, ne-eqb}
+use Rattle.values.specs.Numbers.{clash}
 use Rattle.tokens.specs.Reading.{Answer, good, stop, _>>=_}
 use Rattle.working.specs.Working.{isYes, conditionValue}
 use Rattle.code.specs.declared.check.Line.{Line}
 use Rattle.set.specs.declared.set.Lines.{Lines}
 use Rattle.set.specs.Set.{noLine}
 use Rattle.actions.specs.Action.{World, Note, fromGot, actionsOf}
-use Rattle.engine.specs.Turn.{Entry, worked, locks, lockEntry, Turned, counted, doTurn}
+use Rattle.turns.specs.Turn.{Entry, worked, locks, lockEntry, Turned, counted, doTurn}
 use Rattle.demands.specs.Record.{Record, after, only, orElse, isAutomatic, wasTrue, everTrue, takesByRule, triesByRule, actsByRule}
 use Rattle.demands.specs.Run.{byRank, cancelledBy, tryByRule, turnByRule, turnsByRule}
 use Rattle.demands.specs.Acts.{isActed, isYesAnswer, conditionNow, triesNow, actsNow}
-use Rattle.demands.specs.FlagLaws.{same-rank, equal-ranks}
-use Rattle.demands.specs.ActionLaws.{Ok, bind-ok, is-ok, Fair, actions-fair}
+use Rattle.soundness.specs.GoodAnswers.{Ok, is-ok, bind-ok}
+use Rattle.demands.specs.ActionLaws.{Fair, actions-fair}
 use Rattle.demands.specs.TurnLaws.{after-append}
 
 -- ---- a turn
@@ -95,13 +96,6 @@ module _ (s : List ℕ) (ls : Lines) (l : Line) (k : ℕ) (r : Record) (x : Worl
           Ok (After k r x (b && actsByRule (l .keyword) k r (triesByRule (l .keyword) k r && conditionNow s l x)) (b && triesByRule (l .keyword) k r) (conditionNow s l x)) a
       go true = try-after
       go false = record { word = omega arith; ever = λ j. refl; was = λ j. refl }
-
-apart : (j i : ℕ) → j ≢ i → eqb j i ≡ false
-apart j i h = go (eqb j i) refl
-  where
-    go : (b : Bool) → eqb j i ≡ b → b ≡ false
-    go true e = absurd (h (equal-ranks j i e))
-    go false e = refl
 
 -- ---- bits
 
@@ -189,12 +183,12 @@ module _ (s : List ℕ) (ls : Lines) where
           (b >>= λ u. good (record { world = u .world; entries = own .entries ++ u .entries })) ≡ good t → First n k r x t
       go′ own p (good u) q e = let h : t ≡ record { world = u .world; entries = own .entries ++ u .entries } = cc in
           record { own = own; rest = u; taken = p; gone = q; world = ap (λ y. y .world) h; written = ap (λ y. after (y .entries) r) h ∙ after-append (own .entries) (u .entries) r }
-      go′ own p (stop c) q e = let z : _≡_ {A = ℕ} 0 1 = cc in absurd (omega arith)
+      go′ own p (stop c) q e = clash (cc)
 
       go : (a : Answer Turned) → turnByRule s ls (lineOf k) k r x ≡ a →
           (a >>= λ own. turnsByRule s ls n (k + 1) (after (own .entries) r) (own .world) >>= λ u. good (record { world = u .world; entries = own .entries ++ u .entries })) ≡ good t → First n k r x t
       go (good own) p e = go′ own p (turnsByRule s ls n (k + 1) (after (own .entries) r) (own .world)) refl e
-      go (stop c) p e = let z : _≡_ {A = ℕ} 0 1 = cc in absurd (omega arith)
+      go (stop c) p e = clash (cc)
 
   -- seen from the line of rank i, which is j lines on: the turns before it, its own, and those after it
   record Seen (j k i : ℕ) (r : Record) (x : World) (t : Turned) : Type 0 where
@@ -257,16 +251,16 @@ module _ (s : List ℕ) (ls : Lines) where
           let a = is-ok _ _ (f .own) (f .taken) (turn-after s ls (lineOf i) i r′ (f .before .world)) in
           let low : f .before .world .acted < 2 ^ i = rw zero-add at (is-ok (λ t. t .world .acted < 2 ^ (0 + i)) _ (f .before) (f .come) (turns-low i 0 r x (omega arith))) in
           let high = is-ok (λ t. (c : ℕ) × (t .world .acted ≡ f .own .world .acted + 2 ^ (i + 1) * c)) _ (f .rest) (f .gone) (turns-high (f .left) (i + 1) (after (f .own .entries) r′) (f .own .world)) in
-          let earlier = is-ok _ _ (f .before) (f .come) (turns-other i i 0 r x (λ j c d. apart j i (omega arith))) in
-          let later = is-ok _ _ (f .rest) (f .gone) (turns-other i (f .left) (i + 1) (after (f .own .entries) r′) (f .own .world) (λ j c d. apart j i (omega arith))) in
+          let earlier = is-ok _ _ (f .before) (f .come) (turns-other i i 0 r x (λ j c d. ne-eqb j i (omega arith))) in
+          let later = is-ok _ _ (f .rest) (f .gone) (turns-other i (f .left) (i + 1) (after (f .own .entries) r′) (f .own .world) (λ j c d. ne-eqb j i (omega arith))) in
           record {
             before = f .before;
             come = f .come;
             acted = rw (f .world) (the-bit (actsNow s (lineOf i) i r′ (f .before .world)) i (f .before .world .acted) (f .own .world .acted) (f .rest .world .acted) (high .0) low (a .word) (high .1));
             ever-before = earlier .0;
             was-before = earlier .1;
-            ever = rw (f .written) (later .0 ∙ a .ever i ∙ rw (same-rank i, earlier .0));
-            was = rw (f .written) (later .1 ∙ a .was i ∙ rw (same-rank i, earlier .1, and-true));
+            ever = rw (f .written) (later .0 ∙ a .ever i ∙ rw (eq-eqb i i refl, earlier .0));
+            was = rw (f .written) (later .1 ∙ a .was i ∙ rw (eq-eqb i i refl, earlier .1, and-true));
           }
 
   -- no line beyond the set's has its bit

@@ -4,9 +4,10 @@ use mathlib.Core.Path.{_≡_, refl, ap, _∙_}
 use mathlib.Core.Bool.{Bool, true, false}
 use mathlib.Core.List.{List, [], _∷_, _++_}
 use Prim.Native.Nat.{ℕ, zero, suc, _+_, _<_}
-use native.Mathlib.Omega.{arith}
 use lib.Dec.{eqb, ltb}
 use lib.ListN.{getD, set}
+use borrow.Author.Tests.{ltb-true}
+use Rattle.values.specs.Choice.{either}
 use Rattle.tokens.specs.Token.{END, M, SETAL, LOCK, isVariable, isDrive, whole}
 use Rattle.tokens.specs.Reading.{Answer, good, stop, _>>=_, indexAt}
 use Rattle.working.specs.Working.{rightValue}
@@ -14,27 +15,9 @@ use Rattle.set.specs.Set.{maxLines, rankIn}
 use Rattle.actions.specs.Action.{World, Note, Did, fromGot, takenAt, assignmentOf, lockOf, commandOf, driveOf, actionOf, actionsOf}
 use Rattle.writing.specs.Drive.{driveOrder}
 use Rattle.writing.specs.Write.{writeTo}
-use Rattle.demands.specs.FlagLaws.{below}
+use Rattle.soundness.specs.GoodAnswers.{Ok, is-ok, bind-ok}
 
 -- ---- answers
-
--- what holds of an answer, if it is good
-abbrev pub Ok : {A : Type 0} → (A → Type 0) → Answer A → Type 0
-Ok P (good a) = P a
-Ok P (stop c) = Unit {0}
-
-pub bind-ok : {A B : Type 0} (P : B → Type 0) (m : Answer A) (f : A → Answer B) → ((a : A) → m ≡ good a → Ok P (f a)) → Ok P (m >>= f)
-bind-ok P (good a) f h = h a refl
-bind-ok P (stop c) f h = tt
-
-pub is-ok : {A : Type 0} (P : A → Type 0) (m : Answer A) (a : A) → m ≡ good a → Ok P m → P a
-is-ok P (good b) a e h = let p : b ≡ a = cc in rw p at h
-is-ok P (stop c) a e h = let z : _≡_ {A = ℕ} 0 1 = cc in absurd (omega arith)
-
-pub choose-ok : {A : Type 0} (P : A → Type 0) (b : Bool) (x y : Answer A) → (b ≡ true → Ok P x) → (b ≡ false → Ok P y) →
-    let p : Answer A = elim b [ true ↦ x | false ↦ y ] in Ok P p
-choose-ok P true x y f g = f refl
-choose-ok P false x y f g = g refl
 
 -- one answer and then another: what is made of the first goes through to the last
 pub through : {A B C : Type 0} (g : A → Answer B) (m : Answer C) (f : C → Answer B) (e : C → Answer A) → ((c : C) → f c ≡ (e c >>= g)) → (m >>= f) ≡ (m >>= e >>= g)
@@ -136,17 +119,17 @@ module _ (s numbers : List ℕ) (cancelled : List Bool) (number : ℕ) where
   unfolding actionOf assignmentOf driveOf commandOf lockOf
   action-fair x p =
       let k : ℕ = rankIn numbers (whole (getD s (p + 2) 0)) 0 in
-      choose-ok (Fair x) (eqb (getD s p 0) END) _ _ (λ e. tt)
-      (λ e. choose-ok (Fair x) (isVariable (getD s p 0)) _ _
+      either (Ok (Fair x)) (eqb (getD s p 0) END) (λ e. tt)
+      (λ e. either (Ok (Fair x)) (isVariable (getD s p 0))
       (λ e. bind-ok (Fair x) (takenAt s (x .vars) (p + 5)) _ (λ a q. bind-ok (Fair x) (writeTo (a .vars) (getD s p 0) (indexAt s (getD s p 0) p) (a .value)) _ (λ v q. (tt, refl))))
-      (λ e. choose-ok (Fair x) (isDrive (getD s p 0)) _ _
-      (λ e. choose-ok (Fair x) (ltb 255 (indexAt s (getD s p 0) p)) _ _ (λ e. tt)
+      (λ e. either (Ok (Fair x)) (isDrive (getD s p 0))
+      (λ e. either (Ok (Fair x)) (ltb 255 (indexAt s (getD s p 0) p)) (λ e. tt)
       (λ e. bind-ok (Fair x) (fromGot (rightValue s (x .vars .r) (x .vars .cells) (p + 5))) _
       (λ a q. bind-ok (Fair x) (driveOrder number (getD s p 0) (indexAt s (getD s p 0) p) (a .0)) _ (λ o q. (tt, refl)))))
-      (λ e. choose-ok (Fair x) (eqb (getD s p 0) M) _ _ (λ e. (tt, refl))
-      (λ e. choose-ok (Fair x) (eqb (getD s p 0) SETAL) _ _ (λ e. (tt, refl))
-      (λ e. choose-ok (Fair x) (ltb k maxLines) _ _
-      (λ e. choose-ok (Fair x) (getD cancelled k false) _ _ (λ c. (tt, refl)) (λ c. ((below k maxLines e, c, tt), refl)))
+      (λ e. either (Ok (Fair x)) (eqb (getD s p 0) M) (λ e. (tt, refl))
+      (λ e. either (Ok (Fair x)) (eqb (getD s p 0) SETAL) (λ e. (tt, refl))
+      (λ e. either (Ok (Fair x)) (ltb k maxLines)
+      (λ e. either (Ok (Fair x)) (getD cancelled k false) (λ c. (tt, refl)) (λ c. ((ltb-true k maxLines e, c, tt), refl)))
       (λ e. tt))))))
 
   pub actions-fair : (j : ℕ) (x : World) (p : ℕ) → Ok (Fair x) (actionsOf s numbers cancelled number j x p)
@@ -155,7 +138,7 @@ module _ (s numbers : List ℕ) (cancelled : List Bool) (number : ℕ) where
   actions-fair (suc j) x p =
       bind-ok (Fair x) (actionOf s numbers cancelled number x p) _
       (λ d q. let h : Fair x d = is-ok (Fair x) (actionOf s numbers cancelled number x p) d q (action-fair x p) in
-      choose-ok (Fair x) (eqb (getD s (d .next) 0) END) _ _ (λ e. h)
+      either (Ok (Fair x)) (eqb (getD s (d .next) 0) END) (λ e. h)
       (λ e. bind-ok (Fair x) (actionsOf s numbers cancelled number j (d .world) (d .next)) _
       (λ f g. let i : Fair (d .world) f = is-ok (Fair (d .world)) (actionsOf s numbers cancelled number j (d .world) (d .next)) f g (actions-fair j (d .world) (d .next)) in
       (live-append cancelled (d .notes) (f .notes) (h .0) (i .0), i .1 ∙ h .1))))

@@ -9,7 +9,8 @@ use Rattle.working.specs.Working.{isYes, conditionValue}
 use Rattle.code.specs.declared.check.Line.{Line}
 use Rattle.actions.specs.Action.{World, fromGot}
 use Rattle.demands.specs.Record.{Record, takesByRule, triesByRule, actsByRule}
-use Rattle.demands.specs.Run.{Call, doBeat, doLock, doUnlock, doCancel, doReset, Reply}
+use Rattle.soundness.specs.Call.{Call, doBeat, doLock, doUnlock, doCancel, doReset}
+use Rattle.demands.specs.Run.{Reply}
 
 -- the line of rank k has its bit in the word of the lines that acted
 abbrev pub isActed : ℕ → ℕ → Bool

@@ -22,10 +22,11 @@ use Rattle.state.specs.Sound.{allRanged, isCell, areCells, allZero, isFifoSound
 use Rattle.writing.specs.Write.{writeCell, writeInside, writeTo}
 use Rattle.actions.specs.Action.{lockOf, takenAt, assignmentOf, commandOf, actionOf, actionsOf}
 use Rattle.state.specs.Keyword.{tries, acts, remembers}
-use Rattle.engine.specs.Turn.{takesTurn, doTurn, tryTurn, turnOf, turnsFrom}
+use Rattle.turns.specs.Turn.{takesTurn, doTurn, tryTurn, turnOf, turnsFrom}
 use Rattle.engine.specs.Beat.{areInputs, begun, ended, beatOf, beatAnswer, beatBuffer}
 use Rattle.calls.specs.Calls.{foundAt, found, called, lockedCall, lockCall, unlockCall, cancelCall, resetCancelled, zeroed, resetState, resetCall}
-use Rattle.demands.specs.Run.{Call, doBeat, doLock, doUnlock, doCancel, doReset, run, step, runFrom}
+use Rattle.soundness.specs.Call.{Call, doBeat, doLock, doUnlock, doCancel, doReset}
+use Rattle.demands.specs.Run.{run, step, runFrom}
 
 abbrev n : ℕ → ℕ
 n = wholeToken

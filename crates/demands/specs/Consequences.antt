@@ -9,6 +9,8 @@ use native.Mathlib.Nat.{zero-div}
 use lib.Dec.{eqb, ltb}
 use lib.IntN.{ℤ}
 use lib.ListN.{length, getD}
+use Rattle.values.specs.Numbers.{clash}
+use Rattle.values.specs.Choice.{either}
 use Rattle.tokens.specs.Token.{WHEN, EVERY}
 use Rattle.tokens.specs.Reading.{Answer, good, stop, _>>=_}
 use Rattle.working.specs.Working.{isYes, conditionValue}
@@ -21,14 +23,16 @@ use Rattle.set.specs.Set.{noLine, soundLines}
 use Rattle.state.specs.Sound.{isSound}
 use Rattle.writing.specs.Write.{Vars}
 use Rattle.actions.specs.Action.{World, Note, Did, fromGot, actionsOf}
-use Rattle.engine.specs.Turn.{Entry, beatIn, worked, locks, cancels, resets, Turned, counted, doTurn, turnsFrom}
+use Rattle.turns.specs.Turn.{Entry, beatIn, worked, locks, cancels, resets, Turned, counted, doTurn, turnsFrom}
 use Rattle.engine.specs.Beat.{bufferSize, areInputs, begun, beatOf, answered, beatAnswer}
 use Rattle.calls.specs.Calls.{withLocked, found, called, lockedCall, lockCall, unlockCall}
+use Rattle.set.proofs.SetLaws.{sound-count}
 use Rattle.demands.specs.Record.{Record, after, isAutomatic, everTrue, wasTrue, takesByRule, triesByRule, actsByRule}
-use Rattle.demands.specs.Run.{Call, doBeat, doLock, doUnlock, doCancel, doReset, Now, coded, noted, rankOf, codeByRule, cleared, run, stateBy, begunBy, byRank, cancelledBy, tryByRule, turnByRule, turnsByRule, beatByRule, stepByRule, resetByRule, runByRuleFrom, runByRule, beatenByRule}
+use Rattle.soundness.specs.Call.{Call, doBeat, doLock, doUnlock, doCancel, doReset}
+use Rattle.demands.specs.Run.{Now, coded, noted, rankOf, codeByRule, cleared, run, stateBy, begunBy, byRank, cancelledBy, tryByRule, turnByRule, turnsByRule, beatByRule, stepByRule, resetByRule, runByRuleFrom, runByRule, beatenByRule}
 use Rattle.demands.specs.Acts.{isActed, conditionNow, triesNow, actsNow, actedSince}
-use Rattle.demands.specs.FlagLaws.{count-small}
-use Rattle.demands.specs.ActionLaws.{Ok, bind-ok, is-ok, choose-ok, noteAll, Noted, actions-noted}
+use Rattle.soundness.specs.GoodAnswers.{Ok, is-ok, bind-ok}
+use Rattle.demands.specs.ActionLaws.{noteAll, Noted, actions-noted}
 use Rattle.demands.specs.TurnLaws.{flagged, flaggedTurn, turns-same}
 use Rattle.demands.specs.ActLaws.{Done, done, no-other}
 use Rattle.demands.specs.Demand3.{beat-same, demand-3}
@@ -47,11 +51,11 @@ module _ (s : List ℕ) (v : Vars) (r : Record) (m : Bool) (word : ℕ) (lent : 
             | true ↦ elim b [ true ↦ stop 20 | false ↦ elim c [ true ↦ d >>= λ t. good (record { world = t .world; entries = beatIn m ∷ t .entries }) | false ↦ stop 21 ] ]
             | false ↦ stop 22
           ] in x ≡ good t) → (u : Turned) × (d ≡ good u) × (t ≡ record { world = u .world; entries = beatIn m ∷ u .entries })
-      go true true c d e = let z : _≡_ {A = ℕ} 0 1 = cc in absurd (omega arith)
+      go true true c d e = clash (cc)
       go true false true (good u) e = (u, refl, cc)
-      go true false true (stop k) e = let z : _≡_ {A = ℕ} 0 1 = cc in absurd (omega arith)
-      go true false false d e = let z : _≡_ {A = ℕ} 0 1 = cc in absurd (omega arith)
-      go false b c d e = let z : _≡_ {A = ℕ} 0 1 = cc in absurd (omega arith)
+      go true false true (stop k) e = clash (cc)
+      go true false false d e = clash (cc)
+      go false b c d e = clash (cc)
 
   -- what it did for the line of rank k
   beat-done : (t : Turned) (k : ℕ) → k < soundLines s .count → beatByRule s v r m word lent size ≡ good t →
@@ -88,7 +92,7 @@ module _ (s : List ℕ) (v : Vars) (r : Record) (m : Bool) (word : ℕ) (lent : 
       go (good u) p q =
           let h : t ≡ record { world = flagged (soundLines s) (after (u .entries) r) (u .world); entries = u .entries } = cc in
           (u, p, ap (λ y. y .world .acted) h, ap (λ y. y .entries) h)
-      go (stop c) p q = let z : _≡_ {A = ℕ} 0 1 = cc in absurd (omega arith)
+      go (stop c) p q = clash (cc)
 
   came : (k : ℕ) → k < soundLines s .count → beatOf s (stateBy (soundLines s) v r) m word lent size ≡ good t → Came s (stateBy (soundLines s) v r) r m word lent k t
   unfolding stateBy begun begunBy
@@ -98,7 +102,7 @@ module _ (s : List ℕ) (v : Vars) (r : Record) (m : Bool) (word : ℕ) (lent : 
           w ≡ record { world = u .world; entries = beatIn m ∷ u .entries } → Came s (stateBy (soundLines s) v r) r m word lent k t
       go w p a u d q = record {
         before = record { world = flagged (soundLines s) (after (d .before .entries) (beatIn m ∷ r)) (d .before .world); entries = d .before .entries };
-        come = turns-same (soundLines s) s k 0 (beatIn m ∷ r) (begunBy v word lent) (count-small s) (omega arith) ∙ rw (d .come);
+        come = turns-same (soundLines s) s k 0 (beatIn m ∷ r) (begunBy v word lent) (sound-count s) (omega arith) ∙ rw (d .come);
         acted = ap (λ n. isActed n k) (p ∙ ap (λ y. y .world .acted) q) ∙ d .acted;
         ever-before = d .ever-before;
         was-before = d .was-before;
@@ -112,7 +116,7 @@ no-bit k = rw (zero-div (2 ^ k))
 
 acted-good : (st : State) (k : ℕ) (a : Answer Turned) → isActed (answered st a .acted) k ≡ true → (t : Turned) × (a ≡ good t) × (isActed (t .world .acted) k ≡ true)
 acted-good st k (good t) e = (t, refl, e)
-acted-good st k (stop c) e = let z : false ≡ true = sym (no-bit k) ∙ e in let y : _≡_ {A = ℕ} 0 1 = cc in absurd (omega arith)
+acted-good st k (stop c) e = let z : false ≡ true = sym (no-bit k) ∙ e in clash (cc)
 
 -- ---- of the rule, for one keyword
 
@@ -316,8 +320,8 @@ module _ (s : List ℕ) (ls : Lines) where
     unfolding turnByRule tryByRule
     turn-flagless =
         let P : Turned → Type 0 = λ t. Flagless (t .world) in
-        choose-ok P (takesByRule l k r) _ _
-        (λ e. choose-ok P (triesByRule (l .keyword) k r) _ _
+        either (Ok P) (takesByRule l k r)
+        (λ e. either (Ok P) (triesByRule (l .keyword) k r)
         (λ e. bind-ok P (fromGot (conditionValue s (x .vars .r) (x .vars .cells) (l .condition))) _
         (λ a q. do-flagless (worked k (isYes (a .0)) ∷ []) (actsByRule (l .keyword) k r (isYes (a .0)))))
         (λ e. do-flagless [] (actsByRule (l .keyword) k r false)))

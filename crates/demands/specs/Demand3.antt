@@ -7,6 +7,8 @@ use native.Mathlib.Omega.{arith}
 use lib.Dec.{ltb}
 use lib.IntN.{ℤ}
 use lib.ListN.{length, getD}
+use borrow.Author.Tests.{lt-ltb, ltb-true}
+use Rattle.values.specs.Choice.{either}
 use Rattle.tokens.specs.Reading.{Answer, good, stop, _>>=_}
 use Rattle.set.specs.declared.set.Lines.{Lines}
 use Rattle.state.specs.declared.state.State.{State}
@@ -16,13 +18,16 @@ use Rattle.set.specs.Set.{noLine, soundLines}
 use Rattle.state.specs.State.{powerOn}
 use Rattle.state.specs.Sound.{unsoundCode, isSound}
 use Rattle.writing.specs.Write.{Vars}
-use Rattle.engine.specs.Turn.{Entry, beatIn, locks, cancels, resets, Turned}
+use Rattle.turns.specs.Turn.{Entry, beatIn, locks, cancels, resets, Turned}
 use Rattle.engine.specs.Beat.{bufferSize, areInputs, begun, ended, beatOf, answered, buffered, beatAnswer, beatBuffer}
 use Rattle.calls.specs.Calls.{unknownLine, withLocked, withCancelled, foundAt, found, called, lockedCall, lockCall, unlockCall, cancelCall, resetState, resetCall}
+use Rattle.set.proofs.SetLaws.{sound-count}
 use Rattle.demands.specs.Record.{Record, after, isCancelled, isLocked}
-use Rattle.demands.specs.Run.{Call, doBeat, doLock, doUnlock, doCancel, doReset, Now, coded, entriesOf, rankOf, hosted, beaten, step, runFrom, run, byRank, cancelledBy, lockedBy, remembersBy, memoryBy, variablesOf, stateBy, begunBy, endedBy, turnsByRule, beatByRule, codeByRule, hostedByRule, beatenByRule, cleared, resetByRule, stepByRule, runByRuleFrom, runByRule}
-use Rattle.demands.specs.FlagLaws.{below, below-true, byRank-at, count-small, lock-locked, cancel-cancelled, cancel-locked, cancel-memory, reset-locked, reset-cancelled, reset-memory, new-locked, new-cancelled, new-memory}
-use Rattle.demands.specs.ActionLaws.{Ok, bind-ok, is-ok, choose-ok, choose}
+use Rattle.soundness.specs.Call.{Call, doBeat, doLock, doUnlock, doCancel, doReset}
+use Rattle.demands.specs.Run.{Now, coded, entriesOf, rankOf, hosted, beaten, step, runFrom, run, byRank, cancelledBy, lockedBy, remembersBy, memoryBy, variablesOf, stateBy, begunBy, endedBy, turnsByRule, beatByRule, codeByRule, hostedByRule, beatenByRule, cleared, resetByRule, stepByRule, runByRuleFrom, runByRule}
+use Rattle.demands.specs.FlagLaws.{byRank-at, lock-locked, cancel-cancelled, cancel-locked, cancel-memory, reset-locked, reset-cancelled, reset-memory, new-locked, new-cancelled, new-memory}
+use Rattle.soundness.specs.GoodAnswers.{Ok, is-ok, bind-ok}
+use Rattle.demands.specs.ActionLaws.{choose}
 use Rattle.demands.specs.TurnLaws.{flaggedTurn, turns-same, turns-quiet}
 
 -- ---- a beat
@@ -43,7 +48,7 @@ module _ (s : List ℕ) (v : Vars) (r : Record) (m : Bool) (word : ℕ) (lent : 
       choose (flaggedTurn (soundLines s) r) (isSound s (stateBy (soundLines s) v r)) _ _ _ _
       (choose (flaggedTurn (soundLines s) r) (ltb size bufferSize) _ _ _ _ refl
       (choose (flaggedTurn (soundLines s) r) (areInputs lent) _ _ _ _
-      (ap (λ a. a >>= begins) (turns-same (soundLines s) s (soundLines s .count) 0 (beatIn m ∷ r) (begunBy v word lent) (count-small s) (omega arith))
+      (ap (λ a. a >>= begins) (turns-same (soundLines s) s (soundLines s .count) 0 (beatIn m ∷ r) (begunBy v word lent) (sound-count s) (omega arith))
       ∙ beat-begun (turnsByRule s (soundLines s) (soundLines s .count) 0 (beatIn m ∷ r) (begunBy v word lent))) refl)) refl
 
   beat-quiet : Ok (λ t. byRank (cancelledBy (soundLines s) (after (t .entries) r)) ≡ byRank (cancelledBy (soundLines s) r)) (beatByRule s v r m word lent size)
@@ -51,9 +56,9 @@ module _ (s : List ℕ) (v : Vars) (r : Record) (m : Bool) (word : ℕ) (lent : 
   beat-quiet =
       let P : Turned → Type 0 = λ t. byRank (cancelledBy (soundLines s) (after (t .entries) r)) ≡ byRank (cancelledBy (soundLines s) r) in
       let a : Answer Turned = turnsByRule s (soundLines s) (soundLines s .count) 0 (beatIn m ∷ r) (begunBy v word lent) in
-      choose-ok P (isSound s (stateBy (soundLines s) v r)) _ _
-      (λ e. choose-ok P (ltb size bufferSize) _ _ (λ e. tt)
-      (λ e. choose-ok P (areInputs lent) _ _
+      either (Ok P) (isSound s (stateBy (soundLines s) v r))
+      (λ e. either (Ok P) (ltb size bufferSize) (λ e. tt)
+      (λ e. either (Ok P) (areInputs lent)
       (λ e. bind-ok P a _ (λ t q. is-ok _ a t q (turns-quiet (soundLines s) s (soundLines s .count) 0 (beatIn m ∷ r) (begunBy v word lent)) .0))
       (λ e. tt))) (λ e. tt)
 
@@ -115,7 +120,7 @@ module _ (s : List ℕ) (n : Now Vars) where
       st = stateBy ls (n .kept) (n .written)
 
       small : ltb k (ls .count) ≡ true → k < 32
-      small b = omega (arith, below k (ls .count) b, count-small s)
+      small b = omega (arith, ltb-true k (ls .count) b, sound-count s)
 
       asked : ltb k (ls .count) ≡ true → getD (st .cancelled) k false ≡ isCancelled (getD (ls .items) k noLine .ids) k (n .written)
       asked b = byRank-at (cancelledBy ls (n .written)) k (small b) ∙ rw b (and-true (isCancelled (getD (ls .items) k noLine .ids) k (n .written)))
@@ -152,7 +157,7 @@ module _ (s : List ℕ) (n : Now Vars) where
   step-reset = go (isSound s (stateBy (soundLines s) (n .kept) (n .written)))
     where
       after-reset : resetState (soundLines s .items) (soundLines s .count) (stateBy (soundLines s) (n .kept) (n .written)) ≡ stateBy (soundLines s) (cleared (n .kept) (soundLines s) (n .written)) (resets ∷ n .written)
-      after-reset = in-flags _ (reset-locked (soundLines s) (n .written)) (reset-cancelled (soundLines s) (n .written) (count-small s)) (reset-memory (soundLines s) (n .written))
+      after-reset = in-flags _ (reset-locked (soundLines s) (n .written)) (reset-cancelled (soundLines s) (n .written) (sound-count s)) (reset-memory (soundLines s) (n .written))
 
       go : (a : Bool) →
           (let c : Called = elim a [ true ↦ record { code = 0; state = resetState (soundLines s .items) (soundLines s .count) (stateBy (soundLines s) (n .kept) (n .written)) } | false ↦ record { code = unsoundCode; state = stateBy (soundLines s) (n .kept) (n .written) } ] in
@@ -210,8 +215,8 @@ module _ (s : List ℕ) (cs : List Call) where
       (getD (st .cancelled) k false ≡ c) × (getD (st .locked) k false ≡ isLocked k r && not c) × (getD (st .memory) k false ≡ remembersBy (l .keyword) k r && not c)
   unfolding stateBy
   flags-say-the-record k h =
-      let b : k < 32 = omega (arith, count-small s) in
-      let p : ltb k (soundLines s .count) ≡ true = below-true k (soundLines s .count) h in (
+      let b : k < 32 = omega (arith, sound-count s) in
+      let p : ltb k (soundLines s .count) ≡ true = lt-ltb k (soundLines s .count) h in (
         ap (λ st. getD (st .cancelled) k false) state-says-the-record ∙ byRank-at (cancelledBy (soundLines s) (run s cs .written)) k b ∙ rw p (and-true _),
         ap (λ st. getD (st .locked) k false) state-says-the-record ∙ byRank-at (lockedBy (soundLines s) (run s cs .written)) k b ∙ rw (p, and-true),
         ap (λ st. getD (st .memory) k false) state-says-the-record ∙ byRank-at (memoryBy (soundLines s) (run s cs .written)) k b ∙ rw (p, and-true),

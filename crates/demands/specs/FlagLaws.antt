@@ -3,44 +3,20 @@ use mathlib.Core.Path.{_≡_, refl, sym, ap, _∙_}
 use mathlib.Core.Logic.{_≢_}
 use mathlib.Core.Bool.{Bool, true, false, cond, not, _&&_, _||_, and-true, and-false}
 use mathlib.Core.List.{List, [], _∷_}
-use Prim.Native.Nat.{ℕ, zero, suc, _+_, _<_, _≤_}
+use Prim.Native.Nat.{ℕ, zero, suc, _<_, _≤_}
 use native.Mathlib.Omega.{arith}
-use lib.Dec.{T, eqb, ltb, eqb→eq, eqb-refl, ltb→lt, lt→ltb, nltb→le, leb·suc-zero}
+use lib.Dec.{eqb, ltb, nltb→le, leb·suc-zero}
 use lib.ListN.{length, getD, set, replicate, length-set, length-replicate, getD-replicate}
 use lib.Seq.{getD-set-same, getD-set-other, ext-getD}
+use borrow.Author.Tests.{eq-eqb, eqb-false, eqb-true, ltb-true}
 use Rattle.tokens.specs.Token.{WHEN, FROM, EVERY}
-use Rattle.code.specs.declared.check.Line.{Line}
 use Rattle.set.specs.declared.set.Lines.{Lines}
-use Rattle.set.specs.Set.{maxLines, noLine, noLines, lineCount, lineOf, linesFrom, linesRead, allKnown, namedLines, soundLines}
-use Rattle.engine.specs.Turn.{worked, locks, cancels, resets}
+use Rattle.set.specs.Set.{noLine}
+use Rattle.turns.specs.Turn.{worked, locks, cancels, resets}
 use Rattle.state.specs.Keyword.{remembers}
 use Rattle.calls.specs.Calls.{resetCancelled}
 use Rattle.demands.specs.Record.{Record, only, orElse, isCancelled, isLocked, wasTrue, everTrue}
 use Rattle.demands.specs.Run.{ranks, byRank, cancelledBy, lockedBy, remembersBy, memoryBy}
-
--- ---- tests
-
-pub T→true : (b : Bool) → T b → b ≡ true
-T→true true t = refl
-T→true false t = elim t [ ]
-
-pub true→T : (b : Bool) → b ≡ true → T b
-true→T b e = rw e tt
-
-pub same-rank : (k : ℕ) → eqb k k ≡ true
-same-rank k = T→true (eqb k k) (eqb-refl k)
-
-pub equal-ranks : (k j : ℕ) → eqb k j ≡ true → k ≡ j
-equal-ranks k j e = eqb→eq k j (true→T (eqb k j) e)
-
-pub other-rank : (k j : ℕ) → eqb k j ≡ false → j ≢ k
-other-rank k j e p = let q : eqb k j ≡ true = rw p (same-rank k) in let z : true ≡ false = sym q ∙ e in let w : _≡_ {A = ℕ} 0 1 = cc in omega arith
-
-pub below : (k n : ℕ) → ltb k n ≡ true → k < n
-below k n e = ltb→lt k n (true→T (ltb k n) e)
-
-pub below-true : (k n : ℕ) → k < n → ltb k n ≡ true
-below-true k n h = T→true (ltb k n) (lt→ltb k n h)
 
 -- ---- a value for each rank
 
@@ -74,43 +50,13 @@ getD-set : (l : List Bool) (k j : ℕ) (v : Bool) → k < length l → getD (set
 getD-set l k j v h = go (eqb k j) refl
   where
     go : (e : Bool) → eqb k j ≡ e → getD (set l k v) j false ≡ cond e v (getD l j false)
-    go true e = let p : k ≡ j = equal-ranks k j e in rw (← p) (getD-set-same l k v false h)
-    go false e = getD-set-other l k j v false (other-rank k j e)
+    go true e = let p : k ≡ j = eqb-true k j e in rw (← p) (getD-set-same l k v false h)
+    go false e = getD-set-other l k j v false (λ q. eqb-false k j e (sym q))
 
 pub byRank-set : (f g : ℕ → Bool) (k : ℕ) (v : Bool) → k < 32 → ((j : ℕ) → j < 32 → cond (eqb k j) v (f j) ≡ g j) → set (byRank f) k v ≡ byRank g
 byRank-set f g k v b h =
     as-byRank (set (byRank f) k v) g (length-set (byRank f) k v ∙ length-byRank f)
     (λ j c. getD-set (byRank f) k j v (rw (length-byRank f) b) ∙ rw (byRank-at f j c) (h j c))
-
--- ---- a set has at most 32 lines
-
-abbrev either : Bool → Lines → Lines → Lines
-either a x y = elim a [ true ↦ x | false ↦ y ]
-
-either-small : (n : ℕ) (a : Bool) (x y : Lines) → (a ≡ true → x .count ≤ n) → (a ≡ false → y .count ≤ n) → either a x y .count ≤ n
-either-small n true x y h g = h refl
-either-small n false x y h g = g refl
-
-from-small : (s : List ℕ) (m k last : ℕ) (ns : List ℕ) (ls : List Line) → linesFrom s m k last ns ls .count ≤ k + m
-unfolding linesFrom
-from-small s zero k last ns ls = omega arith
-from-small s (suc m) k last ns ls =
-    let l : Line = lineOf s k in
-    let rest : Lines = linesFrom s m (k + 1) (l .number) (set ns k (l .number)) (set ls k l) in
-    let h : rest .count ≤ k + 1 + m = from-small s m (k + 1) (l .number) (set ns k (l .number)) (set ls k l) in
-    either-small (k + suc m) (eqb (l .fault) 0) (either (ltb last (l .number)) rest noLines) noLines
-    (λ e. either-small (k + suc m) (ltb last (l .number)) rest noLines (λ d. omega arith) (λ d. omega arith)) (λ e. omega arith)
-
-read-small : (s : List ℕ) → linesRead s .count ≤ 32
-unfolding linesRead
-read-small s =
-    let rest : Lines = linesFrom s (lineCount s) 0 0 (replicate maxLines 0) (replicate maxLines noLine) in
-    either-small 32 (ltb 32 (lineCount s)) noLines rest (λ e. omega arith)
-    (λ e. let h : lineCount s ≤ 32 = nltb→le 32 (lineCount s) (rw e tt) in omega (arith, from-small s (lineCount s) 0 0 (replicate maxLines 0) (replicate maxLines noLine)))
-
-pub count-small : (s : List ℕ) → soundLines s .count ≤ 32
-unfolding soundLines namedLines
-count-small s = either-small 32 (allKnown s (linesRead s .numbers) (linesRead s .count) 0) (linesRead s) noLines (λ e. read-small s) (λ e. omega arith)
 
 -- ---- what each entry does to the flags that the record gives
 
@@ -126,7 +72,7 @@ worked-step false false v ever was = refl
 
 worked-same : (kw k : ℕ) (r : Record) (v : Bool) → remembersBy kw k (worked k v ∷ r) ≡ remembers kw (remembersBy kw k r) v
 unfolding remembers
-worked-same kw k r v = rw (same-rank k) (worked-step (eqb kw WHEN || eqb kw FROM) (eqb kw EVERY) v (everTrue k r) (wasTrue k r))
+worked-same kw k r v = rw (eq-eqb k k refl) (worked-step (eqb kw WHEN || eqb kw FROM) (eqb kw EVERY) v (everTrue k r) (wasTrue k r))
 
 worked-other : (kw k j : ℕ) (r : Record) (v : Bool) → eqb k j ≡ false → remembersBy kw j (worked k v ∷ r) ≡ remembersBy kw j r
 worked-other kw k j r v e = rw e
@@ -153,7 +99,7 @@ module _ (ls : Lines) where
 
       go : (j : ℕ) (e : Bool) → eqb k j ≡ e → cond e (new k) (memoryBy ls r j) ≡ memoryBy ls (worked k v ∷ r) j
       go j true e =
-          let p : k ≡ j = equal-ranks k j e in
+          let p : k ≡ j = eqb-true k j e in
           rw (← p) (rw (worked-same (kw k) k r v, c) (sym (and-true (new k))))
       go j false e = rw (worked-other (kw j) k j r v e)
 
@@ -162,13 +108,13 @@ module _ (ls : Lines) where
   lock-locked k b r h c = byRank-set (lockedBy ls r) (lockedBy ls (locks k b ∷ r)) k b h (λ j d. go j (eqb k j) refl)
     where
       go : (j : ℕ) (e : Bool) → eqb k j ≡ e → cond e b (lockedBy ls r j) ≡ orElse (only e b) (isLocked j r) && not (cancelledBy ls r j)
-      go j true e = let p : k ≡ j = equal-ranks k j e in let q : cancelledBy ls r j ≡ false = rw p at c in rw q (sym (and-true b))
+      go j true e = let p : k ≡ j = eqb-true k j e in let q : cancelledBy ls r j ≡ false = rw p at c in rw q (sym (and-true b))
       go j false e = refl
 
   -- a line of the set was cancelled
   module _ (k : ℕ) (r : Record) (h : k < 32) (c : ltb k (ls .count) ≡ true) where
     counted-too : (j : ℕ) → eqb k j ≡ true → ltb j (ls .count) ≡ true
-    counted-too j e = let p : k ≡ j = equal-ranks k j e in rw p at c
+    counted-too j e = let p : k ≡ j = eqb-true k j e in rw p at c
 
     pub cancel-cancelled : set (byRank (cancelledBy ls r)) k true ≡ byRank (cancelledBy ls (cancels k ∷ r))
     cancel-cancelled = byRank-set (cancelledBy ls r) (cancelledBy ls (cancels k ∷ r)) k true h (λ j d. go j (eqb k j) refl)
@@ -214,11 +160,11 @@ module _ (ls : Lines) where
 
       go : (e b c : Bool) → eqb n j ≡ e → ltb j n ≡ b → ltb j (suc n) ≡ c → getD (resetCancelled (ls .items) cs n) j false ≡ cond b (new j) (getD cs j false) →
           cond e (new n) (getD (resetCancelled (ls .items) cs n) j false) ≡ cond c (new j) (getD cs j false)
-      go true b true e p q i = let w : n ≡ j = equal-ranks n j e in rw w
-      go true b false e p q i = let w : n ≡ j = equal-ranks n j e in let g : suc n ≤ j = nltb→le j (suc n) (rw q tt) in absurd (omega arith)
+      go true b true e p q i = let w : n ≡ j = eqb-true n j e in rw w
+      go true b false e p q i = let w : n ≡ j = eqb-true n j e in let g : suc n ≤ j = nltb→le j (suc n) (rw q tt) in absurd (omega arith)
       go false true true e p q i = i
-      go false true false e p q i = let g : j < n = below j n p in let f : suc n ≤ j = nltb→le j (suc n) (rw q tt) in absurd (omega arith)
-      go false false true e p q i = let g : n ≤ j = nltb→le j n (rw p tt) in let f : j < suc n = below j (suc n) q in let w : j ≢ n = other-rank n j e in absurd (omega arith)
+      go false true false e p q i = let g : j < n = ltb-true j n p in let f : suc n ≤ j = nltb→le j (suc n) (rw q tt) in absurd (omega arith)
+      go false false true e p q i = let g : n ≤ j = nltb→le j n (rw p tt) in let f : j < suc n = ltb-true j (suc n) q in let w : j ≢ n = λ q. eqb-false n j e (sym q) in absurd (omega arith)
       go false false false e p q i = i
 
   pub reset-cancelled : (r : Record) → ls .count ≤ 32 → resetCancelled (ls .items) (byRank (cancelledBy ls r)) (ls .count) ≡ byRank (cancelledBy ls (resets ∷ r))

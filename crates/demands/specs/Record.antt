@@ -9,7 +9,7 @@ use Prim.Native.Nat.{ℕ}
 use lib.Dec.{eqb}
 use Rattle.tokens.specs.Token.{WHEN, WHENEVER, FROM, EVERY}
 use Rattle.code.specs.declared.check.Line.{Line}
-use Rattle.engine.specs.Turn.{Entry, beatIn, worked, locks, cancels, resets}
+use Rattle.turns.specs.Turn.{Entry, beatIn, worked, locks, cancels, resets}
 
 -- newest entry first
 abbrev pub Record : Type 0

@@ -7,17 +7,18 @@ use Prim.Native.Nat.{ℕ}
 use lib.Dec.{eqb}
 use lib.IntN.{ℤ}
 use lib.ListN.{length}
+use borrow.Author.Tests.{eqb-true}
 use Rattle.tokens.specs.Reading.{Answer, good, stop}
 use Rattle.state.specs.declared.state.State.{State}
 use Rattle.calls.specs.declared.host.Called.{Called}
 use Rattle.calls.specs.declared.host.Found.{Found}
 use Rattle.set.specs.Set.{soundLines}
 use Rattle.state.specs.Sound.{unsoundCode, isSound}
-use Rattle.engine.specs.Turn.{Entry, Turned}
+use Rattle.turns.specs.Turn.{Entry, Turned}
 use Rattle.engine.specs.Beat.{beatOf, answered, buffered, beatAnswer, beatBuffer}
 use Rattle.calls.specs.Calls.{withLocked, withCancelled, found, called, lockedCall, lockCall, unlockCall, cancelCall, resetState, resetCall}
-use Rattle.demands.specs.Run.{Call, doBeat, doLock, doUnlock, doCancel, doReset, Now, entriesOf, noted, step}
-use Rattle.demands.specs.FlagLaws.{equal-ranks}
+use Rattle.soundness.specs.Call.{Call, doBeat, doLock, doUnlock, doCancel, doReset}
+use Rattle.demands.specs.Run.{Now, entriesOf, noted, step}
 
 -- a beat with a code other than 0: the state as given, no orders, no line acted, the buffer as given
 pub beat-refused : (s : List ℕ) (st : State) (m : Bool) (word : ℕ) (lent : List ℤ) (b : List ℕ) → let x = beatAnswer s st m word lent b in
@@ -63,7 +64,7 @@ noted-refused : (c : ℕ) (e : Entry) (r : List Entry) → c ≢ 0 → noted c e
 noted-refused c e r h = go (eqb c 0) refl
   where
     go : (a : Bool) → eqb c 0 ≡ a → (let x : List Entry = elim a [ true ↦ e ∷ r | false ↦ r ] in x ≡ r)
-    go true p = absurd (h (equal-ranks c 0 p))
+    go true p = absurd (h (eqb-true c 0 p))
     go false p = refl
 
 abbrev pub lastCode : Now State → ℕ

@@ -20,20 +20,13 @@ use Rattle.engine.specs.Cells.{inputCount, beatCells}
 use Rattle.state.specs.Sound.{unsoundCode, isSound}
 use Rattle.writing.specs.Write.{Vars}
 use Rattle.actions.specs.Action.{World, fromGot}
-use Rattle.engine.specs.Turn.{Entry, beatIn, worked, locks, cancels, resets, Turned, doTurn}
+use Rattle.turns.specs.Turn.{Entry, beatIn, worked, locks, cancels, resets, Turned, doTurn}
 use Rattle.engine.specs.Beat.{shortBuffer, wrongNumbers, bufferSize, areInputs, beatOf, buffered, beatAnswer, beatBuffer}
 use Rattle.calls.specs.Calls.{unknownLine, lockCall, unlockCall, cancelCall, resetState, resetCall}
+use Rattle.soundness.specs.Call.{Call, doBeat, doLock, doUnlock, doCancel, doReset}
 use Rattle.demands.specs.Record.{Record, after, isCancelled, isLocked, wasTrue, everTrue, isAutomatic, takesByRule, triesByRule, actsByRule}
 
 -- ---- the calls after a load, and what the caller sees of each
-
--- a beat in AUTOMATIC or not, with the input word, the 14 numbers and the order buffer; and the host's calls, which name a line by its number
-pub data Call : Type 0 where
-  doBeat : Bool → ℕ → List ℤ → List ℕ → Call
-  doLock : ℕ → Call
-  doUnlock : ℕ → Call
-  doCancel : ℕ → Call
-  doReset : Call
 
 -- the code, the number of orders, the word of the lines that acted, and the order buffer afterwards (0, 0 and none of a host's call)
 pub record Reply : Type 0 where

@@ -26,7 +26,7 @@ use Rattle.writing.specs.Write.{changeAnswer, changed, changeFifo, writeFifo, w
 use Rattle.writing.specs.Drive.{driveOrder}
 use Rattle.actions.specs.Action.{alarmOf, lockOf, takenAt, assignmentOf, driveOf, commandOf, actionOf, actionsOf}
 use Rattle.state.specs.Keyword.{tries, acts, remembers}
-use Rattle.engine.specs.Turn.{takesTurn, doTurn, tryTurn, turnOf, turnsFrom}
+use Rattle.turns.specs.Turn.{takesTurn, doTurn, tryTurn, turnOf, turnsFrom}
 use Rattle.engine.specs.Beat.{areInputs, begun, ended, beatOf, beatAnswer, beatBuffer}
 use Rattle.calls.specs.Calls.{foundAt, found, called, lockedCall, lockCall, unlockCall, cancelCall, resetCancelled, zeroed, resetState, resetCall}
 use Rattle.text.specs.Byte.{bytes, run}
@@ -34,10 +34,11 @@ use Rattle.words.specs.Word.{wordToken}
 use Rattle.text.specs.Number.{written, isFit, numberToken}
 use Rattle.words.specs.First.{wordFirst, behindPoint, numberWith, numberFirst, signFirst, firstToken}
 use Rattle.words.specs.Tokens.{tokensFrom, tokensOf}
-use Rattle.text.specs.Lines.{textLines, withoutReturn, withoutComment, bodies, isBlank, numbered, tokenLines}
+use Rattle.text.specs.Lines.{split, withoutReturn, withoutComment, bodies, isBlank, numbered, tokenLines}
 use Rattle.draft.specs.Row.{numbersOf, leastFrom, leastAbove, rising, plain, placed, setOf}
 use Rattle.reader.specs.Load.{tokensFault, faultBelow, rowsFrom, firstUnknown, named, outcome, loadAnswer, loadSet}
-use Rattle.demands.specs.Run.{Call, doBeat, doLock, doUnlock, Reply, run as runOf, step, runFrom}
+use Rattle.soundness.specs.Call.{Call, doBeat, doLock, doUnlock}
+use Rattle.demands.specs.Run.{Reply, run as runOf, step, runFrom}
 
 -- ---- what a case says
 
@@ -120,5 +121,5 @@ cases =
 
 -- THE TABLE: each case gives what document 01 says
 table : map given cases ≡ map (λ (c : Case). c .gives) cases
-unfolding joinLogic countAt fifoValue fifoAt fits appendAnswer appended shifted removeAnswer removed oldestOf newestOf sumFirst sumAll totalOf countOf cleared emptyAnswer emptied millisOf writtenTimer sumOf differenceOf productOf quotientOf negationOf feedOf signOf inRange valued lessThan equalTo wholeUnits outputOf grownTimer twosComplement fourBytes orderBytes hasRoom withOrder isIndex indexOf isIndexed indexAt joined more readProduct readSum readRest readExpression readVariable operandFrom readOperand readClose readTruth sumAt expressionAt isInside cellOf variableValue lower opensTooMany wantingFault numberFault readFault joinSights sight isWritable writeFault codeFault idFault callFault countFault numberOf isRemoval assignedAt assignmentAt commandAt actionAt actionsAt lineParts bodyAt restAt lineAt joinTruths joinValues valueOver conditionValue rightValue linesFrom linesRead rankIn namesKnown allKnown namedLines soundLines emptySet powerOn grownCells inputCells beatCells allRanged isCell areCells allZero isFifoSound isFlag areFlags stateSound isSound changeAnswer changed changeFifo writeFifo writeCell writeInside writeTo alarmOf driveOrder driveOf lockOf takenAt assignmentOf commandOf actionOf actionsOf tries acts remembers takesTurn doTurn tryTurn turnOf turnsFrom areInputs begun ended beatOf beatAnswer beatBuffer foundAt found called lockedCall lockCall unlockCall cancelCall resetCancelled zeroed resetState resetCall run wordToken written isFit numberToken wordFirst behindPoint numberWith numberFirst signFirst firstToken tokensFrom tokensOf textLines withoutReturn withoutComment bodies isBlank numbered tokenLines numbersOf leastFrom leastAbove rising plain placed setOf tokensFault faultBelow rowsFrom firstUnknown named outcome loadAnswer loadSet step runFrom cases
+unfolding joinLogic countAt fifoValue fifoAt fits appendAnswer appended shifted removeAnswer removed oldestOf newestOf sumFirst sumAll totalOf countOf cleared emptyAnswer emptied millisOf writtenTimer sumOf differenceOf productOf quotientOf negationOf feedOf signOf inRange valued lessThan equalTo wholeUnits outputOf grownTimer twosComplement fourBytes orderBytes hasRoom withOrder isIndex indexOf isIndexed indexAt joined more readProduct readSum readRest readExpression readVariable operandFrom readOperand readClose readTruth sumAt expressionAt isInside cellOf variableValue lower opensTooMany wantingFault numberFault readFault joinSights sight isWritable writeFault codeFault idFault callFault countFault numberOf isRemoval assignedAt assignmentAt commandAt actionAt actionsAt lineParts bodyAt restAt lineAt joinTruths joinValues valueOver conditionValue rightValue linesFrom linesRead rankIn namesKnown allKnown namedLines soundLines emptySet powerOn grownCells inputCells beatCells allRanged isCell areCells allZero isFifoSound isFlag areFlags stateSound isSound changeAnswer changed changeFifo writeFifo writeCell writeInside writeTo alarmOf driveOrder driveOf lockOf takenAt assignmentOf commandOf actionOf actionsOf tries acts remembers takesTurn doTurn tryTurn turnOf turnsFrom areInputs begun ended beatOf beatAnswer beatBuffer foundAt found called lockedCall lockCall unlockCall cancelCall resetCancelled zeroed resetState resetCall run wordToken written isFit numberToken wordFirst behindPoint numberWith numberFirst signFirst firstToken tokensFrom tokensOf split withoutReturn withoutComment bodies isBlank numbered tokenLines numbersOf leastFrom leastAbove rising plain placed setOf tokensFault faultBelow rowsFrom firstUnknown named outcome loadAnswer loadSet step runFrom cases
 table = refl

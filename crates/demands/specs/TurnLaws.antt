@@ -6,6 +6,8 @@ use Prim.Native.Nat.{ℕ, zero, suc, _+_, _<_, _≤_}
 use native.Mathlib.Omega.{arith}
 use lib.Dec.{eqb}
 use lib.ListN.{getD}
+use borrow.Author.Tests.{eqb-true, lt-ltb}
+use Rattle.values.specs.Choice.{either}
 use Rattle.tokens.specs.Token.{WHEN, WHENEVER, FROM, EVERY}
 use Rattle.tokens.specs.Reading.{Answer, good, stop, _>>=_}
 use Rattle.working.specs.Working.{isYes, conditionValue}
@@ -13,12 +15,13 @@ use Rattle.code.specs.declared.check.Line.{Line}
 use Rattle.set.specs.declared.set.Lines.{Lines}
 use Rattle.set.specs.Set.{noLine}
 use Rattle.actions.specs.Action.{World, Note, Did, fromGot, actionsOf}
-use Rattle.engine.specs.Turn.{Entry, worked, locks, lockEntry, Turned, counted, takesTurn, doTurn, tryTurn, turnOf, turnsFrom}
+use Rattle.turns.specs.Turn.{Entry, worked, locks, lockEntry, Turned, counted, takesTurn, doTurn, tryTurn, turnOf, turnsFrom}
 use Rattle.state.specs.Keyword.{tries, acts}
 use Rattle.demands.specs.Record.{Record, after, isAutomatic, isCancelled, isLocked, wasTrue, everTrue, takesByRule, triesByRule, actsByRule}
 use Rattle.demands.specs.Run.{byRank, cancelledBy, lockedBy, remembersBy, memoryBy, tryByRule, turnByRule, turnsByRule}
-use Rattle.demands.specs.FlagLaws.{equal-ranks, below-true, byRank-at, worked-memory, lock-locked}
-use Rattle.demands.specs.ActionLaws.{Ok, bind-ok, is-ok, choose-ok, through, choose-by, dress, noteAll, dressDid, Live, Fair, actions-dress, actions-fair}
+use Rattle.demands.specs.FlagLaws.{byRank-at, worked-memory, lock-locked}
+use Rattle.soundness.specs.GoodAnswers.{Ok, is-ok, bind-ok}
+use Rattle.demands.specs.ActionLaws.{through, choose-by, dress, noteAll, dressDid, Live, Fair, actions-dress, actions-fair}
 
 pub after-append : (es fs : List Entry) (r : Record) → after (es ++ fs) r ≡ after fs (after es r)
 after-append [] fs r = refl
@@ -45,7 +48,7 @@ acts-step false false false true v ever was h = refl
 acts-step false false false false v ever was h = refl
 
 every-not-from : (kw : ℕ) → eqb kw EVERY ≡ true → eqb kw FROM ≡ false
-every-not-from kw e = let p : kw ≡ EVERY = equal-ranks kw EVERY e in rw p
+every-not-from kw e = let p : kw ≡ EVERY = eqb-true kw EVERY e in rw p
 
 acts-same : (kw k : ℕ) (r : Record) (v : Bool) → acts kw (remembersBy kw k r) v ≡ actsByRule kw k r v
 unfolding acts
@@ -143,21 +146,21 @@ module _ (ls : Lines) where
     try-quiet : (l : Line) → Ok (Quiet r) (tryByRule s ls l k r x)
     unfolding tryByRule
     try-quiet l =
-        choose-ok (Quiet r) (triesByRule (l .keyword) k r) _ _
+        either (Ok (Quiet r)) (triesByRule (l .keyword) k r)
         (λ e. bind-ok (Quiet r) (fromGot (conditionValue s (x .vars .r) (x .vars .cells) (l .condition))) _
         (λ a q. do-quiet l (worked k (isYes (a .0)) ∷ []) (actsByRule (l .keyword) k r (isYes (a .0))) refl refl))
         (λ e. do-quiet l [] (actsByRule (l .keyword) k r false) refl refl)
 
     pub turn-quiet : (l : Line) → Ok (Quiet r) (turnByRule s ls l k r x)
     unfolding turnByRule
-    turn-quiet l = choose-ok (Quiet r) (takesByRule l k r) _ _ (λ e. try-quiet l) (λ e. (refl, refl))
+    turn-quiet l = either (Ok (Quiet r)) (takesByRule l k r) (λ e. try-quiet l) (λ e. (refl, refl))
 
     -- the turn of a line of the set
     module _ (b : k < 32) (n : k < ls .count) where
       takes-same : takesTurn s (ls .numbers) (byRank (cancelledBy ls r)) (isAutomatic r) (getD (ls .items) k noLine) k (flagged r x) ≡ takesByRule (getD (ls .items) k noLine) k r
       unfolding takesTurn
       takes-same =
-          rw (byRank-at (cancelledBy ls r) k b, byRank-at (lockedBy ls r) k b, below-true k (ls .count) n)
+          rw (byRank-at (cancelledBy ls r) k b, byRank-at (lockedBy ls r) k b, lt-ltb k (ls .count) n)
           (takes-step (isCancelled (getD (ls .items) k noLine .ids) k r) (isLocked k r) (getD (ls .items) k noLine .ids || isAutomatic r))
 
       pub turn-same : turnOf s (ls .numbers) (byRank (cancelledBy ls r)) (isAutomatic r) (getD (ls .items) k noLine) k (flagged r x)

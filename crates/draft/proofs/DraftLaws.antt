@@ -18,7 +18,7 @@ use Rattle.text.specs.Lines.{Numbered, isBlank, numbered, tokenLines}
 use Rattle.draft.specs.declared.draft.Draft.{Draft}
 use Rattle.draft.specs.declared.draft.Written.{Written}
 use Rattle.draft.specs.Row.{ended, putAt}
-use Rattle.draft.specs.Codes.{textSize, tooLong, tooManyLines, noToken, usedAbove}
+use Rattle.draft.specs.Codes.{textSize, tooLong, tooManyLines, badToken, usedAbove}
 use Rattle.draft.specs.Draft.{Drafted, noDraft, refusedAt, grownBy, keptLine, addedLine, draftFrom, textDraft}
 use Rattle.draft.proofs.LineLaws.{line-blank, line-full}
 
@@ -66,7 +66,7 @@ module _ (s : List ℕ) (d : Draft) (k : ℕ) (ts : Tokens) where
 
   -- x is the array with the tokens
   module _ (h : d .count < 32) (x : List ℕ) (e : x ≡ putAt s (d .at) (ended (ts .list))) where
-    pub added-bad : ts .good ≡ false → (y : Draft) → y ≡ refusedAt d noToken k → record { array = x; draft = y } ≡ addedLine s d k ts
+    pub added-bad : ts .good ≡ false → (y : Draft) → y ≡ refusedAt d badToken k → record { array = x; draft = y } ≡ addedLine s d k ts
     unfolding addedLine
     added-bad z y g = rw (g, e) (simp (addedLine, lt-ltb (d .count) 32 h, z))
 

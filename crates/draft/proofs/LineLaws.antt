@@ -17,7 +17,7 @@ use Rattle.text.specs.ByteLaws.{run-within}
 use Rattle.words.specs.First.{firstToken}
 use Rattle.words.specs.Tokens.{ending, withToken, tokensOf}
 use Rattle.words.specs.TokensLaws.{first-within, tokens-none, tokens-space, tokens-end, tokens-one}
-use Rattle.text.specs.Lines.{textLines, withoutComment, bodies, firstBody, boundsAt, isBlank, numbered}
+use Rattle.text.specs.Lines.{split, textLines, withoutComment, bodies, firstBody, boundsAt, isBlank, numbered}
 use Rattle.text.specs.LinesLaws.{bodies-more, bodies-last, body-part, body-within}
 
 -- ---- the tokens from place i on
@@ -67,7 +67,7 @@ module _ (b : List ℕ) (bs : List (List ℕ)) (k : ℕ) where
 
 -- behind the end of a text there are none
 none-behind : (k : ℕ) → numbered k (bodies (textLines [])) ≡ numbered k []
-unfolding numbered bodies textLines withoutComment run isBlank
+unfolding numbered bodies split withoutComment run isBlank
 none-behind k = refl
 
 module _ (k : ℕ) (t : List ℕ) where

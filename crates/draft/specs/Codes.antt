@@ -10,8 +10,8 @@ tooLong = 1
 abbrev pub tooManyLines : ℕ
 tooManyLines = 2
 
-abbrev pub noToken : ℕ
-noToken = 3
+abbrev pub badToken : ℕ
+badToken = 3
 
 abbrev pub usedAbove : ℕ
 usedAbove = 11

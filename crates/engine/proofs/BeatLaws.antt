@@ -7,20 +7,20 @@ use native.Mathlib.Omega.{arith}
 use borrow.Author.Tests.{eqb-true, lt-ltb, le-ltb}
 use lib.IntN.{ℤ}
 use lib.ListN.{length, take, drop}
+use Rattle.values.specs.Choice.{both}
 use Rattle.tokens.specs.Reading.{Answer, good, stop, _>>=_}
 use Rattle.actions.specs.declared.action.Flags.{Flags}
 use Rattle.engine.specs.declared.beat.Beaten.{Beaten}
 use Rattle.state.specs.declared.state.State.{State}
 use Rattle.set.specs.Set.{soundLines}
 use Rattle.state.specs.Sound.{unsoundCode, stateSound, isSound}
-use Rattle.engine.specs.Turn.{Entry, beatIn, Turned, turnsFrom}
+use Rattle.turns.specs.Turn.{Entry, beatIn, Turned, turnsFrom}
 use Rattle.engine.specs.Beat.{shortBuffer, wrongNumbers, bufferSize, areInputs, begun, ended, beatOf, answered, buffered}
 use Rattle.actions.specs.Held.{worldOf}
-use Rattle.actions.proofs.ActionLaws.{first-true}
 
 pub inputs-length : (lent : List ℤ) → areInputs lent ≡ true → length lent ≡ 14
 unfolding areInputs
-inputs-length lent h = eqb-true _ _ (first-true _ _ h)
+inputs-length lent h = eqb-true _ _ (both _ _ h .0)
 
 module _ (s : List ℕ) (st : State) (automatic : Bool) (word : ℕ) (lent : List ℤ) (size : ℕ) where
   -- all turns, as the beat begins

@@ -1,4 +1,3 @@
--- Laws that several proofs cite: CellLaws on cells that a loop writes, TurnLaws and BeatLaws on turns and the beat.
+-- Laws that several proofs cite: CellLaws on cells that a loop writes, BeatLaws on the beat.
 pub mod CellLaws
-pub mod TurnLaws
 pub mod BeatLaws

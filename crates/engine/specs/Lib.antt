@@ -1,5 +1,3 @@
--- What the beat's promise means, in document 01's order; TurnHeld says how the code answers a turn. Definitions only.
+-- What the beat's promise means: Cells what is lent to a beat and kept of it, Beat its checks, its answer and its orders. Definitions only.
 pub mod Cells
-pub mod Turn
-pub mod TurnHeld
 pub mod Beat

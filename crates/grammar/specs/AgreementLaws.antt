@@ -7,6 +7,7 @@ use native.Mathlib.Omega.{arith}
 use lib.Dec.{T, eqb, leb}
 use lib.ListN.{length, getD, length-append}
 use borrow.Author.Tests.{leb-true, leb-false, le-leb, lt-leb, eq-eqb, eqb-true}
+use Rattle.values.specs.Numbers.{clash}
 use Rattle.values.specs.Choice.{holds, told-so, both}
 use Rattle.tokens.specs.Token.{NUMBER, LEFT, RIGHT, IM, between, isNumber, isVariable, isNumbered, hasAxis, isAxis, isWhole, load, whole, wholeToken, axisOf, FIFO4, IN}
 use Rattle.tokens.specs.Reading.{Answer, good, stop, Read, read, ends, _>>=_, then, upTo, isIndex, indexOf, isIndexed, indexAt}
@@ -41,7 +42,7 @@ goes-on (stop c) r f g i q e h = rw e
 
 -- what a reading that went well is made of
 pub ends-read : {A : Type 0} (P : Type 0) (c q : ℕ) (a : A) → _≡_ {A = Read A} (ends c) (read a q) → P
-ends-read P c q a h = let z : _≡_ {A = ℕ} 0 1 = cc in absurd (omega arith)
+ends-read P c q a h = clash (cc)
 
 pub then-read : {A B : Type 0} (r : Read A) (f : A → ℕ → Read B) (b : B) (q : ℕ) → then r f ≡ read b q → (a : A) × (i : ℕ) × (r ≡ read a i) × (f a i ≡ read b q)
 then-read (read a i) f b q h = (a, i, refl, h)

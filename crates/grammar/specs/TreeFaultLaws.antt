@@ -12,6 +12,7 @@ use Rattle.values.specs.Choice.{both, decide}
 use Rattle.tokens.specs.Token.{between, IM, isFifo, thousandths, axisOf, EVERY, SETAL, WHEN}
 use Rattle.values.specs.Value.{top}
 use Rattle.tokens.specs.Index.{isInside}
+use Rattle.tokens.proofs.SingleFaultLaws.{none-first}
 use Rattle.grammar.specs.Tree.{Operand, number, variable, position, truth, bracket, minus, not, Product, product, Factors, noFactor, factor, Sum, sum, Terms, noTerm, term, Expression, plain, compare, row, Sums, last, next, Action, assign, assignPosition, drive, code, call, Condition, always, under, Line, line}
 use Rattle.tokens.specs.Reading.{Answer, good, stop, read, _>>=_, upTo}
 use Rattle.grammar.specs.Meaning.{operandMeaning, productMeaning, factorsMeaning, sumMeaning, termsMeaning, expressionMeaning, sumsMeaning}
@@ -21,10 +22,6 @@ use Rattle.grammar.specs.TreeFault.{Proper, wantedFault, rightFault, isR
 use Rattle.grammar.specs.AgreementLaws.{bounds}
 
 -- ---- the lower of two faults
-
-none-lower : (a : ℕ) → lower 0 a ≡ a
-unfolding lower
-none-lower a = refl
 
 -- 0 is no fault; `lower` is the least of the others
 pub lower-none : (a : ℕ) → lower a 0 ≡ a
@@ -38,8 +35,8 @@ lower-min a b h g = rw (ne-eqb a 0 (λ e. omega arith), ne-eqb b 0 (λ e. omega 
 
 -- in whatever order faults are put together, the lowest is the same
 pub lower-assoc : (a b c : ℕ) → lower (lower a b) c ≡ lower a (lower b c)
-lower-assoc zero b c = rw (none-lower b, none-lower (lower b c))
-lower-assoc (suc a) zero c = rw (lower-none (suc a), none-lower c)
+lower-assoc zero b c = rw (none-first b, none-first (lower b c))
+lower-assoc (suc a) zero c = rw (lower-none (suc a), none-first c)
 lower-assoc (suc a) (suc b) zero = rw (lower-none (suc b), lower-none (lower (suc a) (suc b)))
 lower-assoc (suc a) (suc b) (suc c) =
     let ab = lower-min (suc a) (suc b) (omega arith) (omega arith) in
@@ -60,7 +57,7 @@ unfolding idFault numberOf
 number-kept n h = decide _ (between 1 255 n) (λ t. rw (both (leb 1 n) (leb n 255) t .1)) (λ t. let z : _≡_ {A = ℕ} 7 0 = rw t at h in absurd (omega arith))
 
 lower-proper : (a b : ℕ) → Proper a → Proper b → Proper (lower a b)
-lower-proper a b (inl e) g = rw (e, none-lower b) g
+lower-proper a b (inl e) g = rw (e, none-first b) g
 lower-proper a b (inr h) (inl e) = rw (e, lower-none a) (inr h)
 lower-proper a b (inr h) (inr g) = let m = lower-min a b (omega arith) (omega arith) in inr (omega arith, omega arith)
 

@@ -23,13 +23,11 @@ use Rattle.set.specs.Set.{maxLines, isKnown, emptySet}
 use Rattle.state.specs.State.{powerOn}
 use Rattle.text.specs.Byte.{run}
 use Rattle.words.specs.Tokens.{Tokens, tokensOf}
-use Rattle.text.specs.Lines.{Numbered, tokenLines, numbered, bodies, textLines, withoutComment, isBlank}
+use Rattle.text.specs.Lines.{Numbered, tokenLines, numbered, bodies, split, withoutComment, isBlank}
 use Rattle.reader.specs.declared.load.Loaded.{Loaded}
 use Rattle.draft.specs.Row.{Row, ended, byNumber, setOf, numbersOf}
 use Rattle.reader.specs.Load.{Outcome, taken, refused, numberIn, tokensFault, faultBelow, rowOf, rowsFrom, firstUnknown, named, outcome, loadAnswer, loadSet}
 use Rattle.draft.specs.Codes.{textSize, tooLong, tooManyLines, notInSet}
-use Rattle.reader.specs.DraftLoad.{workedAnswer, workedSet}
-use Rattle.reader.specs.DraftLaws.{worked-answer, worked-set}
 use Rattle.reader.specs.RisingLaws.{next-row}
 use Rattle.reader.specs.RoomLaws.{roomOf, text-room}
 
@@ -69,12 +67,8 @@ load-power-on t = go (outcome t)
 
 -- A TEXT WITHOUT A BYTE IS TAKEN, with no line
 pub empty-taken : outcome [] ≡ taken []
-unfolding outcome named rowsFrom firstUnknown tokenLines numbered bodies textLines withoutComment isBlank run
+unfolding outcome named rowsFrom firstUnknown tokenLines numbered bodies split withoutComment isBlank run
 empty-taken = refl
-
--- what is promised by how the code works is loading
-pub load-means : (t : List ℕ) (x : Loaded) (s : List ℕ) → x ≡ workedAnswer t → s ≡ workedSet t → (x ≡ loadAnswer t) × (s ≡ loadSet t)
-load-means t x s p q = (p ∙ worked-answer t, q ∙ worked-set t)
 
 -- any two results that the promise of loading allows are equal
 pub load-unique : (t : List ℕ) (x y : Loaded) (s u : List ℕ) → x ≡ loadAnswer t → s ≡ loadSet t → y ≡ loadAnswer t → u ≡ loadSet t → (x ≡ y) × (s ≡ u)

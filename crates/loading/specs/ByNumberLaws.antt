@@ -10,15 +10,11 @@ use borrow.Author.Tests.{lt-ltb}
 use Rattle.values.specs.Choice.{decide}
 use Rattle.set.specs.Set.{maxLines}
 use Rattle.draft.specs.Row.{Row, numbersOf, total, leastAbove, noRow, rising, byNumber}
-use Rattle.reader.specs.RisingLaws.{Absent, Apart, Next, Found, sumAbove, sum-next, sumOf, sum-all, countAbove, count-all, least-found}
+use Rattle.reader.specs.RisingLaws.{Apart, absent-at, Next, Found, sumAbove, sum-next, sumOf, sum-all, countAbove, count-all, least-found}
+use Rattle.reader.specs.DraftLaws.{rising-length}
 use Rattle.loading.specs.TakenLaws.{All}
 
 -- ---- rows that are apart
-
-absent-at : (rs : List Row) (n j : ℕ) → Absent n rs → j < length rs → getD rs j noRow .number ≡ n → ⊥
-absent-at [] n j h l e = omega arith
-absent-at (r ∷ rs) n zero h l e = h .0 e
-absent-at (r ∷ rs) n (suc j) h l e = absent-at rs n j (h .1) (omega arith) e
 
 -- two rows with one number are one
 pub apart-same : (rs : List Row) (i j : ℕ) → Apart rs → i < length rs → j < length rs → getD rs i noRow .number ≡ getD rs j noRow .number → i ≡ j
@@ -100,11 +96,6 @@ module _ (rs : List Row) (few : length rs ≤ maxLines) (apart : Apart rs) where
   fewer : (m n : ℕ) → countAbove n rs ≡ suc m → countAbove (rowAfter n .number) rs ≡ m
   fewer m n e = let s = sum-next (λ r. 1) rs n (at n) apart (found m n e) in omega arith
 
-  rising-length : (m n : ℕ) → length (rising rs m n) ≡ m
-  unfolding rising
-  rising-length zero n = refl
-  rising-length (suc m) n = ap suc (rising-length m (rowAfter n .number))
-
   rising-rises : (m n : ℕ) → countAbove n rs ≡ m → Rises n (rising rs m n)
   unfolding rising
   rising-rises zero n e = tt
@@ -139,7 +130,7 @@ module _ (rs : List Row) (few : length rs ≤ maxLines) (apart : Apart rs) where
 
   -- THE LINES BY NUMBER: as many,
   pub by-length : length (byNumber rs) ≡ length rs
-  by-length = rising-length (length rs) 0
+  by-length = rising-length rs (length rs) 0
 
   -- rising from 1 on,
   pub by-rises : Rises 0 (byNumber rs)

@@ -9,7 +9,7 @@ use lib.ListN.{length, getD, drop, length-append, length-map, List·getD-map}
 use borrow.Author.Tests.{leb-true, leb-false, le-leb, ne-eqb}
 use Rattle.values.specs.Choice.{decide, chosen}
 use Rattle.values.specs.Numbers.{clash}
-use Rattle.tokens.specs.Token.{END, OPEN, CLOSE, NUMBER, LOCK, UNLOCK, isNumber, whole, setSize}
+use Rattle.tokens.specs.Token.{END, OPEN, CLOSE, NUMBER, LOCK, UNLOCK, isNumber, whole, setSize, AllReal}
 use Rattle.grammar.specs.Tree.{Line, line, lineTokens}
 use Rattle.code.specs.declared.check.Line.{Line as Told}
 use Rattle.grammar.specs.Meaning.{Stands}
@@ -17,10 +17,9 @@ use Rattle.tokens.specs.SingleFault.{tooDeep, bracketsOpen, opensTooMany}
 use Rattle.code.specs.Fault.{lineAt}
 use Rattle.grammar.specs.TreeFault.{lineFault, partsFrom}
 use Rattle.grammar.specs.AgreementLaws.{beyond}
+use Rattle.grammar.specs.LineTokens.{front, front-end, front-closed, same-row}
 use Rattle.grammar.specs.AgreementLine.{line-found, line-fault, line-parts}
 use Rattle.set.specs.Set.{isKnown, isLock, namesKnown}
-use Rattle.words.specs.TokensLaws.{AllReal}
-use Rattle.reader.specs.EndLaws.{front, front-end, front-closed, same-row}
 use Rattle.reader.specs.PlaceLaws.{stands-self, line-same, faultless-closed, names-same}
 use Rattle.draft.specs.Row.{plain, ended}
 use Rattle.loading.specs.Plain.{plainTree}

@@ -9,7 +9,8 @@ use Rattle.tokens.specs.Token.{END, setSize}
 use Rattle.grammar.specs.Meaning.{Stands}
 use Rattle.set.specs.Set.{maxLines, emptySet}
 use Rattle.reader.specs.PlaceLaws.{stands-same}
-use Rattle.reader.specs.PutLaws.{put-length, put-before, put-stands}
+use Rattle.draft.specs.PutLaws.{put-length, put-before}
+use Rattle.reader.specs.StandLaws.{put-stands}
 use Rattle.draft.specs.Row.{Row, ended, total, plain, putAt, placed, firstPlace, setOf}
 
 -- ---- lines that are placed

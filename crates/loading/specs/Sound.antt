@@ -13,11 +13,11 @@ use Rattle.state.specs.State.{powerOn}
 use Rattle.state.specs.Sound.{isSound}
 use Rattle.soundness.specs.GoodAnswers.{Not22}
 use Rattle.soundness.specs.CellLaws.{power-on}
-use Rattle.soundness.specs.SoundLaws.{Call, lock, unlock, cancel, reset, beat, codeAfter, afterAll, Whole, call-keeps, call-not22, power-on-whole, always-sound, never-22}
-use Rattle.demands.specs.Run.{Now, Reply, step, runFrom, run, doBeat, doLock, doUnlock, doCancel, doReset}
-use Rattle.demands.specs.Run.{Call as Asked}
-use Rattle.draft.specs.Row.{Row, byNumber}
-use Rattle.reader.specs.Load.{taken, refused, outcome, loadAnswer, loadSet}
+use Rattle.soundness.specs.Call.{Call, doBeat, doLock, doUnlock, doCancel, doReset, codeAfter, afterAll}
+use Rattle.soundness.specs.SoundLaws.{Whole, call-keeps, call-not22, power-on-whole, always-sound, never-22}
+use Rattle.demands.specs.Run.{Now, Reply, step, runFrom, run}
+use Rattle.draft.specs.Row.{byNumber}
+use Rattle.reader.specs.Load.{refused, loadAnswer, loadSet}
 use Rattle.loading.specs.Answers.{taken-answer, refused-empty, by-outcome, load-power-on}
 use Rattle.loading.specs.PlacedLaws.{set-length, empty-length}
 use Rattle.loading.specs.LoadedLaws.{taken-read}
@@ -31,17 +31,9 @@ load-lines-sound t =
     (λ rs h. rw (taken-answer t rs h .2) (taken-read t rs h .sound))
     (λ c k h. rw (refused-empty t c k h) empty-sound)
 
--- A TEXT THAT IS TAKEN gives a set that is sound with the state of power-on
-pub taken-sound : (t : List ℕ) (rs : List Row) → outcome t ≡ taken rs → isSound (loadSet t) powerOn ≡ true
-taken-sound t rs h = power-on (loadSet t) (load-lines-sound t)
-
--- AND SO DOES EVERY TEXT: one that is refused gives the empty set
+-- EVERY TEXT gives a set that is sound with the state of power-on: one that is refused gives the empty set
 pub load-sound : (t : List ℕ) → isSound (loadSet t) powerOn ≡ true
 load-sound t = power-on (loadSet t) (load-lines-sound t)
-
--- in the words of the answer: what loading returns is sound
-pub loaded-sound : (t : List ℕ) → isSound (loadSet t) (loadAnswer t .state) ≡ true
-loaded-sound t = rw (load-power-on t) (load-sound t)
 
 -- a loaded set fills its array
 pub load-size : (t : List ℕ) → length (loadSet t) ≡ setSize
@@ -63,25 +55,25 @@ load-never-22 t cs c = let n = load-size t in rw (load-power-on t) (never-22 (lo
 -- ---- the same of the run that demand 3 speaks of
 
 -- no reply of some is a 22
-abbrev pub NoneIs22 : List (Asked × Reply) → Type 0
+abbrev pub NoneIs22 : List (Call × Reply) → Type 0
 NoneIs22 [] = Unit {0}
 NoneIs22 (x ∷ xs) = Not22 (x .1 .code) × NoneIs22 xs
 
 module _ (s : List ℕ) (size : length s ≤ setSize) where
   -- a call of a run keeps the state sound, and adds no 22
-  step-keeps : (c : Asked) (n : Now State) → Whole s (n .kept) → NoneIs22 (n .told) → Whole s (step s c n .kept) × NoneIs22 (step s c n .told)
+  step-keeps : (c : Call) (n : Now State) → Whole s (n .kept) → NoneIs22 (n .told) → Whole s (step s c n .kept) × NoneIs22 (step s c n .told)
   unfolding step
-  step-keeps (doBeat m word lent b) n w h = (call-keeps s (n .kept) (beat m word lent b) size w, (call-not22 s (n .kept) (beat m word lent b) size w, h))
-  step-keeps (doLock k) n w h = (call-keeps s (n .kept) (lock k) size w, (call-not22 s (n .kept) (lock k) size w, h))
-  step-keeps (doUnlock k) n w h = (call-keeps s (n .kept) (unlock k) size w, (call-not22 s (n .kept) (unlock k) size w, h))
-  step-keeps (doCancel k) n w h = (call-keeps s (n .kept) (cancel k) size w, (call-not22 s (n .kept) (cancel k) size w, h))
-  step-keeps doReset n w h = (call-keeps s (n .kept) reset size w, (call-not22 s (n .kept) reset size w, h))
+  step-keeps (doBeat m word lent b) n w h = (call-keeps s (n .kept) (doBeat m word lent b) size w, (call-not22 s (n .kept) (doBeat m word lent b) size w, h))
+  step-keeps (doLock k) n w h = (call-keeps s (n .kept) (doLock k) size w, (call-not22 s (n .kept) (doLock k) size w, h))
+  step-keeps (doUnlock k) n w h = (call-keeps s (n .kept) (doUnlock k) size w, (call-not22 s (n .kept) (doUnlock k) size w, h))
+  step-keeps (doCancel k) n w h = (call-keeps s (n .kept) (doCancel k) size w, (call-not22 s (n .kept) (doCancel k) size w, h))
+  step-keeps doReset n w h = (call-keeps s (n .kept) doReset size w, (call-not22 s (n .kept) doReset size w, h))
 
-  run-keeps : (cs : List Asked) (n : Now State) → Whole s (n .kept) → NoneIs22 (n .told) → NoneIs22 (runFrom s cs n .told)
+  run-keeps : (cs : List Call) (n : Now State) → Whole s (n .kept) → NoneIs22 (n .told) → NoneIs22 (runFrom s cs n .told)
   unfolding runFrom
   run-keeps [] n w h = h
   run-keeps (c ∷ cs) n w h = let (a, b) = step-keeps c n w h in run-keeps cs (step s c n) a b
 
 -- IN EVERY RUN OVER A LOADED SET no reply is a 22
-pub load-run-never-22 : (t : List ℕ) (cs : List Asked) → NoneIs22 (run (loadSet t) cs .told)
+pub load-run-never-22 : (t : List ℕ) (cs : List Call) → NoneIs22 (run (loadSet t) cs .told)
 load-run-never-22 t cs = let n = load-size t in run-keeps (loadSet t) (omega arith) cs _ (power-on-whole (loadSet t) (load-lines-sound t)) tt

@@ -60,7 +60,7 @@ arranged-same rs d h a few (suc m) n k at s c =
     let e = sum-next (λ r. 1) rs n j a f in
     arranged-next d m n k at s r t x ∙ arranged-same rs d h a few m (r .number) (k + 1) _ _ (omega arith)
 
-rising-length : (rs : List Row) (m n : ℕ) → length (rising rs m n) ≡ m
+pub rising-length : (rs : List Row) (m n : ℕ) → length (rising rs m n) ≡ m
 unfolding rising
 rising-length rs zero n = refl
 rising-length rs (suc m) n = ap suc (rising-length rs m _)

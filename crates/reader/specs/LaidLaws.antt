@@ -11,6 +11,7 @@ use borrow.Author.Tests.{lt-ltb}
 use Rattle.values.specs.Choice.{decide}
 use Rattle.tokens.specs.Token.{setSize}
 use Rattle.grammar.specs.Meaning.{Stands}
+use Rattle.grammar.specs.LineTokens.{Closed}
 use Rattle.code.specs.Fault.{lineAt}
 use Rattle.set.specs.Set.{maxLines, isKnown}
 use Rattle.words.specs.Tokens.{Tokens, tokensOf}
@@ -18,12 +19,12 @@ use Rattle.words.specs.TokensLaws.{tokens-real}
 use Rattle.text.specs.Lines.{Numbered}
 use Rattle.draft.specs.declared.draft.Draft.{Draft}
 use Rattle.draft.specs.Row.{Row, ended, numbersOf, total, noRow, putAt, firstPlace}
-use Rattle.draft.specs.Codes.{noToken, usedAbove}
+use Rattle.draft.specs.Codes.{badToken, usedAbove}
 use Rattle.reader.specs.Load.{numberIn, tokensFault, faultBelow, Outcome, taken, refused, rowOf, rowsFrom}
 use Rattle.draft.specs.Draft.{Drafted, refusedAt, grownBy, keptLine, addedLine, draftFrom, lineIn}
-use Rattle.reader.specs.EndLaws.{Closed}
 use Rattle.reader.specs.PlaceLaws.{stands-self, stands-same, up-to-end, line-same, faultless-closed}
-use Rattle.reader.specs.PutLaws.{put-length, put-before, put-stands}
+use Rattle.draft.specs.PutLaws.{put-length, put-before}
+use Rattle.reader.specs.StandLaws.{put-stands}
 use Rattle.reader.specs.RisingLaws.{number-at, numbers-length}
 use Rattle.reader.specs.RoomLaws.{roomOf, total-last}
 
@@ -119,12 +120,12 @@ added-good : (s : List ℕ) (d : Draft) (k : ℕ) (ts : Tokens) → d .count < m
 unfolding addedLine
 added-good s d k ts l g = rw (lt-ltb (d .count) maxLines l, addedLine) (rw g)
 
-added-bad : (s : List ℕ) (d : Draft) (k : ℕ) (ts : Tokens) → d .count < maxLines → ts .good ≡ false → addedLine s d k ts ≡ record { array = putAt s (d .at) (ended (ts .list)); draft = refusedAt d noToken k }
+added-bad : (s : List ℕ) (d : Draft) (k : ℕ) (ts : Tokens) → d .count < maxLines → ts .good ≡ false → addedLine s d k ts ≡ record { array = putAt s (d .at) (ended (ts .list)); draft = refusedAt d badToken k }
 unfolding addedLine
 added-bad s d k ts l g = rw (lt-ltb (d .count) maxLines l, addedLine) (rw g)
 
 -- and those of its fault
-fault-bad : (rs : List Row) (ts : Tokens) → ts .good ≡ false → faultBelow rs ts ≡ noToken
+fault-bad : (rs : List Row) (ts : Tokens) → ts .good ≡ false → faultBelow rs ts ≡ badToken
 unfolding faultBelow
 fault-bad rs ts g = rw g
 
@@ -211,7 +212,7 @@ module _ (rs : List Row) (d : Drafted) (l : Numbered) (h : Holds rs d) (few : le
       let room : d .draft .count < maxLines = omega arith in
       decide _ (tokens .good)
       (λ g. good-added g (added-good (d .array) (d .draft) (l .place) tokens room g) (lineAt (ended (tokens .list)) 0 .fault) refl)
-      (λ g. by-fault noToken _ (fault-bad rs tokens g) (added-bad (d .array) (d .draft) (l .place) tokens room g) (refl, refl))
+      (λ g. by-fault badToken _ (fault-bad rs tokens g) (added-bad (d .array) (d .draft) (l .place) tokens room g) (refl, refl))
     where
       good-added : tokens .good ≡ true → addedLine (d .array) (d .draft) (l .place) tokens ≡ keptLine put (d .draft) (l .place) (at + length (tokens .list) + 1) →
           (f : ℕ) → lineAt (ended (tokens .list)) 0 .fault ≡ f → Added rs l (faultBelow rs tokens) (addedLine (d .array) (d .draft) (l .place) tokens)

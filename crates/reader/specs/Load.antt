@@ -12,7 +12,7 @@ use Rattle.words.specs.Tokens.{Tokens, tokensOf}
 use Rattle.text.specs.Lines.{Numbered, tokenLines}
 use Rattle.reader.specs.declared.load.Loaded.{Loaded}
 use Rattle.draft.specs.Row.{Row, ended, numbersOf, byNumber, setOf}
-use Rattle.draft.specs.Codes.{noToken, notInSet, textSize, tooLong, tooManyLines, usedAbove}
+use Rattle.draft.specs.Codes.{badToken, notInSet, textSize, tooLong, tooManyLines, usedAbove}
 
 -- ---- a line: its lowest fault of 3 to 11
 
@@ -30,7 +30,7 @@ tokensFault rs ts =
 
 -- 3 to 11
 unfoldable pub faultBelow : List Row → Tokens → ℕ
-faultBelow rs ts = elim (ts .good) [ true ↦ tokensFault rs (ts .list) | false ↦ noToken ]
+faultBelow rs ts = elim (ts .good) [ true ↦ tokensFault rs (ts .list) | false ↦ badToken ]
 
 -- ---- a text
 

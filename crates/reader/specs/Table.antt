@@ -16,7 +16,7 @@ use Rattle.words.specs.Word.{wordToken}
 use Rattle.text.specs.Number.{written, isFit, numberToken}
 use Rattle.words.specs.First.{wordFirst, behindPoint, numberWith, numberFirst, signFirst, firstToken}
 use Rattle.words.specs.Tokens.{tokensFrom, tokensOf}
-use Rattle.text.specs.Lines.{textLines, withoutReturn, withoutComment, bodies, isBlank, numbered, tokenLines}
+use Rattle.text.specs.Lines.{split, withoutReturn, withoutComment, bodies, isBlank, numbered, tokenLines}
 use Rattle.draft.specs.Row.{numbersOf, leastFrom, leastAbove, rising, plain, placed, setOf}
 use Rattle.reader.specs.Load.{tokensFault, faultBelow, rowsFrom, firstUnknown, named, outcome, loadAnswer, loadSet}
 
@@ -28,5 +28,5 @@ tried :
     map told ("" ∷ "ID=1 EVERY $A_IN[1]==1 DO $AC_MARKER[0]=$AC_MARKER[0]+1 M=7\n" ∷ "ID=1 DO $R[99]=1" ∷ "ID=1 DO $R[100]=1" ∷ "\n;c\nID=1 WHEN $R[1]>1 AND $R[2]>1 DO $R[1]=1\r\n"
     ∷ "ID=1 WHEN ((((((((TRUE)))))))) DO M=1" ∷ "ID=1 WHEN (((((((((TRUE))))))))) DO M=1" ∷ "ID=2 DO $R[1]=1\nID=1 DO LOCK(2)\nID=2 DO LOCK(3)" ∷ "ID=2 DO $R[1]=1\nID=1 DO LOCK(2) UNLOCK(7)" ∷ "ID=1 DO $R[1]=1$R[2]=2.50" ∷ "ID=1DO $R[1]=1" ∷ [])
     ≡ (0, 0) ∷ (0, 0) ∷ (0, 0) ∷ (8, 1) ∷ (5, 3) ∷ (0, 0) ∷ (4, 1) ∷ (11, 3) ∷ (12, 2) ∷ (0, 0) ∷ (3, 1) ∷ []
-unfolding isIndex indexOf isIndexed indexAt joined more readProduct readSum readRest readExpression readVariable operandFrom readOperand readClose readTruth sumAt expressionAt isInside lower opensTooMany wantingFault numberFault readFault joinSights sight isWritable writeFault codeFault idFault callFault countFault numberOf isRemoval assignedAt assignmentAt commandAt actionAt actionsAt lineParts bodyAt restAt lineAt rankIn namesKnown emptySet powerOn run wordToken written isFit numberToken wordFirst behindPoint numberWith numberFirst signFirst firstToken tokensFrom tokensOf textLines withoutReturn withoutComment bodies isBlank numbered tokenLines numbersOf leastFrom leastAbove rising plain placed setOf tokensFault faultBelow rowsFrom firstUnknown named outcome loadAnswer loadSet
+unfolding isIndex indexOf isIndexed indexAt joined more readProduct readSum readRest readExpression readVariable operandFrom readOperand readClose readTruth sumAt expressionAt isInside lower opensTooMany wantingFault numberFault readFault joinSights sight isWritable writeFault codeFault idFault callFault countFault numberOf isRemoval assignedAt assignmentAt commandAt actionAt actionsAt lineParts bodyAt restAt lineAt rankIn namesKnown emptySet powerOn run wordToken written isFit numberToken wordFirst behindPoint numberWith numberFirst signFirst firstToken tokensFrom tokensOf split withoutReturn withoutComment bodies isBlank numbered tokenLines numbersOf leastFrom leastAbove rising plain placed setOf tokensFault faultBelow rowsFrom firstUnknown named outcome loadAnswer loadSet
 tried = refl

@@ -4,21 +4,21 @@ use mathlib.Core.Bool.{Bool, true, false, not, _&&_, and-false}
 use mathlib.Core.List.{List, [], _∷_, _++_, append-assoc}
 use mathlib.Core.Logic.{_⊎_, inl, inr}
 use mathlib.Core.Option.{none, some}
-use Prim.Native.Nat.{ℕ, zero, suc, _+_, _*_, _-_, _/_, _%_, _≤_}
+use Prim.Native.Nat.{ℕ, zero, suc, _+_, _*_, _-_, _/_, _%_, _≤_, _<_}
 use native.Mathlib.Omega.{arith}
 use lib.Dec.{eqb, ltb}
 use lib.ListN.{length, getD, drop, length-append}
-use borrow.Author.Tests.{eqb-true, ne-eqb}
+use borrow.Author.Tests.{eqb-true, eq-eqb, ne-eqb}
 use Rattle.values.specs.Choice.{decide, either}
 use Rattle.values.specs.Numbers.{clash}
 use Rattle.engine.specs.declared.beat.Beaten.{Beaten}
 use Rattle.text.specs.Byte.{bytes, LF, SPACE}
 use Rattle.words.specs.Word.{sameBytes}
-use Rattle.text.specs.Lines.{before, textLines}
+use Rattle.text.specs.Lines.{before, split, textLines}
 use Rattle.reader.specs.Load.{loadAnswer, loadSet}
 use Rattle.transcript.specs.Input.{inputOf}
-use Rattle.beat_lines.specs.BeatLine.{Lent, startOf, fields, lineLent}
-use Rattle.transcript.specs.Output.{digitsUp, decimal, signedText, fourOf, codeLine, orderLine, orderLines, errorLine, endLine}
+use Rattle.beat_lines.specs.BeatLine.{Lent, fields, lineLent}
+use Rattle.printing.specs.Output.{digitsUp, decimal, signedText, fourOf, codeLine, orderLine, orderLines, errorLine, endLine}
 use Rattle.transcript.specs.Run.{maxBeats, Totals, noTotals, ended, oneIf, counted, answerOf, bufferOf, beatText, beatsText, synrun}
 use Rattle.transcript.specs.RoomLaws.{byLent}
 use Rattle.sessions.specs.SessionLaws.{beats-over, beats-some, loaded-zero}
@@ -80,25 +80,21 @@ signed-above : (n : ℕ) → Above 33 (signedText n)
 unfolding signedText
 signed-above n = either (Above 33) (ltb n 2147483648) (λ e. decimal-above n) (λ e. (omega arith, decimal-above (4294967296 - n)))
 
+-- a part, the byte that ends it and the rest
+part-first : (e n : ℕ) (l rest : List ℕ) → e < n → Above n l → split e (l ++ (e ∷ rest)) ≡ l ∷ split e rest
+unfolding split
+part-first e n [] rest g h = rw (split, eq-eqb e e refl)
+part-first e n (b ∷ bs) rest g h =
+    let u = h .0 in
+    either (λ (y : List (List ℕ)). y ≡ (b ∷ bs) ∷ split e rest) (eqb b e) (λ q. absurd (omega (arith, eqb-true b e q))) (λ q. ap (before b) (part-first e n bs rest g (h .1)))
+
 -- a field, a space and the rest of the line
 field-first : (f rest : List ℕ) → Above 33 f → fields (f ++ (SPACE ∷ rest)) ≡ f ∷ fields rest
-unfolding fields
-field-first [] rest h = refl
-field-first (b ∷ bs) rest h =
-    let u = h .0 in
-    either (λ (y : List (List ℕ)). y ≡ (b ∷ bs) ∷ fields rest) (eqb b SPACE) (λ e. absurd (omega (arith, eqb-true b SPACE e))) (λ e. ap (startOf b) (field-first bs rest (h .1)))
-
--- a line, its LF and the rest
-line-first : (l rest : List ℕ) → Above 11 l → textLines (l ++ (LF ∷ rest)) ≡ l ∷ textLines rest
-unfolding textLines
-line-first [] rest h = refl
-line-first (b ∷ bs) rest h =
-    let u = h .0 in
-    either (λ (y : List (List ℕ)). y ≡ (b ∷ bs) ∷ textLines rest) (eqb b LF) (λ e. absurd (omega (arith, eqb-true b LF e))) (λ e. ap (before b) (line-first bs rest (h .1)))
+field-first f rest h = part-first SPACE 33 f rest (omega arith) h
 
 count-first : (p : List ℕ → Bool) (l rest : List ℕ) → Above 11 l → linesIn p (l ++ (LF ∷ rest)) ≡ one (p l) + linesIn p rest
 unfolding count
-count-first p l rest h = rw (line-first l rest h)
+count-first p l rest h = rw (part-first LF 11 l rest (omega arith) h)
 
 -- ---- a C line
 
@@ -242,7 +238,7 @@ abbrev errorFrom : Totals → List ℕ → List ℕ
 errorFrom n shown = errorLine (n .beats + linesIn isBeat shown + 1)
 
 nothing-counted : (n : Totals) → (n .beats + linesIn isBeat [] ≡ n .beats) × (n .coded + linesIn isCoded [] ≡ n .coded) × (n .orders + linesIn isOrder [] ≡ n .orders)
-unfolding count textLines fields
+unfolding count split
 nothing-counted n = (omega arith, omega arith, omega arith)
 
 end-now : (n : Totals) → ended n ≡ endFrom n []

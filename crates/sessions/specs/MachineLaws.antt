@@ -2,17 +2,19 @@
 use mathlib.Core.Path.{_≡_, refl, sym, ap, _∙_}
 use mathlib.Core.Bool.{true, false, _||_}
 use mathlib.Core.List.{List, [], _∷_, _++_, append-assoc}
-use Prim.Native.Nat.{ℕ, suc, _+_, min, _≤_}
+use Prim.Native.Nat.{ℕ, _+_, min, _≤_}
 use native.Mathlib.Omega.{arith}
 use lib.Dec.{eqb, leb}
-use lib.ListN.{length, take, set, length-append, length-set}
+use lib.ListN.{length, take, length-append, length-set}
 use lib.Seq.{set-out}
 use borrow.Author.Tests.{leb-true, leb-false, eqb-true}
 use Rattle.values.specs.Choice.{decide, either, eitherBoth}
 use Rattle.values.specs.Numbers.{clash}
 use Rattle.text.specs.Byte.{LF}
-use Rattle.text.specs.Lines.{before, textLines}
+use Rattle.text.specs.Lines.{before, split, textLines}
+use Rattle.text.specs.LinesLaws.{split-some}
 use Rattle.draft.specs.Row.{putAt}
+use Rattle.draft.specs.PutLaws.{put-length, put-join}
 use Rattle.transcript.specs.declared.session.Place.{Place}
 use Rattle.beat_lines.specs.declared.beat_line.Reading.{Reading}
 use Rattle.reader.specs.Load.{loadAnswer}
@@ -33,14 +35,6 @@ unfolding starOn
 star-append s [] k = refl
 star-append s (b ∷ bs) k = star-append (starAfter s b) bs k
 
-put-append : (s : List ℕ) (p : ℕ) (l k : List ℕ) → putAt s p (l ++ k) ≡ putAt (putAt s p l) (p + length l) k
-put-append s p [] k = let e : p + 0 ≡ p = omega arith in rw e
-put-append s p (b ∷ bs) k = let e : p + suc (length bs) ≡ p + 1 + length bs = omega arith in rw e (put-append (set s p b) (p + 1) bs k)
-
-pub put-length : (s : List ℕ) (p : ℕ) (l : List ℕ) → length (putAt s p l) ≡ length s
-put-length s p [] = refl
-put-length s p (b ∷ bs) = put-length (set s p b) (p + 1) bs ∙ length-set s p b
-
 -- what would lie past the end is left off
 pub put-out : (s : List ℕ) (p : ℕ) (l : List ℕ) → length s ≤ p → putAt s p l ≡ s
 put-out s p [] h = refl
@@ -59,10 +53,10 @@ Held m = length (m .text) ≤ keptSize
 pub text-append : (s : List ℕ) (p : ℕ) (l k : List ℕ) → length s ≤ keptSize → putAt s p (l ++ k) ≡ putAt (putAt s p l) (min keptSize (p + length l)) k
 text-append s p l k h =
     decide (putAt s p (l ++ k) ≡ putAt (putAt s p l) (min keptSize (p + length l)) k) (leb (p + length l) keptSize)
-    (λ e. let i = leb-true (p + length l) keptSize e in let q : min keptSize (p + length l) ≡ p + length l = omega arith in rw q (put-append s p l k))
+    (λ e. let i = leb-true (p + length l) keptSize e in let q : min keptSize (p + length l) ≡ p + length l = omega arith in rw q (put-join l k s p (p + length l) refl))
     (λ e. let i = leb-false (p + length l) keptSize e in
-    let n = put-length s p l in
-    put-append s p l k ∙ put-out (putAt s p l) (p + length l) k (omega arith) ∙ sym (put-out (putAt s p l) (min keptSize (p + length l)) k (omega arith)))
+    let n = put-length l s p in
+    put-join l k s p (p + length l) refl ∙ put-out (putAt s p l) (p + length l) k (omega arith) ∙ sym (put-out (putAt s p l) (min keptSize (p + length l)) k (omega arith)))
 
 -- by the phase
 abbrev textOn : Machine → List ℕ → Machine
@@ -114,7 +108,7 @@ pub chunk-held : (m : Machine) (l : List ℕ) → length (chunk m l .text) ≡ l
 unfolding chunk
 chunk-held m l =
     let P : Machine → Type 0 = λ y. length (y .text) ≡ length (m .text) in
-    either P (eqb (m .session .phase) TEXT) (λ e. put-length (m .text) (m .session .place .size) l) λ e.
+    either P (eqb (m .session .phase) TEXT) (λ e. put-length l (m .text) (m .session .place .size)) λ e.
     either P (eqb (m .session .phase) BEATS) (λ g. refl) (λ g. refl)
 
 pub line-held : (m : Machine) → length (lineEnd m .machine .text) ≡ length (m .text)
@@ -140,18 +134,9 @@ joinLines (l ∷ []) [] = l ∷ []
 joinLines (l ∷ []) (y ∷ ys) = (l ++ y) ∷ ys
 joinLines (l ∷ k ∷ ls) ys = l ∷ joinLines (k ∷ ls) ys
 
--- there is always a line
+-- there is a line
 abbrev Some : List (List ℕ) → Type 0
 Some ls = ls ≡ [] → ⊥
-
-before-some : (b : ℕ) (ls : List (List ℕ)) → Some (before b ls)
-before-some b [] h = clash (cc)
-before-some b (l ∷ ls) h = clash (cc)
-
-pub lines-some : (t : List ℕ) → Some (textLines t)
-unfolding textLines
-lines-some [] h = clash (cc)
-lines-some (b ∷ bs) h = either (λ (y : List (List ℕ)). Some y) (eqb b LF) (λ e g. clash (cc)) (λ e. before-some b (textLines bs)) h
 
 join-nil : (ys : List (List ℕ)) → Some ys → joinLines ([] ∷ []) ys ≡ ys
 unfolding joinLines
@@ -171,12 +156,12 @@ join-before b (l ∷ []) (y ∷ ys) h g = refl
 join-before b (l ∷ k ∷ ls) ys h g = refl
 
 lines-append : (a b : List ℕ) → textLines (a ++ b) ≡ joinLines (textLines a) (textLines b)
-unfolding textLines
-lines-append [] b = sym (join-nil (textLines b) (lines-some b))
+unfolding split
+lines-append [] b = sym (join-nil (textLines b) (split-some LF b))
 lines-append (c ∷ cs) b =
     eitherBoth (λ (x y : List (List ℕ)). x ≡ joinLines y (textLines b)) (eqb c LF)
-    (λ e. ap (λ (y : List (List ℕ)). [] ∷ y) (lines-append cs b) ∙ sym (join-line [] (textLines cs) (textLines b) (lines-some cs)))
-    (λ e. ap (before c) (lines-append cs b) ∙ sym (join-before c (textLines cs) (textLines b) (lines-some cs) (lines-some b)))
+    (λ e. ap (λ (y : List (List ℕ)). [] ∷ y) (lines-append cs b) ∙ sym (join-line [] (textLines cs) (textLines b) (split-some LF cs)))
+    (λ e. ap (before c) (lines-append cs b) ∙ sym (join-before c (textLines cs) (textLines b) (split-some LF cs) (split-some LF b)))
 
 join-some : (ls ys : List (List ℕ)) → Some ls → Some (joinLines ls ys)
 unfolding joinLines
@@ -216,7 +201,7 @@ fed-join (l ∷ k ∷ ls) ys m h g t =
 -- input in two pieces is fed as the whole
 pub pieces : (m : Machine) (a b : List ℕ) → Held m →
     fedLines m (textLines (a ++ b)) ≡ behind (fedLines m (textLines a) .output) (fedLines (fedLines m (textLines a) .machine) (textLines b))
-pieces m a b h = rw (lines-append a b) (fed-join (textLines a) (textLines b) m (lines-some a) (lines-some b) h)
+pieces m a b h = rw (lines-append a b) (fed-join (textLines a) (textLines b) m (split-some LF a) (split-some LF b) h)
 
 -- the text is held throughout
 pub fed-held : (ls : List (List ℕ)) (m : Machine) → length (fedLines m ls .machine .text) ≡ length (m .text)

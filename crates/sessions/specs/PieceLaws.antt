@@ -1,6 +1,6 @@
 -- Whatever the pieces of the input, the bytes handed over, in order, are those of the definition. Assumes nothing.
 use mathlib.Core.Path.{_≡_, refl, sym, ap, _∙_}
-use mathlib.Core.Bool.{true, false, not}
+use mathlib.Core.Bool.{false}
 use mathlib.Core.List.{List, [], _∷_, _++_, append-assoc, append-nil}
 use mathlib.Core.Logic.{_⊎_, inl, inr}
 use Prim.Native.Nat.{ℕ, zero, suc, _+_, min, _≤_, _<_}
@@ -12,13 +12,15 @@ use borrow.Author.Tests.{leb-true, leb-false, ltb-true, ltb-false}
 use Rattle.values.specs.Choice.{decide, refused, either}
 use Rattle.values.specs.Numbers.{clash}
 use Rattle.text.specs.Byte.{LF, inLine, run}
-use Rattle.text.specs.Lines.{before, textLines}
+use Rattle.text.specs.ByteLaws.{run-within}
+use Rattle.text.specs.Lines.{before, split, textLines}
+use Rattle.text.specs.LinesLaws.{line-end, line-on, run-end, run-more, lines-last, split-some}
 use Rattle.transcript.specs.declared.session.Place.{Place}
 use Rattle.transcript.specs.Run.{synrun}
 use Rattle.transcript.specs.Machine.{TEXT, BEATS, keptSize, Machine, Fed, begun, withPlace, isFit, placeOn, starOn, chunk, lineEnd, behind, fedLines, finished, finishedText, outSize, lineRoom, Work, workFrom, worked}
 use Rattle.beat_lines.specs.Reading.{readOn}
 use Rattle.transcript.specs.RoomLaws.{Fit, fit-parts, fit-whole, Lives, chunk-lives, line-lives, line-room}
-use Rattle.sessions.specs.MachineLaws.{Held, chunk-text, chunk-beats, chunk-else, fed-line, fed-held, lines-some, pieces}
+use Rattle.sessions.specs.MachineLaws.{Held, chunk-text, chunk-beats, chunk-else, fed-line, fed-held, pieces}
 use Rattle.sessions.specs.SessionLaws.{prints, over-fed, over-finished, starting, session-prints}
 
 -- ---- no bytes of a line change nothing
@@ -41,52 +43,21 @@ fit-chunk m f =
     placed q = λ i. record { text = m .text; lines = m .lines; session = withPlace (m .session) (q i) }
 
 pub nothing-fed : (m : Machine) → Lives (m .session) → fedLines m (textLines []) ≡ record { machine = m; output = [] }
-unfolding textLines fedLines
+unfolding split fedLines
 nothing-fed m (inl f) = λ i. record { machine = fit-chunk m f i; output = [] }
 nothing-fed m (inr o) = over-fed ([] ∷ []) m (o .0)
 
 -- ---- the first line of some input
-
-module _ (b : ℕ) (bs : List ℕ) where
-  run-end : eqb b LF ≡ true → run inLine (b ∷ bs) ≡ 0
-  unfolding run
-  run-end h = either (λ (y : ℕ). y ≡ 0) (not (eqb b LF)) (λ e. let q = rw h at e in clash (cc)) (λ e. refl)
-
-  run-more : eqb b LF ≡ false → run inLine (b ∷ bs) ≡ suc (run inLine bs)
-  unfolding run
-  run-more h = either (λ (y : ℕ). y ≡ suc (run inLine bs)) (not (eqb b LF)) (λ e. refl) (λ e. let q = rw h at e in clash (cc))
-
-  lines-end : eqb b LF ≡ true → textLines (b ∷ bs) ≡ [] ∷ textLines bs
-  unfolding textLines
-  lines-end h = either (λ (y : List (List ℕ)). y ≡ [] ∷ textLines bs) (eqb b LF) (λ e. refl) (λ e. clash (cc))
-
-  lines-more : eqb b LF ≡ false → textLines (b ∷ bs) ≡ before b (textLines bs)
-  unfolding textLines
-  lines-more h = either (λ (y : List (List ℕ)). y ≡ before b (textLines bs)) (eqb b LF) (λ e. clash (cc)) (λ e. refl)
 
 -- a line and its LF
 first-line : (t u : List ℕ) → run inLine t < length t → textLines (take (run inLine t + 1) t ++ u) ≡ take (run inLine t) t ∷ textLines u
 first-line [] u h = absurd (omega arith)
 first-line (b ∷ bs) u h =
     decide (textLines (take (run inLine (b ∷ bs) + 1) (b ∷ bs) ++ u) ≡ take (run inLine (b ∷ bs)) (b ∷ bs) ∷ textLines u) (eqb b LF)
-    (λ e. rw (run-end b bs e) (lines-end b u e))
+    (λ e. rw (run-end b bs e) (line-end b u e))
     (λ e. let r = run-more b bs e in
     let a : suc (run inLine bs) + 1 ≡ suc (run inLine bs + 1) = omega arith in
-    rw (r, a) (lines-more b (take (run inLine bs + 1) bs ++ u) e ∙ ap (before b) (first-line bs u (omega arith))))
-
--- all of it, without an LF
-only-line : (t : List ℕ) → length t ≤ run inLine t → textLines t ≡ t ∷ []
-unfolding textLines
-only-line [] h = refl
-only-line (b ∷ bs) h =
-    decide (textLines (b ∷ bs) ≡ (b ∷ bs) ∷ []) (eqb b LF)
-    (λ e. let r = run-end b bs e in absurd (omega arith))
-    (λ e. let r = run-more b bs e in lines-more b bs e ∙ ap (before b) (only-line bs (omega arith)))
-
-run-within : (t : List ℕ) → run inLine t ≤ length t
-unfolding run
-run-within [] = omega arith
-run-within (b ∷ bs) = either (λ (y : ℕ). y ≤ suc (length bs)) (not (eqb b LF)) (λ e. let h = run-within bs in omega arith) (λ e. omega arith)
+    rw (r, a) (line-on b (take (run inLine bs + 1) bs ++ u) e ∙ ap (before b) (first-line bs u (omega arith))))
 
 -- ---- a piece of input
 
@@ -113,14 +84,14 @@ takes-all : (m : Machine) (t : List ℕ) (k : ℕ) (o : List ℕ) → Lives (m .
     Works m t k o (record { machine = chunk m (take (run inLine t) t); taken = k + run inLine t; output = o })
 unfolding fedLines
 takes-all m t k o h l =
-    let w = run-within t in
+    let w = run-within inLine t in
     let e : run inLine t ≡ length t = omega arith in
     let a : take (run inLine t) t ≡ t = rw e (take-length t) in
     record {
       part = run inLine t;
       taken = refl;
       within = w;
-      feeds = rw (a, only-line t l) (λ i. record { machine = chunk m t; output = append-nil o i });
+      feeds = rw (a, lines-last t l) (λ i. record { machine = chunk m t; output = append-nil o i });
       lives = chunk-lives m (take (run inLine t) t) h;
     }
 
@@ -142,7 +113,7 @@ takes-line m t k o w l x =
       within = omega arith;
       feeds = ap (λ (y : List ℕ). behind o (fedLines m (textLines y))) (take-add n (x .part) t)
           ∙ ap (λ (y : List (List ℕ)). behind o (fedLines m y)) (first-line t (take (x .part) u) l)
-          ∙ ap (behind o) (fed-line m (take (run inLine t) t) (textLines (take (x .part) u)) (lines-some (take (x .part) u)))
+          ∙ ap (behind o) (fed-line m (take (run inLine t) t) (textLines (take (x .part) u)) (split-some LF (take (x .part) u)))
           ∙ (λ i. record { machine = g .machine; output = sym (append-assoc o (f .output) (g .output)) i })
           ∙ x .feeds;
       lives = x .lives;
@@ -210,7 +181,7 @@ work-goes (suc n) m t k o h =
     (λ g. let l = ltb-true r (length t) g in
     let d = length-drop (r + 1) t in
     goes-on k t (r + 1) (workFrom n (f .machine) u (k + (r + 1)) (o ++ f .output)) (omega arith) (work-goes n (f .machine) u (k + (r + 1)) (o ++ f .output) (omega arith)))
-    (λ g. let l = ltb-false r (length t) g in let u = run-within t in inl (omega arith)))
+    (λ g. let l = ltb-false r (length t) g in let u = run-within inLine t in inl (omega arith)))
     (λ e. let l = leb-false (length o + lineRoom) outSize e in inr (omega arith))
 
 pub worked-goes : (m : Machine) (t : List ℕ) → (worked m t .taken ≡ length t) ⊎ (4096 < length (worked m t .output))

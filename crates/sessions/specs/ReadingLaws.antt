@@ -11,13 +11,14 @@ use lib.IntN.{ℤ, pos}
 use lib.ListN.{length, take, set, replicate, length-append}
 use lib.Seq.{set-at, append-snoc}
 use borrow.Author.Tests.{leb-true, leb-false, le-leb, ltb-true, ltb-false, eqb-true, eqb-false, eq-eqb}
-use Rattle.values.specs.Choice.{decide, either, eitherBoth, and-left, and-right, and-true}
+use Rattle.values.specs.Choice.{decide, either, eitherBoth, both, and-true}
 use Rattle.values.specs.Numbers.{clash}
 use Rattle.text.specs.Byte.{CR, SPACE, isDigit}
 use Rattle.text.specs.Number.{digitsValue}
-use Rattle.text.specs.Lines.{withoutReturn}
+use Rattle.text.specs.Lines.{before as startOf, split, withoutReturn}
+use Rattle.text.specs.LinesLaws.{split-some}
 use Rattle.beat_lines.specs.declared.beat_line.Reading.{Reading}
-use Rattle.beat_lines.specs.BeatLine.{Lent, startOf, fields, modeOf, allDigits, areDigits, wholeOf, wordOf, positive, negative, lentNumber, withNumber, lentNumbers, lentOf, fieldsLent, lineLent}
+use Rattle.beat_lines.specs.BeatLine.{Lent, fields, modeOf, allDigits, areDigits, wholeOf, wordOf, positive, negative, lentNumber, withNumber, lentNumbers, lentOf, fieldsLent, lineLent}
 use Rattle.transcript.specs.RoomLaws.{closed-field}
 use Rattle.beat_lines.specs.Reading.{noReading, illFormed, withStage, highest, greatest, signed, withField, closed, spaceAfter, modeByte, minusByte, digitByte, fieldByte, readByte, readOn, isUntouched, withoutCR, readLent}
 
@@ -52,7 +53,7 @@ abbrev reading : ℕ → ℕ → Bool → ℕ → Bool → ℕ → List ℤ → 
 reading k st a w ng v ns = record { field = k; stage = st; automatic = a; word = w; negative = ng; value = v; numbers = ns }
 
 digit-range : (b : ℕ) → isDigit b ≡ true → 48 ≤ b
-digit-range b h = leb-true 48 b (and-left (leb 48 b) (leb b 57) h)
+digit-range b h = leb-true 48 b (both (leb 48 b) (leb b 57) h .0)
 
 module _ (k : ℕ) (inside : 1 ≤ k) (a : Bool) (w : ℕ) (ng : Bool) (ns : List ℤ) where
   digit-step : (st v b : ℕ) → st < 3 → isDigit b ≡ true → inField (reading k st a w ng v ns) b ≡ reading k 2 a w ng (min highest (v * 10 + (b - 48))) ns
@@ -83,8 +84,8 @@ module _ (k : ℕ) (inside : 1 ≤ k) (a : Bool) (w : ℕ) (ng : Bool) (ns : Lis
   unfolding fieldOn allDigits
   digits-on [] x h = refl
   digits-on (b ∷ bs) x h =
-      let d = and-left (isDigit b) (allDigits bs) h in
-      let t = and-right (isDigit b) (allDigits bs) h in
+      let d = both (isDigit b) (allDigits bs) h .0 in
+      let t = both (isDigit b) (allDigits bs) h .1 in
       rw (digit-step 2 (min highest x) b (omega arith) d, capped x (b - 48)) (digits-on bs (x * 10 + (b - 48)) t)
 
   digits-bad : (f : List ℕ) (v : ℕ) → allDigits f ≡ false → 3 ≤ fieldOn (reading k 2 a w ng v ns) f .stage
@@ -99,7 +100,7 @@ module _ (k : ℕ) (inside : 1 ≤ k) (a : Bool) (w : ℕ) (ng : Bool) (ns : Lis
   whole-on : (st b : ℕ) (bs : List ℕ) → st < 3 → allDigits (b ∷ bs) ≡ true → fieldOn (reading k st a w ng 0 ns) (b ∷ bs) ≡ reading k 2 a w ng (min highest (digitsValue (b ∷ bs) 0)) ns
   unfolding fieldOn allDigits
   whole-on st b bs s h =
-      rw (digit-step st 0 b s (and-left (isDigit b) (allDigits bs) h)) (digits-on bs (0 * 10 + (b - 48)) (and-right (isDigit b) (allDigits bs) h))
+      rw (digit-step st 0 b s (both (isDigit b) (allDigits bs) h .0)) (digits-on bs (0 * 10 + (b - 48)) (both (isDigit b) (allDigits bs) h .1))
 
   whole-bad : (st b : ℕ) (bs : List ℕ) → st < 3 → allDigits (b ∷ bs) ≡ false → (eqb b 45 ≡ true → (eqb st 0 && leb 2 k) ≡ false) → 3 ≤ fieldOn (reading k st a w ng 0 ns) (b ∷ bs) .stage
   unfolding fieldOn allDigits
@@ -120,13 +121,13 @@ whole-great : (top : ℕ) (f : List ℕ) → top < digitsValue f 0 → wholeOf t
 unfolding wholeOf
 whole-great top f l =
     let P : Option ℕ → Type 0 = λ y. y ≡ none in
-    either P (areDigits f && leb (digitsValue f 0) top) (λ e. absurd (omega (arith, leb-true (digitsValue f 0) top (and-right (areDigits f) _ e)))) (λ e. refl)
+    either P (areDigits f && leb (digitsValue f 0) top) (λ e. absurd (omega (arith, leb-true (digitsValue f 0) top (both (areDigits f) _ e .1)))) (λ e. refl)
 
 whole-none : (top : ℕ) (f : List ℕ) → areDigits f ≡ false → wholeOf top f ≡ none
 unfolding wholeOf
 whole-none top f h =
     let P : Option ℕ → Type 0 = λ y. y ≡ none in
-    either P (areDigits f && leb (digitsValue f 0) top) (λ e. let g = and-left (areDigits f) _ e in clash (cc)) (λ e. refl)
+    either P (areDigits f && leb (digitsValue f 0) top) (λ e. let g = both (areDigits f) _ e .0 in clash (cc)) (λ e. refl)
 
 -- what closing the field comes to: this, or the line is ill-formed
 abbrev Closes : Reading → Option Reading → Type 0
@@ -278,7 +279,7 @@ mode-more r c z s =
     either P (leb 3 (r .stage)) (λ e. omega arith) λ e.
     either P (eqb c CR) (λ g. either P (eqb (r .stage) 2) (λ u. omega arith) (λ u. omega arith)) λ g.
     either P (eqb (r .field) 0)
-    (λ u. either P (eqb (r .stage) 0 && (eqb c 65 || eqb c 77)) (λ y. absurd (omega (arith, eqb-true (r .stage) 0 (and-left (eqb (r .stage) 0) _ y)))) (λ y. omega arith))
+    (λ u. either P (eqb (r .stage) 0 && (eqb c 65 || eqb c 77)) (λ y. absurd (omega (arith, eqb-true (r .stage) 0 (both (eqb (r .stage) 0) _ y .0)))) (λ y. omega arith))
     (λ u. absurd (eqb-false (r .field) 0 u z))
 
 mode-byte-bad : (a : Bool) (w : ℕ) (ns : List ℤ) (b : ℕ) → eqb b 65 ≡ false → eqb b 77 ≡ false → 3 ≤ inField (reading 0 0 a w false 0 ns) b .stage
@@ -293,8 +294,8 @@ long-mode : (b c : ℕ) (cs : List ℕ) → modeOf (b ∷ c ∷ cs) ≡ none
 unfolding modeOf
 long-mode b c cs =
     let P : Option Bool → Type 0 = λ y. y ≡ none in
-    either P (eqb b 65 && false) (λ e. let z = and-right (eqb b 65) false e in clash (cc)) λ e.
-    either P (eqb b 77 && false) (λ g. let z = and-right (eqb b 77) false g in clash (cc)) (λ g. refl)
+    either P (eqb b 65 && false) (λ e. let z = both (eqb b 65) false e .1 in clash (cc)) λ e.
+    either P (eqb b 77 && false) (λ g. let z = both (eqb b 77) false g .1 in clash (cc)) (λ g. refl)
 
 mode-field : (a : Bool) (w : ℕ) (ns : List ℤ) (f : List ℕ) → Closes (fieldOn (reading 0 0 a w false 0 ns) f) (stored (λ x. reading 0 2 x w false 0 ns) (modeOf f))
 unfolding fieldOn inField fieldByte modeByte closed modeOf
@@ -320,15 +321,6 @@ byFields r [] = none
 byFields r (f ∷ []) = readLent (fieldOn r f)
 byFields r (f ∷ g ∷ gs) = byFields (readByte (fieldOn r f) SPACE) (g ∷ gs)
 
-fields-some : (l : List ℕ) → fields l ≡ [] → ⊥
-unfolding fields
-fields-some [] h = clash (cc)
-fields-some (b ∷ bs) h = either (λ (y : List (List ℕ)). y ≡ [] → ⊥) (eqb b SPACE) (λ e g. clash (cc)) (λ e. started (fields bs)) h
-  where
-    started : (fs : List (List ℕ)) → startOf b fs ≡ [] → ⊥
-    started [] h = clash (cc)
-    started (f ∷ fs) h = clash (cc)
-
 open-space : (r : Reading) (fs : List (List ℕ)) → (fs ≡ [] → ⊥) → byFields r ([] ∷ fs) ≡ byFields (readByte r SPACE) fs
 unfolding byFields fieldOn
 open-space r [] h = absurd (h refl)
@@ -349,19 +341,19 @@ no-space r b h =
 
 -- reading a line is reading its fields
 read-fields : (r : Reading) (l : List ℕ) → readLent (readOn r l) ≡ byFields r (fields l)
-unfolding readOn fields byFields fieldOn
+unfolding readOn split byFields fieldOn
 read-fields r [] = refl
 read-fields r (b ∷ bs) =
     either (λ y. readLent (readOn (readByte r b) bs) ≡ byFields r y) (eqb b SPACE)
-    (λ e. let q = eqb-true b SPACE e in rw q (read-fields (readByte r SPACE) bs ∙ sym (open-space r (fields bs) (fields-some bs))))
-    (λ e. rw (no-space r b e) (read-fields (inField r b) bs ∙ sym (open-byte r b (fields bs) (fields-some bs))))
+    (λ e. let q = eqb-true b SPACE e in rw q (read-fields (readByte r SPACE) bs ∙ sym (open-space r (fields bs) (split-some SPACE bs))))
+    (λ e. rw (no-space r b e) (read-fields (inField r b) bs ∙ sym (open-byte r b (fields bs) (split-some SPACE bs))))
 
 -- ---- a field that closes, and one that does not
 
 unclosed-lent : (r : Reading) → closed r .stage ≡ 3 → readLent r ≡ none
 unfolding readLent
 unclosed-lent r h =
-    either (λ (y : Option Lent). y ≡ none) (eqb (closed r .stage) 2 && leb 1 (r .field)) (λ e. absurd (omega (arith, eqb-true (closed r .stage) 2 (and-left _ (leb 1 (r .field)) e)))) (λ e. refl)
+    either (λ (y : Option Lent). y ≡ none) (eqb (closed r .stage) 2 && leb 1 (r .field)) (λ e. absurd (omega (arith, eqb-true (closed r .stage) 2 (both _ (leb 1 (r .field)) e .0)))) (λ e. refl)
 
 unclosed-space : (r : Reading) → closed r .stage ≡ 3 → 3 ≤ readByte r SPACE .stage
 unfolding readByte spaceAfter
@@ -369,7 +361,7 @@ unclosed-space r h =
     let P : Reading → Type 0 = λ y. 3 ≤ y .stage in
     either P (leb 3 (r .stage)) (λ e. omega arith) λ e.
     either P (eqb (closed r .stage) 2 && ltb (closed r .field) 15)
-    (λ g. absurd (omega (arith, eqb-true (closed r .stage) 2 (and-left _ (ltb (closed r .field) 15) g))))
+    (λ g. absurd (omega (arith, eqb-true (closed r .stage) 2 (both _ (ltb (closed r .field) 15) g .0))))
     (λ g. omega arith)
 
 bad-fields : (r : Reading) (fs : List (List ℕ)) → 3 ≤ r .stage → byFields r fs ≡ none
@@ -535,7 +527,7 @@ mode-alone : (r : Reading) → closed r .field ≡ 0 → readLent r ≡ none
 unfolding readLent
 mode-alone r h =
     let f = closed-field r in
-    either (λ (y : Option Lent). y ≡ none) (eqb (closed r .stage) 2 && leb 1 (r .field)) (λ e. absurd (omega (arith, leb-true 1 (r .field) (and-right (eqb (closed r .stage) 2) _ e)))) (λ e. refl)
+    either (λ (y : Option Lent). y ≡ none) (eqb (closed r .stage) 2 && leb 1 (r .field)) (λ e. absurd (omega (arith, leb-true 1 (r .field) (both (eqb (closed r .stage) 2) _ e .1)))) (λ e. refl)
 
 behind-none : (o : Option (List ℤ)) → behindThose [] o ≡ o
 behind-none (some us) = refl
@@ -544,9 +536,6 @@ behind-none none = refl
 no-word : (a : Bool) (o : Option (List ℤ)) → lentOf (some a) none o ≡ none
 no-word a (some us) = refl
 no-word a none = refl
-
-no-mode : (w : Option ℕ) (o : Option (List ℤ)) → lentOf none w o ≡ none
-no-mode w o = refl
 
 module _ (a : Bool) where
   abbrev beforeWord : Reading
@@ -610,16 +599,6 @@ bad-end r b [] h =
 bad-end r b (c ∷ cs) h = bad-end (readByte r b) c cs (let q = bad-read r b h in omega arith)
 
 -- only a CR brings a reading to its fourth stage
-closed-stage : (r : Reading) → closed r .stage ≤ 3
-unfolding closed withField
-closed-stage r =
-    let P : Reading → Type 0 = λ y. y .stage ≤ 3 in
-    either P (eqb (r .stage) 2)
-    (λ e. let s = eqb-true (r .stage) 2 e in
-    either P (eqb (r .field) 0) (λ g. omega arith) λ g.
-    either P (leb (r .value) (greatest r)) (λ h. either P (eqb (r .field) 1) (λ k. omega arith) (λ k. omega arith)) (λ h. omega arith))
-    (λ e. omega arith)
-
 other-stage : (r : Reading) (b : ℕ) → eqb b CR ≡ false → readByte r b .stage ≤ 3
 unfolding readByte spaceAfter fieldByte modeByte minusByte digitByte
 other-stage r b h =
@@ -679,7 +658,7 @@ touched-on r [] h =
     either-test (eqb (r .field) 0 && eqb (r .stage) 0) refl
   where
     either-test : (y : Bool) → (eqb (r .field) 0 && eqb (r .stage) 0) ≡ y → y ≡ false
-    either-test true e = absurd (omega (arith, eqb-true (r .field) 0 (and-left (eqb (r .field) 0) (eqb (r .stage) 0) e), eqb-true (r .stage) 0 (and-right (eqb (r .field) 0) (eqb (r .stage) 0) e)))
+    either-test true e = absurd (omega (arith, eqb-true (r .field) 0 (both (eqb (r .field) 0) (eqb (r .stage) 0) e .0), eqb-true (r .stage) 0 (both (eqb (r .field) 0) (eqb (r .stage) 0) e .1)))
     either-test false e = refl
 touched-on r (b ∷ bs) h = touched-on (readByte r b) bs (touched r b)
 

@@ -1,6 +1,6 @@
 -- What a session prints, line by line, is what the definition says. Assumes nothing.
 use mathlib.Core.Path.{_≡_, refl, sym, ap, _∙_}
-use mathlib.Core.Bool.{Bool, true, false, _&&_, _||_}
+use mathlib.Core.Bool.{Bool, true, false, _&&_, _||_, and-false}
 use mathlib.Core.List.{List, [], _∷_, _++_, append-assoc, append-nil}
 use mathlib.Core.Option.{none, some}
 use Prim.Native.Nat.{ℕ, zero, suc, _+_, _*_, min, _≤_, _<_}
@@ -14,20 +14,22 @@ use Rattle.values.specs.Numbers.{clash}
 use Rattle.state.specs.State.{powerOn}
 use Rattle.text.specs.Byte.{LF, CR}
 use Rattle.text.specs.Lines.{textLines, withoutReturn}
+use Rattle.text.specs.LinesLaws.{split-some}
 use Rattle.draft.specs.Row.{putAt}
 use Rattle.draft.specs.Codes.{textSize}
 use Rattle.reader.specs.Load.{Outcome, refused, outcome, loadAnswer, loadSet}
+use Rattle.draft.specs.PutLaws.{put-length}
 use Rattle.transcript.specs.declared.session.Place.{Place}
 use Rattle.beat_lines.specs.declared.beat_line.Reading.{Reading}
 use Rattle.transcript.specs.Input.{Input, isStar, beatLines, lineBefore, cut, inputOf}
 use Rattle.beat_lines.specs.BeatLine.{Lent, lineLent}
-use Rattle.transcript.specs.Output.{loadLine, errorLine}
+use Rattle.printing.specs.Output.{loadLine, errorLine}
 use Rattle.transcript.specs.Run.{maxBeats, Totals, noTotals, ended, counted, answerOf, beatText, beatsText, loadedText, synrun}
 use Rattle.beat_lines.specs.Reading.{noReading, readOn, withoutCR, isUntouched, readLent}
 use Rattle.transcript.specs.Machine.{TEXT, BEATS, OVER, keptSize, Machine, Fed, begun, withPhase, withTotals, starAfter, starOn, placeOn, placeEnd, opened, textEnd, beatOf, beatEnd, chunk, lineEnd, behind, fedLines, textOver, lastOver, finished}
 use Rattle.transcript.specs.RoomLaws.{byCode, byLent, over-chunk, over-line}
 use Rattle.sessions.specs.ReadingLaws.{byOption, lent-last, lent-ended, untouched}
-use Rattle.sessions.specs.MachineLaws.{put-length, put-out, text-append, lines-some}
+use Rattle.sessions.specs.MachineLaws.{put-out, text-append}
 
 -- ---- all that is printed
 
@@ -248,10 +250,6 @@ third : (d : ℕ) → starAfter 2 d ≡ 3
 unfolding starAfter
 third d = refl
 
-no-and : (b : Bool) → (b && false) ≡ false
-no-and true = refl
-no-and false = refl
-
 -- after two bytes and more a line is no *
 star-two : (b c : ℕ) (cs : List ℕ) → eqb (starOn (starAfter (starAfter 0 b) c) cs) 1 ≡ false
 unfolding starOn
@@ -271,7 +269,7 @@ star-last [] = refl
 star-last (b ∷ []) =
     let P : ℕ → Type 0 = λ y. eqb y 1 ≡ (eqb b 42 && true) in
     rw (star-byte b) (either P (eqb b 42) (λ e. rw e) (λ e. rw e))
-star-last (b ∷ c ∷ cs) = star-two b c cs ∙ sym (no-and (eqb b 42))
+star-last (b ∷ c ∷ cs) = star-two b c cs ∙ sym (and-false (eqb b 42))
 
 -- and before its LF, where a CR may stand behind it
 abbrev isEnded : ℕ → Bool
@@ -296,11 +294,11 @@ star-ended (b ∷ []) =
 star-ended (b ∷ c ∷ []) =
     either (λ (y : List ℕ). isEnded (starAfter (starAfter 0 b) c) ≡ isStar (b ∷ y)) (eqb c CR)
     (λ e. let q = eqb-true c CR e in rw (q, star-byte b) (either (λ (y : ℕ). isEnded (starAfter y 13) ≡ (eqb b 42 && true)) (eqb b 42) (λ g. rw (g, star-second 13)) (λ g. rw (g, else-second 13))))
-    (λ e. rw (no-and (eqb b 42), star-byte b)
+    (λ e. rw (and-false (eqb b 42), star-byte b)
     (either (λ (y : ℕ). isEnded (starAfter y c) ≡ false) (eqb b 42)
     (λ g. rw (star-second c) (either (λ (y : ℕ). isEnded y ≡ false) (eqb c CR) (λ u. clash (cc)) (λ u. refl)))
     (λ g. rw (else-second c))))
-star-ended (b ∷ c ∷ d ∷ ds) = star-three b c d ds ∙ sym (no-and (eqb b 42))
+star-ended (b ∷ c ∷ d ∷ ds) = star-three b c d ds ∙ sym (and-false (eqb b 42))
 
 -- ---- loading
 
@@ -518,7 +516,7 @@ text-prints (l ∷ h ∷ ls) t s d g n k =
     decide (prints b (l ∷ h ∷ ls) ≡ loadedText (withText d (cut (l ∷ h ∷ ls)))) (isStar (withoutReturn l))
     (λ e. prints-line b l h ls ∙ star-line t s d l n k h ls e)
     (λ e. prints-line b l h ls ∙ text-line t s d l n k h ls e
-    ∙ text-prints (h ∷ ls) (putAt t z u) s (d ++ u) (λ y. clash (cc)) (put-length t z u ∙ n) (kept-put keptSize u t d n k)
+    ∙ text-prints (h ∷ ls) (putAt t z u) s (d ++ u) (λ y. clash (cc)) (put-length u t z ∙ n) (kept-put keptSize u t d n k)
     ∙ more-cut t s d l n k h ls e)
 
 -- ---- the session
@@ -530,4 +528,4 @@ starting t s = record { text = t; lines = s; session = begun }
 -- what it prints, and what it prints at the end of input, is all that the definition has
 pub session-prints : (text set t : List ℕ) → length text ≡ keptSize → let f = fedLines (starting text set) (textLines t) in f .output ++ finished (f .machine) ≡ synrun t
 unfolding prints synrun inputOf
-session-prints text set t n = text-prints (textLines t) text set [] (lines-some t) n refl
+session-prints text set t n = text-prints (textLines t) text set [] (split-some LF t) n refl

@@ -8,7 +8,7 @@ use lib.Dec.{eqb, leb, ltb}
 use lib.IntN.{ℤ, pos}
 use lib.ListN.{getD}
 use borrow.Author.Tests.{eqb-true, eqb-false, leb-true, le-leb, ltb-true}
-use Rattle.values.specs.Choice.{either, ifNot, eitherBoth, and-left, and-right, and-true}
+use Rattle.values.specs.Choice.{either, ifNot, eitherBoth, both, and-true}
 use Rattle.values.specs.Value.{notAllowed, inRange, lessThan, feedOf}
 use Rattle.values.specs.Numbers.{clash}
 use Rattle.tokens.specs.Token.{END, EQUALS, OPEN, CLOSE, LEFT, RIGHT, IN, IM, POS, FA, MOV, M, SETAL, LOCK, UNLOCK, X, W, between, isVariable, isAxis, hasAxis, isFifo, isDrive, isCall, isWhole, whole, setSize}
@@ -94,7 +94,7 @@ module _ (s : List ℕ) where
   taken-runs x p h =
       eitherBoth (Runs TakenSound (λ a. a .next)) (isRemoval s p)
       (λ e f. holds-then ChangedSound (λ (a : Taken). (a .next ≡ p + 4) × TakenSound a) (changeFifo (x .r) (x .cells) 1 (token p) (pos 0)) _
-      (remove-keeps (x .r) (x .cells) (token p) h (and-left (isFifo (token p)) _ e) (pos 0)) (λ a d. (refl, (d .1, d .0)))) λ e.
+      (remove-keeps (x .r) (x .cells) (token p) h (both (isFifo (token p)) _ e .0) (pos 0)) (λ a d. (refl, (d .1, d .0)))) λ e.
       runs-map ValueFine (λ a. a .1) TakenSound (λ a. a .next) (fromGot (rightValue s (x .r) (x .cells) p)) _ (faultFor false (sumAt s sight setSize p))
       (right-runs x p h) (λ a q n r. (n, (r, h)))
 
@@ -118,11 +118,11 @@ drive-any number w axis v =
 drive-axis : (s : List ℕ) (w p : ℕ) → isIndexed s w p ≡ true → isDrive w ≡ true → indexAt s w p ≤ 255
 unfolding isIndexed isIndex indexAt indexOf
 drive-axis s w p i d =
-    let a : hasAxis w ≡ true = le-leb IM w (omega (arith, leb-true POS w (and-left (leb POS w) (leb w MOV) d))) in
+    let a : hasAxis w ≡ true = le-leb IM w (omega (arith, leb-true POS w (both (leb POS w) (leb w MOV) d .0))) in
     let t = getD s (p + 2) 0 in
-    let e = and-right (eqb (getD s (p + 3) 0) RIGHT) (isIndex w t) (and-right (eqb (getD s (p + 1) 0) LEFT) (eqb (getD s (p + 3) 0) RIGHT && isIndex w t) i) in
+    let e = both (eqb (getD s (p + 3) 0) RIGHT) (isIndex w t) (both (eqb (getD s (p + 1) 0) LEFT) (eqb (getD s (p + 3) 0) RIGHT && isIndex w t) i .1) .1 in
     let x : isAxis t ≡ true = rw (isIndex, a) at e in
-    rw (indexOf, a) (omega (arith, leb-true t W (and-right (leb X t) (leb t W) x)))
+    rw (indexOf, a) (omega (arith, leb-true t W (both (leb X t) (leb t W) x .1)))
 
 module _ (s : List ℕ) (sound : soundLines s .sound ≡ true) (cancelled : List Bool) (number : ℕ) where
   abbrev Fine : World → Type 0
@@ -167,12 +167,12 @@ module _ (s : List ℕ) (sound : soundLines s .sound ≡ true) (cancelled : List
 
   call-number : (w n : ℕ) → eqb w SETAL ≡ false → callFault w n ≡ 0 → 1 ≤ n
   unfolding callFault idFault
-  call-number w n e f = let g = rw e at f in leb-true 1 n (and-left (leb 1 n) (leb n 255) (unless-zero (between 1 255 n) outside g (omega arith)))
+  call-number w n e f = let g = rw e at f in leb-true 1 n (both (leb 1 n) (leb n 255) (unless-zero (between 1 255 n) outside g (omega arith)) .0)
 
   call-lock : (w : ℕ) → isCall w ≡ true → eqb w SETAL ≡ false → isLock w ≡ true
   call-lock w c n =
-      let a = leb-true SETAL w (and-left (leb SETAL w) (leb w UNLOCK) c) in
-      and-true (le-leb LOCK w (omega (arith, eqb-false w SETAL n))) (and-right (leb SETAL w) (leb w UNLOCK) c)
+      let a = leb-true SETAL w (both (leb SETAL w) (leb w UNLOCK) c .0) in
+      and-true (le-leb LOCK w (omega (arith, eqb-false w SETAL n))) (both (leb SETAL w) (leb w UNLOCK) c .1)
 
   command-runs : (kw : ℕ) (x : World) (w p : ℕ) → Fine x → (isLock w ≡ true → isKnown numbers (whole (token s (p + 2))) ≡ true) →
       Beside (commandOf s numbers cancelled number x w p) (commandAt s kw w p)
@@ -183,7 +183,7 @@ module _ (s : List ℕ) (sound : soundLines s .sound ≡ true) (cancelled : List
       eitherBoth Beside (eqb w M) (λ m. either (Beside _) (eqb (token s (p + 1)) EQUALS) (λ e f. (refl, record { vars = h .vars; flags = h .flags })) (λ e. tt)) λ m.
       ifNot (Beside _) (isCall w && (eqb (token s (p + 1)) OPEN && eqb (token s (p + 3)) CLOSE)) (λ e. tt) λ c.
       either (λ z. Beside z (read (callFault w n) (p + 4))) (eqb w SETAL) (λ e f. (refl, record { vars = h .vars; flags = h .flags })) λ e f.
-      lock-runs x (eqb w LOCK) n (p + 4) h (call-number w n e f) (known (call-lock w (and-left (isCall w) _ c) e))
+      lock-runs x (eqb w LOCK) n (p + 4) h (call-number w n e f) (known (call-lock w (both (isCall w) _ c .0) e))
 
   -- a word below those of the commands is none
   no-command : (kw : ℕ) (x : Answer Did) (w p : ℕ) → w < M → Beside x (commandAt s kw w p)
@@ -192,7 +192,7 @@ module _ (s : List ℕ) (sound : soundLines s .sound ≡ true) (cancelled : List
       ifNot (Beside x) (isWhole (token s (p + 2))) (λ e. tt) λ e.
       either (Beside x) (eqb w M) (λ m. absurd (omega (arith, eqb-true w M m))) λ m.
       ifNot (Beside x) (isCall w && (eqb (token s (p + 1)) OPEN && eqb (token s (p + 3)) CLOSE)) (λ e. tt) λ e.
-      absurd (omega (arith, leb-true SETAL w (and-left (leb SETAL w) (leb w UNLOCK) (and-left (isCall w) _ e))))
+      absurd (omega (arith, leb-true SETAL w (both (leb SETAL w) (leb w UNLOCK) (both (isCall w) _ e .0) .0)))
 
   -- a line's end is no action
   no-action : (kw : ℕ) (x : Answer Did) (p : ℕ) → token s p ≡ END → Beside x (actionAt s kw setSize p)
@@ -211,8 +211,8 @@ module _ (s : List ℕ) (sound : soundLines s .sound ≡ true) (cancelled : List
       let w = token s p in
       either (λ z. Beside z (actionAt s kw setSize p)) (eqb w END) (λ e. no-action kw _ p (eqb-true w END e)) λ e.
       ifNot (Beside _) (isIndexed s w p)
-      (λ i. either (λ z. Beside z (commandAt s kw w p)) (isVariable w) (λ v. no-command kw _ w p (omega (arith, leb-true w IM (and-right (leb IN w) (leb w IM) v)))) λ v.
-      either (λ z. Beside z (commandAt s kw w p)) (isDrive w) (λ d. no-command kw _ w p (omega (arith, leb-true w MOV (and-right (leb POS w) (leb w MOV) d)))) λ d.
+      (λ i. either (λ z. Beside z (commandAt s kw w p)) (isVariable w) (λ v. no-command kw _ w p (omega (arith, leb-true w IM (both (leb IN w) (leb w IM) v .1)))) λ v.
+      either (λ z. Beside z (commandAt s kw w p)) (isDrive w) (λ d. no-command kw _ w p (omega (arith, leb-true w MOV (both (leb POS w) (leb w MOV) d .1)))) λ d.
       command-runs kw x w p h known) λ i.
       ifNot (Beside _) (eqb (token s (p + 4)) EQUALS) (λ q. tt) λ q.
       eitherBoth Beside (isVariable w) (λ v. assignment-runs x w p h) λ v.

@@ -3,17 +3,18 @@ use mathlib.Core.Path.{_≡_, refl, sym, _∙_}
 use mathlib.Core.Bool.{Bool, true, false}
 use mathlib.Core.Logic.{_⊎_, inl, inr}
 use mathlib.Core.List.{List, _++_}
-use Prim.Native.Nat.{ℕ, zero, suc, _+_, _-_, min, _≤_, _<_}
+use Prim.Native.Nat.{ℕ, _+_, _-_, min, _≤_, _<_}
 use native.Mathlib.Decide.{decLt}
 use native.Mathlib.Omega.{arith}
 use lib.Dec.{eqb, ltb}
 use lib.IntN.{ℤ, pos}
 use lib.ListN.{length, getD, take, drop, replicate, length-append, length-take, length-drop, List·getD-append, List·getD-eq-default}
-use lib.Seq.{getD-take, getD-drop, getD-set-other}
+use lib.Seq.{getD-take, getD-drop}
 use borrow.Author.Tests.{eqb-true, ltb-true}
 use Rattle.values.specs.Choice.{either, ifNot}
 use Rattle.values.specs.Numbers.{clash}
 use Rattle.code.specs.declared.check.Line.{Line}
+use Rattle.buffers.specs.FifoLaws.{same-each}
 use Rattle.state.specs.declared.state.State.{State}
 use Rattle.calls.specs.declared.host.Called.{Called}
 use Rattle.calls.specs.declared.host.Found.{Found}
@@ -21,8 +22,9 @@ use Rattle.set.specs.Set.{maxLines, rankIn, soundLines}
 use Rattle.state.specs.State.{stateCells}
 use Rattle.state.specs.Sound.{isSound, isCell, isFlag}
 use Rattle.calls.specs.Calls.{withLocked, withCancelled, foundAt, found, called, lockedCall, lockCall, unlockCall, cancelCall, resetCancelled, zeroed, resetState, resetCall}
+use Rattle.calls.proofs.CallLaws.{reset-keeps}
 use Rattle.soundness.specs.GoodAnswers.{Not22}
-use Rattle.soundness.specs.CellLaws.{append-behind, CellsRight, FlagsRight, same-each, zero-cell, set-sound, state-right, right-state, flag-clear, flag-none, flag-beyond, lock-keeps, cancel-keeps, cells-swapped}
+use Rattle.soundness.specs.CellLaws.{append-behind, CellsRight, FlagsRight, zero-cell, set-sound, state-right, right-state, flag-clear, flag-none, flag-beyond, lock-keeps, cancel-keeps, cells-swapped}
 
 -- ---- the line that a call names
 
@@ -78,19 +80,13 @@ cancelCall-keeps s st n h =
 
 -- ---- reset
 
--- a rank beyond the lines is as it was
-reset-beyond : (ls : List Line) (cs : List Bool) (n k : ℕ) → n ≤ k → getD (resetCancelled ls cs n) k false ≡ getD cs k false
-unfolding resetCancelled
-reset-beyond ls cs zero k l = refl
-reset-beyond ls cs (suc n) k l = getD-set-other (resetCancelled ls cs n) n k _ false (λ e. omega arith) ∙ reset-beyond ls cs n k (omega arith)
-
 reset-flags : (count : ℕ) (ls : List Line) (a cs b : List Bool) → FlagsRight count a cs b →
     FlagsRight count (replicate maxLines false) (resetCancelled ls cs count) (replicate maxLines false)
 reset-flags count ls a cs b h k l = rw (same-each maxLines k false) (by-place (decLt k count))
   where
     by-place : Dec (k < count) → isFlag count k false (getD (resetCancelled ls cs count) k false) false ≡ true
     by-place (yes m) = flag-clear count k _ m
-    by-place (no m) = rw (reset-beyond ls cs count k (omega (arith, m)), flag-beyond count k _ _ _ (omega (arith, m)) (h k l)) (flag-none count k)
+    by-place (no m) = rw (reset-keeps ls cs count k (omega (arith, m)), flag-beyond count k _ _ _ (omega (arith, m)) (h k l)) (flag-none count k)
 
 -- 72 cells from 16 on are put in: each cell stays, or one of those stands there
 middle-place : (c z : List ℤ) (i : ℕ) → length z ≡ 72 → ((j : ℕ) → getD z j (pos 0) ≡ pos 0) →

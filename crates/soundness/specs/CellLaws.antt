@@ -7,15 +7,15 @@ use native.Mathlib.Decide.{ℕ-discrete, decLt}
 use native.Mathlib.Omega.{arith}
 use lib.Dec.{ltb}
 use lib.IntN.{ℤ, pos}
-use lib.ListN.{length, getD, set, take, drop, replicate, length-append, length-take, length-drop, length-replicate, getD-replicate, List·getD-append, List·getD-eq-default}
+use lib.ListN.{length, getD, set, take, drop, replicate, length-append, length-take, length-drop, List·getD-append, List·getD-eq-default}
 use lib.Seq.{length-take-le, drop-at, drop-set-lt, getD-take, getD-drop, getD-append-add, getD-set-same, getD-set-other, set-out}
 use borrow.Author.Tests.{lt-ltb, le-ltb, le-leb, leb-true, not-true}
-use Rattle.values.specs.Choice.{and-left, and-right, and-true}
+use Rattle.values.specs.Choice.{both, and-true}
 use Rattle.values.specs.Value.{inRange, lessThan, equalTo, wholeUnits, outputOf}
 use Rattle.values.specs.ValueLaws.{abs-range, equal-same, same-equal}
 use Rattle.values.specs.TimeLaws.{Timed}
 use Rattle.buffers.specs.Fifo.{places, Unused}
-use Rattle.buffers.specs.FifoLaws.{PlacesRanged}
+use Rattle.buffers.specs.FifoLaws.{PlacesRanged, set-each, same-each, zero-in-range}
 use Rattle.values.specs.Numbers.{clash}
 use Rattle.working.specs.Variables.{asCount}
 use Rattle.state.specs.declared.state.State.{State}
@@ -26,32 +26,11 @@ use Rattle.writing.specs.Write.{withRunAt}
 
 -- ---- lists, place by place
 
--- what holds of a value and of every place holds after the value is set
-pub set-each : {A : Type 0} (P : ℕ → A → Type 0) (xs : List A) (n : ℕ) (v d : A) → P n v → ((i : ℕ) → P i (getD xs i d)) → (i : ℕ) → P i (getD (set xs n v) i d)
-set-each P xs n v d e p i = by-place (ℕ-discrete i n) (decLt n (length xs))
-  where
-    by-place : Dec (i ≡ n) → Dec (n < length xs) → P i (getD (set xs n v) i d)
-    by-place (yes q) (yes l) = rw (q, getD-set-same xs n v d l) e
-    by-place (yes q) (no l) = rw (set-out xs n v (omega (arith, l))) (p i)
-    by-place (no q) m = rw (getD-set-other xs n i v d q) (p i)
-
--- every place of a list of one value holds it, where that is the default too
-pub same-each : {A : Type 0} (n i : ℕ) (v : A) → getD (replicate n v) i v ≡ v
-same-each n i v = by-place (decLt i n)
-  where
-    by-place : Dec (i < n) → getD (replicate n v) i v ≡ v
-    by-place (yes l) = getD-replicate n i v v l
-    by-place (no l) = List·getD-eq-default (replicate n v) v {n = i} (rw length-replicate (omega (arith, l)))
-
 -- a place in the second of two lists
 pub append-behind : {A : Type 0} (xs ys : List A) (i : ℕ) (d : A) → length xs ≤ i → getD (xs ++ ys) i d ≡ getD ys (i - length xs) d
 append-behind xs ys i d l =
     let e : length xs + (i - length xs) ≡ i = omega arith in
     rw e at (getD-append-add xs ys (i - length xs) d)
-
--- 0 is in range
-pub zero-in-range : inRange (pos 0) ≡ true
-zero-in-range = abs-range (pos 0) (omega arith)
 
 -- ---- every value within range
 
@@ -59,8 +38,8 @@ zero-in-range = abs-range (pos 0) (omega arith)
 pub ranged-each : (xs : List ℤ) → allRanged xs ≡ true → PlacesRanged xs
 unfolding allRanged
 ranged-each [] h i = zero-in-range
-ranged-each (v ∷ vs) h zero = and-left (inRange v) (allRanged vs) h
-ranged-each (v ∷ vs) h (suc i) = ranged-each vs (and-right (inRange v) (allRanged vs) h) i
+ranged-each (v ∷ vs) h zero = both (inRange v) (allRanged vs) h .0
+ranged-each (v ∷ vs) h (suc i) = ranged-each vs (both (inRange v) (allRanged vs) h .1) i
 
 -- and every place makes the test true
 pub each-ranged : (xs : List ℤ) → PlacesRanged xs → allRanged xs ≡ true
@@ -85,8 +64,8 @@ zero-cell i = by-kind (ltb i 16) (ltb i 48) (ltb i 80) (ltb i 88)
 cells-from : (xs : List ℤ) (j : ℕ) → areCells xs j ≡ true → (i k : ℕ) → k ≡ j + i → isCell k (getD xs i (pos 0)) ≡ true
 unfolding areCells
 cells-from [] j h i k e = zero-cell k
-cells-from (v ∷ vs) j h zero k e = let q : k ≡ j = omega arith in rw q (and-left (isCell j v) (areCells vs (j + 1)) h)
-cells-from (v ∷ vs) j h (suc i) k e = cells-from vs (j + 1) (and-right (isCell j v) (areCells vs (j + 1)) h) i k (omega arith)
+cells-from (v ∷ vs) j h zero k e = let q : k ≡ j = omega arith in rw q (both (isCell j v) (areCells vs (j + 1)) h .0)
+cells-from (v ∷ vs) j h (suc i) k e = cells-from vs (j + 1) (both (isCell j v) (areCells vs (j + 1)) h .1) i k (omega arith)
 
 from-cells : (xs : List ℤ) (j : ℕ) → ((i k : ℕ) → k ≡ j + i → isCell k (getD xs i (pos 0)) ≡ true) → areCells xs j ≡ true
 unfolding areCells
@@ -108,20 +87,20 @@ each-cells c h = from-cells c 0 (λ i k e. let q : k ≡ i = omega arith in rw q
 -- what a right cell is: in range
 pub cell-ranged : (i : ℕ) (v : ℤ) → isCell i v ≡ true → inRange v ≡ true
 unfolding isCell
-cell-ranged i v = and-left (inRange v) _
+cell-ranged i v h = both (inRange v) _ h .0
 
 -- a timer's is a time
 pub timer-cell : (i : ℕ) (v : ℤ) → 80 ≤ i → i < 88 → isCell i v ≡ true → Timed v
 unfolding isCell
 timer-cell i v l m h =
-    let e = rw (le-ltb i 16 (omega arith), le-ltb i 48 (omega arith), le-ltb i 80 l, lt-ltb i 88 m) at (and-right (inRange v) _ h) in
-    (not-true (lessThan v (pos 0)) e, and-left (inRange v) _ h)
+    let e = rw (le-ltb i 16 (omega arith), le-ltb i 48 (omega arith), le-ltb i 80 l, lt-ltb i 88 m) at (both (inRange v) _ h .1) in
+    (not-true (lessThan v (pos 0)) e, both (inRange v) _ h .0)
 
 -- a count's is a count
 pub count-cell : (i : ℕ) (v : ℤ) → 88 ≤ i → isCell i v ≡ true → asCount v ≤ places
 unfolding isCell
 count-cell i v l h =
-    let e = rw (le-ltb i 16 (omega arith), le-ltb i 48 (omega arith), le-ltb i 80 (omega arith), le-ltb i 88 l) at (and-right (inRange v) _ h) in
+    let e = rw (le-ltb i 16 (omega arith), le-ltb i 48 (omega arith), le-ltb i 80 (omega arith), le-ltb i 88 l) at (both (inRange v) _ h .1) in
     leb-true (asCount v) places e
 
 -- and what is right in a cell: 0 or 1 in an output's
@@ -155,8 +134,8 @@ right-count i n l h =
 zero-each : (xs : List ℤ) → allZero xs ≡ true → (i : ℕ) → getD xs i (pos 0) ≡ pos 0
 unfolding allZero
 zero-each [] h i = refl
-zero-each (v ∷ vs) h zero = equal-same v (pos 0) (and-left (equalTo v (pos 0)) (allZero vs) h)
-zero-each (v ∷ vs) h (suc i) = zero-each vs (and-right (equalTo v (pos 0)) (allZero vs) h) i
+zero-each (v ∷ vs) h zero = equal-same v (pos 0) (both (equalTo v (pos 0)) (allZero vs) h .0)
+zero-each (v ∷ vs) h (suc i) = zero-each vs (both (equalTo v (pos 0)) (allZero vs) h .1) i
 
 each-zero : (xs : List ℤ) → ((i : ℕ) → getD xs i (pos 0) ≡ pos 0) → allZero xs ≡ true
 unfolding allZero
@@ -188,8 +167,8 @@ FlagsRight count locked cancelled memory = (k : ℕ) → k < 32 → isFlag count
 flags-from : (count : ℕ) (a b c : List Bool) (m j : ℕ) → areFlags count a b c m j ≡ true → (i k : ℕ) → i < m → k ≡ j + i → isFlag count k (getD a k false) (getD b k false) (getD c k false) ≡ true
 unfolding areFlags
 flags-from count a b c zero j h i k l e = absurd (omega arith)
-flags-from count a b c (suc m) j h zero k l e = let q : k ≡ j = omega arith in rw q (and-left (isFlag count j _ _ _) (areFlags count a b c m (j + 1)) h)
-flags-from count a b c (suc m) j h (suc i) k l e = flags-from count a b c m (j + 1) (and-right (isFlag count j _ _ _) (areFlags count a b c m (j + 1)) h) i k (omega arith) (omega arith)
+flags-from count a b c (suc m) j h zero k l e = let q : k ≡ j = omega arith in rw q (both (isFlag count j _ _ _) (areFlags count a b c m (j + 1)) h .0)
+flags-from count a b c (suc m) j h (suc i) k l e = flags-from count a b c m (j + 1) (both (isFlag count j _ _ _) (areFlags count a b c m (j + 1)) h .1) i k (omega arith) (omega arith)
 
 from-flags : (count : ℕ) (a b c : List Bool) (m j : ℕ) → ((k : ℕ) → j ≤ k → k < j + m → isFlag count k (getD a k false) (getD b k false) (getD c k false) ≡ true) → areFlags count a b c m j ≡ true
 unfolding areFlags
@@ -228,21 +207,21 @@ below-four P a b c d (suc (suc (suc (suc k)))) l = absurd (omega arith)
 pub sound-right : (count : ℕ) (st : State) → stateSound count st ≡ true → StateRight count st
 unfolding stateSound
 sound-right count st h =
-    let h1 = and-right (allRanged (st .r)) _ h in
-    let h2 = and-right (areCells (st .cells) 0) _ h1 in
-    let h3 = and-right (isFifoSound (st .r) (st .cells) 0) _ h2 in
-    let h4 = and-right (isFifoSound (st .r) (st .cells) 1) _ h3 in
-    let h5 = and-right (isFifoSound (st .r) (st .cells) 2) _ h4 in
-    let h6 = and-right (isFifoSound (st .r) (st .cells) 3) _ h5 in
+    let h1 = both (allRanged (st .r)) _ h .1 in
+    let h2 = both (areCells (st .cells) 0) _ h1 .1 in
+    let h3 = both (isFifoSound (st .r) (st .cells) 0) _ h2 .1 in
+    let h4 = both (isFifoSound (st .r) (st .cells) 1) _ h3 .1 in
+    let h5 = both (isFifoSound (st .r) (st .cells) 2) _ h4 .1 in
+    let h6 = both (isFifoSound (st .r) (st .cells) 3) _ h5 .1 in
     record {
       cells = record {
-        ranged = ranged-each (st .r) (and-left (allRanged (st .r)) _ h);
-        right = cells-each (st .cells) (and-left (areCells (st .cells) 0) _ h1);
+        ranged = ranged-each (st .r) (both (allRanged (st .r)) _ h .0);
+        right = cells-each (st .cells) (both (areCells (st .cells) 0) _ h1 .0);
         unused = below-four (λ k. Unused (fifoRun (st .r) k) (fifoCount (st .cells) k))
-            (fifo-each (st .r) (st .cells) 0 (and-left (isFifoSound (st .r) (st .cells) 0) _ h2))
-            (fifo-each (st .r) (st .cells) 1 (and-left (isFifoSound (st .r) (st .cells) 1) _ h3))
-            (fifo-each (st .r) (st .cells) 2 (and-left (isFifoSound (st .r) (st .cells) 2) _ h4))
-            (fifo-each (st .r) (st .cells) 3 (and-left (isFifoSound (st .r) (st .cells) 3) _ h5));
+            (fifo-each (st .r) (st .cells) 0 (both (isFifoSound (st .r) (st .cells) 0) _ h2 .0))
+            (fifo-each (st .r) (st .cells) 1 (both (isFifoSound (st .r) (st .cells) 1) _ h3 .0))
+            (fifo-each (st .r) (st .cells) 2 (both (isFifoSound (st .r) (st .cells) 2) _ h4 .0))
+            (fifo-each (st .r) (st .cells) 3 (both (isFifoSound (st .r) (st .cells) 3) _ h5 .0));
       };
       flags = flags-each count (st .locked) (st .cancelled) (st .memory) h6;
     }
@@ -262,12 +241,12 @@ right-sound count st h =
 -- a set and a state are sound: the set is
 pub set-sound : (s : List ℕ) (st : State) → isSound s st ≡ true → soundLines s .sound ≡ true
 unfolding isSound
-set-sound s st = and-left (soundLines s .sound) _
+set-sound s st h = both (soundLines s .sound) _ h .0
 
 -- the state is, for its lines
 pub state-right : (s : List ℕ) (st : State) → isSound s st ≡ true → StateRight (soundLines s .count) st
 unfolding isSound
-state-right s st h = sound-right (soundLines s .count) st (and-right (soundLines s .sound) _ h)
+state-right s st h = sound-right (soundLines s .count) st (both (soundLines s .sound) _ h .1)
 
 -- and both make the test true
 pub right-state : (s : List ℕ) (st : State) → soundLines s .sound ≡ true → StateRight (soundLines s .count) st → isSound s st ≡ true

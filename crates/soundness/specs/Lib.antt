@@ -1,4 +1,5 @@
--- A sound state stays sound, and from a load on 22 never arises: SoundLaws says it of every call. GoodAnswers tells how the laws go by cases.
+-- A sound state stays sound, and from a load on 22 never arises: SoundLaws says it of every call; Call has the calls. GoodAnswers tells how the laws go by cases.
+pub mod Call
 pub mod GoodAnswers
 pub mod SetLaws
 pub mod CellLaws

@@ -7,7 +7,7 @@ use native.Mathlib.Omega.{arith}
 use lib.Dec.{eqb, leb}
 use lib.ListN.{length, getD, drop}
 use borrow.Author.Tests.{eqb-true, leb-true}
-use Rattle.values.specs.Choice.{either, ifNot, and-left, and-right}
+use Rattle.values.specs.Choice.{either, ifNot, both}
 use Rattle.values.specs.Numbers.{clash}
 use Rattle.tokens.specs.Token.{END, EQUALS, DO, ID, IDS, WHEN, EVERY, isNumber, isKeyword, isId, isWhole, setSize}
 use Rattle.tokens.specs.Reading.{good, _>>=_, Read, read, ends, then, expressionAt}
@@ -145,8 +145,8 @@ module _ (s : List ℕ) (p : ℕ) where
   line-clear =
       either Sure (opensTooMany (drop p s) 0) (λ e. faulty-clear _) λ e.
       ifNot Sure (isId (getD s p 0) && (eqb (getD s (p + 1) 0) EQUALS && isWhole (getD s (p + 2) 0))) (λ i. faulty-clear _) λ i.
-      let j = and-right (isId (getD s p 0)) _ i in
-      let a = passed-next s p p (p + 1) (passed-none s p) refl (between-some ID IDS (getD s p 0) (omega arith) (and-left (isId (getD s p 0)) _ i)) in
-      let b = passed-next s p (p + 1) (p + 2) a (omega arith) (equal-some (getD s (p + 1) 0) EQUALS (omega arith) (and-left (eqb (getD s (p + 1) 0) EQUALS) _ j)) in
-      let n = and-left (isNumber (getD s (p + 2) 0)) _ (and-right (eqb (getD s (p + 1) 0) EQUALS) _ j) in
+      let j = both (isId (getD s p 0)) _ i .1 in
+      let a = passed-next s p p (p + 1) (passed-none s p) refl (between-some ID IDS (getD s p 0) (omega arith) (both (isId (getD s p 0)) _ i .0)) in
+      let b = passed-next s p (p + 1) (p + 2) a (omega arith) (equal-some (getD s (p + 1) 0) EQUALS (omega arith) (both (eqb (getD s (p + 1) 0) EQUALS) _ j .0)) in
+      let n = both (isNumber (getD s (p + 2) 0)) _ (both (eqb (getD s (p + 1) 0) EQUALS) _ j .1) .0 in
       rest-clear _ (passed-next s p (p + 2) (p + 3) b (omega arith) (number-some (getD s (p + 2) 0) n))

@@ -8,7 +8,7 @@ use native.Mathlib.Omega.{arith}
 use lib.Dec.{eqb, leb}
 use lib.ListN.{length, getD, List·getD-eq-default}
 use borrow.Author.Tests.{eqb-true, leb-true, ne-eqb}
-use Rattle.values.specs.Choice.{either, ifNot, and-left, and-right}
+use Rattle.values.specs.Choice.{either, ifNot, both}
 use Rattle.values.specs.Numbers.{clash}
 use Rattle.tokens.specs.Token.{END, EQUALS, OPEN, CLOSE, LEFT, RIGHT, TRUE, FALSE, MINUS, NOT, FIFO1, FIFO4, M, NUMBER, X, W, IN, IM, POS, MOV, LOCK, UNLOCK, SETAL, between, isNumber, isVariable, hasAxis, isAxis, isDrive, isCall, isFifo, isFactor, isTerm, isCompare, isLogic, isWhole, load, whole, setSize}
 use Rattle.tokens.specs.Reading.{Answer, good, stop, Read, read, ends, then, upTo, Meaning, isRow, isIndex, isIndexed, indexAt, joined, more, readProduct, readSum, readRest, readExpression, readClose, readVariable, readTruth, operandFrom, readOperand, sumAt, expressionAt}
@@ -21,7 +21,7 @@ NoEnd t = t ≡ END → ⊥
 
 -- one of a row of tokens that begins from 1 on
 pub between-some : (low high t : ℕ) → 1 ≤ low → between low high t ≡ true → NoEnd t
-between-some low high t l h e = let a = leb-true low t (and-left (leb low t) (leb t high) h) in omega arith
+between-some low high t l h e = let a = leb-true low t (both (leb low t) (leb t high) h .0) in omega arith
 
 -- one known token
 pub equal-some : (t a : ℕ) → 1 ≤ a → eqb t a ≡ true → NoEnd t
@@ -84,10 +84,10 @@ module _ (s : List ℕ) where
   indexed-past : (w p : ℕ) → NoEnd (token p) → isIndexed s w p ≡ true → Passed p (p + 4)
   unfolding isIndexed isIndex
   indexed-past w p n h =
-      let a = and-left (eqb (token (p + 1)) LEFT) _ h in
-      let h1 = and-right (eqb (token (p + 1)) LEFT) _ h in
-      let b = and-left (eqb (token (p + 3)) RIGHT) _ h1 in
-      let c = and-right (eqb (token (p + 3)) RIGHT) _ h1 in
+      let a = both (eqb (token (p + 1)) LEFT) _ h .0 in
+      let h1 = both (eqb (token (p + 1)) LEFT) _ h .1 in
+      let b = both (eqb (token (p + 3)) RIGHT) _ h1 .0 in
+      let c = both (eqb (token (p + 3)) RIGHT) _ h1 .1 in
       passed-next p (p + 3) (p + 4)
       (passed-next p (p + 2) (p + 3)
       (passed-next p (p + 1) (p + 2) (passed-one p n) (omega arith) (equal-some (token (p + 1)) LEFT (omega arith) a))
@@ -96,7 +96,7 @@ module _ (s : List ℕ) where
     where
       by-kind : (b : Bool) (t : ℕ) → cond b (isAxis t) (isWhole t) ≡ true → NoEnd t
       by-kind true t h = between-some X W t (omega arith) h
-      by-kind false t h = number-some t (and-left (isNumber t) _ h)
+      by-kind false t h = number-some t (both (isNumber t) _ h .0)
 
   module _ {A : Type 0} (𝓜 : Meaning A) where
     -- a reader that passes no end, wherever it begins
@@ -129,7 +129,7 @@ module _ (s : List ℕ) where
     rest-past f h k a p =
         either (Past p) (isCompare (token p))
         (λ e. joined-past (readSum s 𝓜 f k) (sum-past f h k) (token p) a p (between-some 2 7 (token p) (omega arith) e))
-        (λ e. more-past (isRow (token p)) (λ t r. between-some 26 28 t (omega arith) (and-left (isLogic t) _ r)) (readSum s 𝓜 f k) (sum-past f h k) k a p)
+        (λ e. more-past (isRow (token p)) (λ t r. between-some 26 28 t (omega arith) (both (isLogic t) _ r .0)) (readSum s 𝓜 f k) (sum-past f h k) k a p)
 
     expression-past : (f : ℕ → Read A) → Passes f → (k : ℕ) → Passes (readExpression s 𝓜 f k)
     unfolding readExpression
@@ -193,8 +193,8 @@ module _ (s : List ℕ) where
   unfolding assignedAt isRemoval
   assigned-past k p =
       ifNot (Past p) (isRemoval s p) (λ e. fault-past p false (sumAt s sight k p) (sumAt-past sight k p)) λ e.
-      let n = between-some FIFO1 FIFO4 (token p) (omega arith) (and-left (isFifo (token p)) _ e) in
-      indexed-past (token p) p n (and-left (isIndexed s (token p) p) _ (and-right (isFifo (token p)) _ e))
+      let n = between-some FIFO1 FIFO4 (token p) (omega arith) (both (isFifo (token p)) _ e .0) in
+      indexed-past (token p) p n (both (isIndexed s (token p) p) _ (both (isFifo (token p)) _ e .1) .0)
 
   assignment-past : (k p : ℕ) → isIndexed s (token p) p ≡ true → eqb (token (p + 4)) EQUALS ≡ true → Past p (assignmentAt s k (token p) p)
   unfolding assignmentAt
@@ -218,13 +218,13 @@ module _ (s : List ℕ) where
       either (Past p) (eqb (token p) M)
       (λ m. ifNot (Past p) (eqb (token (p + 1)) EQUALS) (λ q. tt) (λ q. three (equal-some (token p) M (omega arith) m) (equal-some (token (p + 1)) EQUALS (omega arith) q) w)) λ m.
       ifNot (Past p) (isCall (token p) && (eqb (token (p + 1)) OPEN && eqb (token (p + 3)) CLOSE)) (λ c. tt) λ c.
-      let d = and-right (isCall (token p)) _ c in
-      let n = between-some SETAL UNLOCK (token p) (omega arith) (and-left (isCall (token p)) _ c) in
-      let o = equal-some (token (p + 1)) OPEN (omega arith) (and-left (eqb (token (p + 1)) OPEN) _ d) in
-      passed-next p (p + 3) (p + 4) (three n o w) (omega arith) (equal-some (token (p + 3)) CLOSE (omega arith) (and-right (eqb (token (p + 1)) OPEN) _ d))
+      let d = both (isCall (token p)) _ c .1 in
+      let n = between-some SETAL UNLOCK (token p) (omega arith) (both (isCall (token p)) _ c .0) in
+      let o = equal-some (token (p + 1)) OPEN (omega arith) (both (eqb (token (p + 1)) OPEN) _ d .0) in
+      passed-next p (p + 3) (p + 4) (three n o w) (omega arith) (equal-some (token (p + 3)) CLOSE (omega arith) (both (eqb (token (p + 1)) OPEN) _ d .1))
     where
       three : NoEnd (token p) → NoEnd (token (p + 1)) → isWhole (token (p + 2)) ≡ true → Passed p (p + 3)
-      three a b w = passed-next p (p + 2) (p + 3) (passed-next p (p + 1) (p + 2) (passed-one p a) (omega arith) b) (omega arith) (number-some (token (p + 2)) (and-left (isNumber (token (p + 2))) _ w))
+      three a b w = passed-next p (p + 2) (p + 3) (passed-next p (p + 1) (p + 2) (passed-one p a) (omega arith) b) (omega arith) (number-some (token (p + 2)) (both (isNumber (token (p + 2))) _ w .0))
 
   -- an action that the check reads
   pub action-past : (kw k p : ℕ) → Past p (actionAt s kw k p)

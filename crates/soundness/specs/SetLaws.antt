@@ -1,5 +1,5 @@
 -- Laws of the lines of a set: how many, in which order, and how one is found by its number. Nothing is assumed.
-use mathlib.Core.Path.{_≡_, refl, sym, _∙_}
+use mathlib.Core.Path.{_≡_, refl, _∙_}
 use mathlib.Core.Bool.{Bool, true, false}
 use mathlib.Core.List.{List, [], _∷_}
 use Prim.Native.Nat.{ℕ, zero, suc, _+_, _-_, _≤_, _<_}
@@ -167,20 +167,9 @@ rank-inside s n e l h = by-place (decLt (rankIn (soundLines s .numbers) n 0) (so
         let b = lines-lined s .listed e .none (rankIn (soundLines s .numbers) n 0) (omega (arith, m)) in
         absurd (omega arith)
 
--- and what is found is the line with that number
-pub rank-line : (s : List ℕ) (n : ℕ) → soundLines s .sound ≡ true → rankIn (soundLines s .numbers) n 0 < soundLines s .count → lineOf s (rankIn (soundLines s .numbers) n 0) .number ≡ n
-rank-line s n e h =
-    sym (lines-lined s .listed e .number (rankIn (soundLines s .numbers) n 0) h)
-    ∙ rank-number (soundLines s .numbers) n (lines-lined s .numbersLength) (omega (arith, lines-lined s .few))
-
 -- ---- the empty set
 
 -- it is sound, with no line
 pub empty-sound : soundLines emptySet .sound ≡ true
 unfolding soundLines namedLines linesRead emptySet allKnown linesFrom
 empty-sound = refl
-
--- and it has none
-pub empty-count : soundLines emptySet .count ≡ 0
-unfolding soundLines namedLines linesRead emptySet allKnown linesFrom
-empty-count = refl

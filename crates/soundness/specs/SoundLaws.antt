@@ -10,12 +10,12 @@ use lib.IntN.{ℤ, pos}
 use lib.ListN.{length, getD, length-append, length-drop, length-set}
 use lib.Seq.{drop-at}
 use borrow.Author.Tests.{eqb-true, not-true}
-use Rattle.values.specs.Choice.{either, ifNot, and-left, and-right}
+use Rattle.values.specs.Choice.{either, ifNot, both}
 use Rattle.values.specs.Value.{unit, inRange}
 use Rattle.values.specs.ValueLaws.{abs-range}
 use Rattle.values.specs.Time.{timer}
 use Rattle.values.specs.TimeLaws.{grown-keeps}
-use Rattle.buffers.specs.FifoLaws.{PlacesRanged}
+use Rattle.buffers.specs.FifoLaws.{PlacesRanged, zero-in-range, InRange}
 use Rattle.values.specs.Numbers.{clash}
 use Rattle.tokens.specs.Token.{WHEN, WHENEVER, FROM, EVERY, isKeyword, setSize}
 use Rattle.tokens.specs.Reading.{Answer, good, stop}
@@ -28,13 +28,16 @@ use Rattle.engine.specs.Cells.{inputCount, inputCell, inputCells, beatCells}
 use Rattle.state.specs.Timers.{timerCells, grownCells}
 use Rattle.state.specs.Sound.{isSound}
 use Rattle.actions.specs.Action.{World, Did, fromGot, actionsOf}
-use Rattle.engine.specs.Turn.{Entry, Turned, remembered, counted, takesTurn, doTurn, tryTurn, turnOf, turnsFrom}
+use Rattle.turns.specs.Turn.{Entry, Turned, remembered, counted, takesTurn, doTurn, tryTurn, turnOf, turnsFrom}
 use Rattle.state.specs.Keyword.{tries, remembers}
 use Rattle.engine.specs.Beat.{bufferSize, areInputs, begun, ended, beatOf, answered, beatAnswer}
-use Rattle.calls.specs.Calls.{lockCall, unlockCall, cancelCall, resetCall}
+use Rattle.calls.specs.Calls.{lockCall, unlockCall, cancelCall}
+use Rattle.engine.proofs.CellLaws.{length-inputs}
+use Rattle.engine.proofs.BeatLaws.{inputs-length}
+use Rattle.soundness.specs.Call.{Call, doBeat, doLock, doUnlock, doCancel, doReset, after, codeAfter, afterAll}
 use Rattle.soundness.specs.GoodAnswers.{Not22, Holds, holds-then}
 use Rattle.soundness.specs.SetLaws.{lines-lined, lines-known}
-use Rattle.soundness.specs.CellLaws.{zero-in-range, ranged-each, cell-ranged, timer-cell, right-timer, CellsSound, cell-keeps, memory-keeps, state-right, right-state, set-sound, power-on}
+use Rattle.soundness.specs.CellLaws.{ranged-each, cell-ranged, timer-cell, right-timer, CellsSound, cell-keeps, memory-keeps, state-right, right-state, set-sound, power-on}
 use Rattle.soundness.specs.CallLaws.{lockCall-keeps, unlockCall-keeps, cancelCall-keeps, resetCall-keeps, Answers, lockCall-answers, unlockCall-answers, cancelCall-answers, resetCall-r, resetCall-length, resetCall-code}
 use Rattle.soundness.specs.WriteLaws.{BeatSound}
 use Rattle.soundness.specs.ActionLaws.{WorldSound, condition-runs}
@@ -90,7 +93,7 @@ module _ (s : List ℕ) (sound : soundLines s .sound ≡ true) (size : length s 
         ifNot (Holds TurnFine) (tries (l .keyword) m) (λ t. done-fine x [] _ h) λ t.
         holds-then (λ a. Unit {0}) TurnFine (fromGot (conditionValue s (x .vars .r) (x .vars .cells) (l .condition))) _
         (condition-runs s (x .vars) (l .condition) (h .vars) (clear .condition (tries-keyword (l .keyword) m t))) λ a u.
-        let c = not-true (getD cancelled k false) (and-left (not (getD cancelled k false)) _ e) in
+        let c = not-true (getD cancelled k false) (both (not (getD cancelled k false)) _ e .0) in
         done-fine (remembered x k (remembers (l .keyword) m (isYes (a .0)))) _ _
         (record { vars = h .vars; flags = memory-keeps (soundLines s .count) (x .locked) cancelled (x .memory) (h .flags) k inside _ c })
 
@@ -112,9 +115,6 @@ append-each P [] ys p q i = q i
 append-each P (x ∷ xs) ys p q zero = p 0
 append-each P (x ∷ xs) ys p q (suc i) = append-each P xs ys (λ j. p (suc j)) q i
 
-abbrev InRange : ℤ → Type 0
-InRange z = inRange z ≡ true
-
 input-ranged : (b : Bool) → inRange (cond b (pos unit) (pos 0)) ≡ true
 input-ranged true = abs-range (pos unit) (omega arith)
 input-ranged false = zero-in-range
@@ -127,11 +127,6 @@ inputs-ranged : (word n : ℕ) → PlacesRanged (inputCells word n)
 unfolding inputCells
 inputs-ranged word zero i = zero-in-range
 inputs-ranged word (suc n) i = append-each InRange (inputCells word n) (inputCell word n ∷ []) (inputs-ranged word n) (one-ranged (inputCell word n) (input-ranged (eqb (word / 2 ^ n % 2) 1))) i
-
-inputs-length : (word n : ℕ) → length (inputCells word n) ≡ n
-unfolding inputCells
-inputs-length word zero = refl
-inputs-length word (suc n) = omega (arith, length-append (inputCells word n) (inputCell word n ∷ []), inputs-length word n)
 
 grown-length : (runs : List Bool) (c : List ℤ) (n : ℕ) → length (grownCells runs c n) ≡ length c
 unfolding grownCells
@@ -149,24 +144,20 @@ grown-sound r runs c (suc n) l h =
     (grown-keeps (timer (getD (grownCells runs c n) (timerCells + n) (pos 0)) (getD runs n false))
     (timer-cell (timerCells + n) _ (omega arith) (omega arith) (g .right (timerCells + n)))))
 
-inputs-size : (lent : List ℤ) → areInputs lent ≡ true → length lent ≡ 14
-unfolding areInputs
-inputs-size lent h = eqb-true (length lent) 14 (and-left (eqb (length lent) 14) _ h)
-
 lent-ranged : (lent : List ℤ) → areInputs lent ≡ true → PlacesRanged lent
 unfolding areInputs
-lent-ranged lent h = ranged-each lent (and-right (eqb (length lent) 14) _ h)
+lent-ranged lent h = ranged-each lent (both (eqb (length lent) 14) _ h .1)
 
 -- the cells of a beat that begins from a sound state
 pub begun-cells : (r c : List ℤ) (word : ℕ) (lent : List ℤ) (runs : List Bool) → length r ≡ 164 → length c ≡ stateCells → areInputs lent ≡ true → CellsSound r c → BeatSound r (beatCells word lent runs c)
 unfolding beatCells
 begun-cells r c word lent runs lr lc a h = record {
   long = lr;
-  sized = omega (arith, length-append (inputCells word 16) (lent ++ grownCells runs c 8), length-append lent (grownCells runs c 8), inputs-length word 16, inputs-size lent a, grown-length runs c 8);
+  sized = omega (arith, length-append (inputCells word 16) (lent ++ grownCells runs c 8), length-append lent (grownCells runs c 8), length-inputs word 16, inputs-length lent a, grown-length runs c 8);
   ranged = append-each InRange (inputCells word 16) (lent ++ grownCells runs c 8) (inputs-ranged word 16)
       (append-each InRange lent (grownCells runs c 8) (lent-ranged lent a) (λ i. cell-ranged i _ (grown-sound r runs c 8 (omega arith) h .right i)));
   state =
-      let e : length (inputCells word 16 ++ lent) ≡ inputCount = omega (arith, length-append (inputCells word 16) lent, inputs-length word 16, inputs-size lent a) in
+      let e : length (inputCells word 16 ++ lent) ≡ inputCount = omega (arith, length-append (inputCells word 16) lent, length-inputs word 16, inputs-length lent a) in
       rw (← append-assoc (inputCells word 16) lent (grownCells runs c 8), drop-at (inputCells word 16 ++ lent) (grownCells runs c 8) inputCount e) (grown-sound r runs c 8 (omega arith) h);
 }
 
@@ -218,53 +209,24 @@ beat-keeps s st automatic word lent b l lr lc h = beat-answers s st automatic wo
 
 -- ---- call after call
 
--- what the host can call after a load
-pub data Call : Type 0 where
-  lock : ℕ → Call
-  unlock : ℕ → Call
-  cancel : ℕ → Call
-  reset : Call
-  beat : Bool → ℕ → List ℤ → List ℕ → Call
-
--- the state that a call leaves
-abbrev pub after : List ℕ → State → Call → State
-after s st (lock n) = lockCall s st n .state
-after s st (unlock n) = unlockCall s st n .state
-after s st (cancel n) = cancelCall s st n .state
-after s st reset = resetCall s st .state
-after s st (beat automatic word lent b) = beatAnswer s st automatic word lent b .state
-
--- and its code
-abbrev pub codeAfter : List ℕ → State → Call → ℕ
-codeAfter s st (lock n) = lockCall s st n .code
-codeAfter s st (unlock n) = unlockCall s st n .code
-codeAfter s st (cancel n) = cancelCall s st n .code
-codeAfter s st reset = resetCall s st .code
-codeAfter s st (beat automatic word lent b) = beatAnswer s st automatic word lent b .code
-
--- the state after calls, the first first
-unfoldable pub afterAll : List ℕ → State → List Call → State
-afterAll s st [] = st
-afterAll s st (c ∷ cs) = afterAll s (after s st c) cs
-
 unchanged : (s : List ℕ) (st : State) (c : Called) → Whole s st → isSound s (c .state) ≡ true → Answers st c → Whole s (c .state)
 unchanged s st c h e a = record { sound = e; long = rw (a .r) (h .long); sized = rw (a .cells) (h .sized) }
 
 -- each call keeps a sound state sound
 pub call-keeps : (s : List ℕ) (st : State) (c : Call) → length s ≤ setSize → Whole s st → Whole s (after s st c)
-call-keeps s st (lock n) l h = unchanged s st (lockCall s st n) h (lockCall-keeps s st n (h .sound)) (lockCall-answers s st n (h .sound))
-call-keeps s st (unlock n) l h = unchanged s st (unlockCall s st n) h (unlockCall-keeps s st n (h .sound)) (unlockCall-answers s st n (h .sound))
-call-keeps s st (cancel n) l h = unchanged s st (cancelCall s st n) h (cancelCall-keeps s st n (h .sound)) (cancelCall-answers s st n (h .sound))
-call-keeps s st reset l h = record { sound = resetCall-keeps s st (h .sound); long = rw (resetCall-r s st) (h .long); sized = resetCall-length s st (h .sized) }
-call-keeps s st (beat automatic word lent b) l h = beat-answers s st automatic word lent b l h .0
+call-keeps s st (doLock n) l h = unchanged s st (lockCall s st n) h (lockCall-keeps s st n (h .sound)) (lockCall-answers s st n (h .sound))
+call-keeps s st (doUnlock n) l h = unchanged s st (unlockCall s st n) h (unlockCall-keeps s st n (h .sound)) (unlockCall-answers s st n (h .sound))
+call-keeps s st (doCancel n) l h = unchanged s st (cancelCall s st n) h (cancelCall-keeps s st n (h .sound)) (cancelCall-answers s st n (h .sound))
+call-keeps s st doReset l h = record { sound = resetCall-keeps s st (h .sound); long = rw (resetCall-r s st) (h .long); sized = resetCall-length s st (h .sized) }
+call-keeps s st (doBeat automatic word lent b) l h = beat-answers s st automatic word lent b l h .0
 
 -- and answers no 22
 pub call-not22 : (s : List ℕ) (st : State) (c : Call) → length s ≤ setSize → Whole s st → Not22 (codeAfter s st c)
-call-not22 s st (lock n) l h = lockCall-answers s st n (h .sound) .code
-call-not22 s st (unlock n) l h = unlockCall-answers s st n (h .sound) .code
-call-not22 s st (cancel n) l h = cancelCall-answers s st n (h .sound) .code
-call-not22 s st reset l h = resetCall-code s st (h .sound)
-call-not22 s st (beat automatic word lent b) l h = beat-answers s st automatic word lent b l h .1
+call-not22 s st (doLock n) l h = lockCall-answers s st n (h .sound) .code
+call-not22 s st (doUnlock n) l h = unlockCall-answers s st n (h .sound) .code
+call-not22 s st (doCancel n) l h = cancelCall-answers s st n (h .sound) .code
+call-not22 s st doReset l h = resetCall-code s st (h .sound)
+call-not22 s st (doBeat automatic word lent b) l h = beat-answers s st automatic word lent b l h .1
 
 -- so do any calls
 pub calls-keep : (s : List ℕ) (st : State) (cs : List Call) → length s ≤ setSize → Whole s st → Whole s (afterAll s st cs)

@@ -7,8 +7,8 @@ use native.Mathlib.Omega.{arith}
 use lib.Dec.{eqb, leb}
 use lib.IntN.{ℤ, pos, natAbs}
 use lib.ListN.{length, getD}
-use borrow.Author.Tests.{eqb-false, leb-true, ne-eqb, le-leb, lt-leb, le-ltb, not-true}
-use Rattle.values.specs.Choice.{either, ifNot, either-cond, and-left}
+use borrow.Author.Tests.{eqb-false, leb-true, le-ltb, not-true}
+use Rattle.values.specs.Choice.{either, ifNot, either-cond}
 use Rattle.values.specs.Value.{top, outOfRange, zeroDivisor, inRange, lessThan, valued, sumOf, differenceOf, productOf, quotientOf, negationOf}
 use Rattle.values.specs.ValueLaws.{Ranged, abs-range, sum-in-range, difference-in-range, product-in-range, quotient-in-range, negation-in-range}
 use Rattle.buffers.specs.Fifo.{places, fifoEmpty, sumFirst, seen, oldestOf, newestOf, totalOf, countOf}
@@ -18,17 +18,18 @@ use Rattle.values.specs.declared.arithmetic.Worked.{Worked}
 use Rattle.values.specs.declared.arithmetic.Worked.the-variants as W
 use Rattle.buffers.specs.declared.fifo.Seen.{Seen}
 use Rattle.buffers.specs.declared.fifo.Seen.the-variants as S
-use Rattle.tokens.specs.Token.{MINUS, PLUS, TIMES, OVER, MARKER, PARAM, R, TIMER, FIFO1, FIFO4, isLogic, isFifo, thousandths}
+use Rattle.tokens.specs.Token.{MINUS, PLUS, TIMES, OVER, R, FIFO1, isLogic, isFifo, thousandths}
 use Rattle.tokens.specs.Reading.{Answer, good}
-use Rattle.tokens.specs.Index.{lastIndex, isInside}
+use Rattle.tokens.specs.Index.{isInside}
 use Rattle.working.specs.Variables.{cellOf, run, countAt, fromSeen, fifoValue, fifoAt, variableValue}
 use Rattle.tokens.specs.SingleFault.{outside, readOnly, lower, unless, numberFault, readFault}
 use Rattle.code.specs.Fault.{wanting, Sight, joinSights, sight}
 use Rattle.working.specs.Working.{fromWorked, yesNo, isYes, joinTruths, joinValues, valueOver}
 use Rattle.actions.specs.Action.{alarmOf}
+use Rattle.tokens.proofs.Indices.{last-inside, last-fifo}
 use Rattle.soundness.specs.GoodAnswers.{Not22}
 use Rattle.soundness.specs.CellLaws.{run-ranged}
-use Rattle.soundness.specs.WriteLaws.{inside-high, lower-zero, unless-zero, BeatSound, run-length, count-few}
+use Rattle.soundness.specs.WriteLaws.{lower-zero, unless-zero, BeatSound, run-length, count-few}
 use Rattle.soundness.specs.ReadLaws.{Agree, Steps}
 
 -- ---- what the variables read is in range
@@ -107,11 +108,6 @@ fifo-calmed xs n i s l z m =
     either Calmed (eqb i 4) (λ e. rw f (value-calmed _)) λ e4.
     absurd (omega (arith, eqb-false i 0 z, eqb-false i 1 e1, eqb-false i 2 e2, eqb-false i 3 e3, eqb-false i 4 e4))
 
-fifo-last : (w : ℕ) → isFifo w ≡ true → lastIndex w ≡ 4
-fifo-last w f =
-    let a = leb-true FIFO1 w (and-left (leb FIFO1 w) (leb w FIFO4) f) in
-    rw (ne-eqb w R (λ e. omega arith), le-leb MARKER w (omega arith), lt-leb w PARAM (omega arith), ne-eqb w TIMER (λ e. omega arith), f)
-
 -- a variable that the check lets be read
 variable-calmed : (r c : List ℤ) (w i : ℕ) → BeatSound r c → readFault w i ≡ 0 → Calmed (variableValue r c w i)
 unfolding variableValue fifoAt readFault
@@ -122,7 +118,7 @@ variable-calmed r c w i h f =
     ifNot Calmed (isInside w i) (λ l. clash (cc)) λ l.
     either Calmed (eqb w R) (λ e. value-calmed _) λ e.
     ifNot Calmed (isFifo w) (λ p. value-calmed _) λ p.
-    fifo-calmed (run r w) (countAt c w) i (run-length r c w h p) (count-few r c w h p) (rw p at n) (rw (fifo-last w p) at (inside-high w i l))
+    fifo-calmed (run r w) (countAt c w) i (run-length r c w h p) (count-few r c w h p) (rw p at n) (rw (last-fifo w p) at (last-inside w i l))
 
 -- ---- the value and the check
 

@@ -10,13 +10,13 @@ use lib.IntN.{ℤ, pos}
 use lib.ListN.{length, getD, set, drop, length-drop, length-set}
 use lib.Seq.{length-take-le, drop-set-add, getD-drop}
 use borrow.Author.Tests.{eqb-true, eqb-false, leb-true, ltb-true}
-use Rattle.values.specs.Choice.{either, ifNot, either-cond, and-left, and-right}
+use Rattle.values.specs.Choice.{either, ifNot, either-cond, both}
 use Rattle.values.specs.Value.{unit, notAllowed, inRange, equalTo, wholeUnits, outputOf}
 use Rattle.values.specs.ValueLaws.{abs-range, whole-in-range, whole-whole, output-either, output-same}
 use Rattle.values.specs.Time.{timer}
 use Rattle.values.specs.TimeLaws.{written-keeps}
 use Rattle.buffers.specs.Fifo.{places, Unused, countAfter, fits, appendAnswer, appended, removeAnswer, removed, emptyAnswer, emptied}
-use Rattle.buffers.specs.FifoLaws.{fits-holds, PlacesRanged, append-length, append-count, append-unused, append-ranged, remove-length, remove-count, remove-unused, remove-ranged, removed-in-range, empty-length, empty-count, empty-unused, empty-ranged}
+use Rattle.buffers.specs.FifoLaws.{fits-holds, PlacesRanged, append-length, append-count, append-unused, append-ranged, remove-length, remove-count, remove-unused, remove-ranged, removed-in-range, empty-length, empty-count, empty-unused, empty-ranged, set-each, zero-in-range}
 use Rattle.values.specs.Numbers.{clash}
 use Rattle.values.specs.declared.arithmetic.Worked.{Worked}
 use Rattle.values.specs.declared.arithmetic.Worked.the-variants as W
@@ -32,8 +32,9 @@ use Rattle.state.specs.State.{stateCells}
 use Rattle.engine.specs.Cells.{inputCount}
 use Rattle.state.specs.Sound.{isCell, isOutput}
 use Rattle.writing.specs.Write.{Vars, Changed, Celled, withRunAt, moved, writeTimer, changeAnswer, changed, changeFifo, writeFifo, writeCell, writeInside, writeTo}
+use Rattle.tokens.proofs.Indices.{last-inside}
 use Rattle.soundness.specs.GoodAnswers.{Not22, Holds, holds-then}
-use Rattle.soundness.specs.CellLaws.{set-each, zero-in-range, cell-ranged, timer-cell, count-cell, right-output, right-marker, right-parameter, right-timer, fifoCount, CellsSound, run-ranged, replaced-length, r-keeps, cell-keeps, fifo-keeps}
+use Rattle.soundness.specs.CellLaws.{cell-ranged, timer-cell, count-cell, right-output, right-marker, right-parameter, right-timer, fifoCount, CellsSound, run-ranged, replaced-length, r-keeps, cell-keeps, fifo-keeps}
 
 -- ---- faults
 
@@ -152,7 +153,7 @@ ChangedSound a = BeatSound (a .r) (a .cells) × (inRange (a .value) ≡ true)
 
 module _ (r c : List ℤ) (w : ℕ) (h : BeatSound r c) (f : isFifo w ≡ true) where
   fifo-rank : w - FIFO1 < 4
-  fifo-rank = let a = leb-true FIFO1 w (and-left (leb FIFO1 w) (leb w 42) f) in let b = leb-true w 42 (and-right (leb FIFO1 w) (leb w 42) f) in omega arith
+  fifo-rank = let a = leb-true FIFO1 w (both (leb FIFO1 w) (leb w 42) f .0) in let b = leb-true w 42 (both (leb FIFO1 w) (leb w 42) f .1) in omega arith
 
   run-inside : 100 + places * (w - FIFO1) + places ≤ length r
   run-inside = omega (arith, fifo-rank, h .long)
@@ -225,12 +226,7 @@ fifo-write-keeps x w i v h f m e =
 -- an index inside its range is not below its first
 inside-low : (w i : ℕ) → isInside w i ≡ true → firstIndex w ≤ i
 unfolding isInside
-inside-low w i h = leb-true (firstIndex w) i (and-left (leb (firstIndex w) i) (leb i (lastIndex w)) h)
-
--- and not above its last
-pub inside-high : (w i : ℕ) → isInside w i ≡ true → i ≤ lastIndex w
-unfolding isInside
-inside-high w i h = leb-true i (lastIndex w) (and-right (leb (firstIndex w) i) (leb i (lastIndex w)) h)
+inside-low w i h = leb-true (firstIndex w) i (both (leb (firstIndex w) i) (leb i (lastIndex w)) h .0)
 
 -- what working gave: what is true of its value, and its alarm is not 22
 pub worked-holds : (P : ℤ → Type 0) (w : Worked) → ((u : ℤ) → w ≡ W.Value u → P u) → ((k : ℕ) → w ≡ W.Alarm k → Not22 k) → Holds P (fromWorked w)
@@ -254,7 +250,7 @@ output-right v (inr e) = rw e
 -- the check allows no other cell to be written
 cell-writable : (w i : ℕ) → isFifo w ≡ false → eqb w R ≡ false → isWritable w i ≡ true → (OUT ≤ w) × (w ≤ TIMER)
 unfolding isWritable
-cell-writable w i f n e = let q = rw (f, n) at e in (leb-true OUT w (and-left (leb OUT w) (leb w TIMER) q), leb-true w TIMER (and-right (leb OUT w) (leb w TIMER) q))
+cell-writable w i f n e = let q = rw (f, n) at e in (leb-true OUT w (both (leb OUT w) (leb w TIMER) q .0), leb-true w TIMER (both (leb OUT w) (leb w TIMER) q .1))
 
 -- a cell that was written leaves sound variables
 abbrev pub CellSound : List ℤ → Celled → Type 0
@@ -287,11 +283,11 @@ module _ (r c : List ℤ) (runs : List Bool) (h : BeatSound r c) (i : ℕ) (v : 
   cell-write-keeps : (w : ℕ) → isInside w i ≡ true → isFifo w ≡ false → eqb w R ≡ false → isWritable w i ≡ true → Holds (CellSound r) (writeCell c runs w i v)
   unfolding writeCell
   cell-write-keeps w l f n z =
-      either (Holds (CellSound r)) (eqb w MARKER) (λ p. rw (eqb-true w MARKER p) (marker-keeps (rw (eqb-true w MARKER p) at (inside-high w i l)))) λ p1.
-      either (Holds (CellSound r)) (eqb w PARAM) (λ p. rw (eqb-true w PARAM p) (parameter-keeps (rw (eqb-true w PARAM p) at (inside-high w i l)))) λ p2.
+      either (Holds (CellSound r)) (eqb w MARKER) (λ p. rw (eqb-true w MARKER p) (marker-keeps (rw (eqb-true w MARKER p) at (last-inside w i l)))) λ p1.
+      either (Holds (CellSound r)) (eqb w PARAM) (λ p. rw (eqb-true w PARAM p) (parameter-keeps (rw (eqb-true w PARAM p) at (last-inside w i l)))) λ p2.
       either (Holds (CellSound r)) (eqb w OUT)
-      (λ p. rw (eqb-true w OUT p) (output-keeps (rw (eqb-true w OUT p) at (inside-low w i l)) (rw (eqb-true w OUT p) at (inside-high w i l)))) λ p3.
-      either (Holds (CellSound r)) (eqb w TIMER) (λ p. rw (eqb-true w TIMER p) (timer-keeps (rw (eqb-true w TIMER p) at (inside-high w i l)))) λ p4.
+      (λ p. rw (eqb-true w OUT p) (output-keeps (rw (eqb-true w OUT p) at (inside-low w i l)) (rw (eqb-true w OUT p) at (last-inside w i l)))) λ p3.
+      either (Holds (CellSound r)) (eqb w TIMER) (λ p. rw (eqb-true w TIMER p) (timer-keeps (rw (eqb-true w TIMER p) at (last-inside w i l)))) λ p4.
       let y = cell-writable w i f n z in
       absurd (omega (arith, y .0, y .1, eqb-false w MARKER p1, eqb-false w PARAM p2, eqb-false w OUT p3, eqb-false w TIMER p4, eqb-false w R n))
 

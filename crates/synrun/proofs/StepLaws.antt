@@ -10,7 +10,7 @@ use Rattle.transcript.specs.Machine.{Machine, worked, finishedText, outSize}
 use Rattle.transcript.specs.Held.{IsWork}
 use Rattle.transcript.specs.RoomLaws.{finished-text-room}
 use Rattle.draft.specs.Row.{putAt}
-use Rattle.reader.specs.PutLaws.{put-length}
+use Rattle.draft.specs.PutLaws.{put-length}
 use Rattle.sessions.specs.PieceLaws.{worked-room, taken-within, taken-some}
 
 -- what is left of a piece behind k bytes

@@ -7,15 +7,19 @@ use lib.ListN.{length, take}
 use Rattle.text.specs.declared.lines.Bounds.{Bounds}
 use Rattle.text.specs.Byte.{LF, CR, isSpace, inLine, inBody, run}
 
--- a byte before the first of some lines
+-- a byte before the first of some parts
 abbrev pub before : ℕ → List (List ℕ) → List (List ℕ)
 before b [] = (b ∷ []) ∷ []
 before b (l ∷ ls) = (b ∷ l) ∷ ls
 
+-- the parts of some bytes: each ends at a byte e, and the last with the bytes
+unfoldable pub split : ℕ → List ℕ → List (List ℕ)
+split e [] = [] ∷ []
+split e (b ∷ bs) = elim (eqb b e) [ true ↦ [] ∷ split e bs | false ↦ before b (split e bs) ]
+
 -- lines end at LF; the last ends with the text
-unfoldable pub textLines : List ℕ → List (List ℕ)
-textLines [] = [] ∷ []
-textLines (b ∷ bs) = elim (eqb b LF) [ true ↦ [] ∷ textLines bs | false ↦ before b (textLines bs) ]
+abbrev pub textLines : List ℕ → List (List ℕ)
+textLines t = split LF t
 
 -- a CR at the end is dropped
 unfoldable pub withoutReturn : List ℕ → List ℕ

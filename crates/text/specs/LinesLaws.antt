@@ -9,31 +9,32 @@ use lib.Dec.{eqb, ltb}
 use lib.ListN.{length, take, drop, getD, length-take, length-drop, drop-of-length-le}
 use lib.Seq.{take-take, take-all, length-take-le, drop-cons}
 use borrow.Author.Tests.{ltb-true, ltb-false, lt-ltb, le-ltb, eq-eqb, ne-eqb}
-use Rattle.values.specs.Choice.{decide}
+use Rattle.values.specs.Choice.{decide, either}
+use Rattle.values.specs.Numbers.{clash}
 use Rattle.text.specs.Byte.{LF, CR, SPACE, inLine, inBody, run}
 use Rattle.text.specs.ByteLaws.{run-on, run-off, run-within}
-use Rattle.text.specs.Lines.{before, textLines, withoutReturn, withoutComment, bodies, firstBody, boundsAt, isBlank}
+use Rattle.text.specs.Lines.{before, split, textLines, withoutReturn, withoutComment, bodies, firstBody, boundsAt, isBlank}
 
 -- ---- the first line
 
 module _ (b : ℕ) (bs : List ℕ) where
-  line-end : eqb b LF ≡ true → textLines (b ∷ bs) ≡ [] ∷ textLines bs
-  unfolding textLines
-  line-end h = rw (textLines, h)
+  pub line-end : eqb b LF ≡ true → textLines (b ∷ bs) ≡ [] ∷ textLines bs
+  unfolding split
+  line-end h = rw (split, h)
 
-  line-on : eqb b LF ≡ false → textLines (b ∷ bs) ≡ before b (textLines bs)
-  unfolding textLines
-  line-on h = rw (textLines, h)
+  pub line-on : eqb b LF ≡ false → textLines (b ∷ bs) ≡ before b (textLines bs)
+  unfolding split
+  line-on h = rw (split, h)
 
-  run-end : eqb b LF ≡ true → run inLine (b ∷ bs) ≡ 0
+  pub run-end : eqb b LF ≡ true → run inLine (b ∷ bs) ≡ 0
   run-end h = run-off inLine b bs (rw h)
 
-  run-more : eqb b LF ≡ false → run inLine (b ∷ bs) ≡ suc (run inLine bs)
+  pub run-more : eqb b LF ≡ false → run inLine (b ∷ bs) ≡ suc (run inLine bs)
   run-more h = run-on inLine b bs (rw h)
 
 -- with an LF behind it
 pub lines-more : (t : List ℕ) → run inLine t < length t → textLines t ≡ take (run inLine t) t ∷ textLines (drop (run inLine t + 1) t)
-unfolding textLines run
+unfolding split run
 lines-more [] h = absurd (omega arith)
 lines-more (b ∷ bs) h =
     decide _ (eqb b LF)
@@ -45,7 +46,7 @@ lines-more (b ∷ bs) h =
 
 -- with none
 pub lines-last : (t : List ℕ) → length t ≤ run inLine t → textLines t ≡ t ∷ []
-unfolding textLines run
+unfolding split run
 lines-last [] h = refl
 lines-last (b ∷ bs) h =
     decide _ (eqb b LF)
@@ -54,17 +55,20 @@ lines-last (b ∷ bs) h =
 
 -- ---- its body
 
--- there is always a line
-lines-some : (t : List ℕ) → (l : List ℕ) × (ls : List (List ℕ)) × (textLines t ≡ l ∷ ls)
-unfolding textLines
-lines-some [] = ([], [], refl)
-lines-some (b ∷ bs) =
-    let i = lines-some bs in
-    decide _ (eqb b LF) (λ e. ([], textLines bs, line-end b bs e)) (λ e. (b ∷ i .0, i .1, line-on b bs e ∙ ap (before b) (i .2)))
+-- there is always a part
+pub split-some : (e : ℕ) (t : List ℕ) → split e t ≡ [] → ⊥
+unfolding split
+split-some e [] h = clash (cc)
+split-some e (b ∷ bs) h = either (λ (y : List (List ℕ)). y ≡ [] → ⊥) (eqb b e) (λ _ g. clash (cc)) (λ _. some (split e bs)) h
+  where
+    some : (ls : List (List ℕ)) → before b ls ≡ [] → ⊥
+    some [] g = clash (cc)
+    some (l ∷ ls) g = clash (cc)
 
-bodies-step : (l : List ℕ) (t : List ℕ) → bodies (l ∷ textLines t) ≡ withoutComment (withoutReturn l) ∷ bodies (textLines t)
+bodies-step : (l : List ℕ) (ls : List (List ℕ)) → (ls ≡ [] → ⊥) → bodies (l ∷ ls) ≡ withoutComment (withoutReturn l) ∷ bodies ls
 unfolding bodies
-bodies-step l t = let i = lines-some t in rw (i .2)
+bodies-step l [] h = absurd (h refl)
+bodies-step l (m ∷ ls) h = refl
 
 module _ (t : List ℕ) where
   pub first-more : run inLine t < length t → firstBody t ≡ withoutComment (withoutReturn (take (run inLine t) t))
@@ -77,7 +81,7 @@ module _ (t : List ℕ) where
 
   -- the bodies of a text are the body of its first line and those of the text behind it
   pub bodies-more : run inLine t < length t → bodies (textLines t) ≡ firstBody t ∷ bodies (textLines (drop (run inLine t + 1) t))
-  bodies-more h = rw (lines-more t h, first-more h) (bodies-step (take (run inLine t) t) (drop (run inLine t + 1) t))
+  bodies-more h = rw (lines-more t h, first-more h) (bodies-step (take (run inLine t) t) (textLines (drop (run inLine t + 1) t)) (split-some LF (drop (run inLine t + 1) t)))
 
   pub bodies-last : length t ≤ run inLine t → bodies (textLines t) ≡ firstBody t ∷ []
   unfolding bodies

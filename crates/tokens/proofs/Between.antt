@@ -1,27 +1,24 @@
 -- What a test says of the token that was tested, what the test of a range says of its bounds, and the other way round.
 use mathlib.Core.Path.{_≡_, refl, sym, ap, _∙_}
-use mathlib.Core.Bool.{Bool, true, false, _&&_}
+use mathlib.Core.Bool.{Bool, true, false, _&&_, false≢true}
 use Prim.Native.Nat.{ℕ, _<_, _≤_}
 use native.Mathlib.Omega.{arith}
 use lib.Dec.{leb}
 use borrow.Author.Tests.{leb-true, lt-leb}
+use Rattle.values.specs.Choice.{both}
 use Rattle.tokens.specs.Token.{AND, XOR, between}
 use Rattle.tokens.specs.Reading.{isRow}
 
 pub never : {X : Type 0} → false ≡ true → X
-never e = absurd (let z : _≡_ {A = ℕ} 0 1 = cc in omega arith)
+never e = absurd (false≢true e)
 
 -- a test's answer o, for the token u that was tested as t
 pub tested : (f : ℕ → Bool) {t u : ℕ} {o b : Bool} → t ≡ u → o ≡ f t → o ≡ b → f u ≡ b
 tested f e h g = ap f (sym e) ∙ sym h ∙ g
 
-both-true : (a b : Bool) → a && b ≡ true → (a ≡ true) × (b ≡ true)
-both-true true b h = (refl, h)
-both-true false b h = never h
-
 module _ (low high t : ℕ) where
   pub inside : between low high t ≡ true → (low ≤ t) × (t ≤ high)
-  inside h = let b = both-true _ _ h in (leb-true low t (b .0), leb-true t high (b .1))
+  inside h = let b = both _ _ h in (leb-true low t (b .0), leb-true t high (b .1))
 
   pub outside : (low ≤ t → t ≤ high → ⊥) → between low high t ≡ false
   outside f = go (leb low t) refl
@@ -35,4 +32,4 @@ module _ (low high t : ℕ) where
   no-end l e f z = let b = inside (sym e ∙ f) in omega arith
 
 pub row-no-end : (first t : ℕ) {o : Bool} → o ≡ isRow first t → o ≡ true → t ≡ 0 → ⊥
-row-no-end first t e f z = let b = inside AND XOR t (both-true _ _ (sym e ∙ f) .0) in omega arith
+row-no-end first t e f z = let b = inside AND XOR t (both _ _ (sym e ∙ f) .0) in omega arith

@@ -1,8 +1,11 @@
 -- The tokens of a line, a number each (document 01, "Lines of text"). 0 ends a line. Definitions only.
 -- A number in the text is 2^31, twice its thousandths, and one more if a point was written; a stored set has no such mark.
+use mathlib.Core.Path.{_≡_}
 use mathlib.Core.Bool.{Bool, true, false, _&&_, not}
-use Prim.Native.Nat.{ℕ, _+_, _-_, _*_, _/_, _%_}
+use mathlib.Core.List.{List}
+use Prim.Native.Nat.{ℕ, _+_, _-_, _*_, _/_, _%_, _<_}
 use lib.Dec.{eqb, leb}
+use lib.ListN.{length, getD}
 
 -- the places of a set: how many lines, where each of 32 starts, and the tokens of 4,096 bytes of text with an end to each line
 abbrev pub setSize : ℕ
@@ -212,6 +215,10 @@ isCompare t = between SAME ATLEAST t
 
 abbrev pub isLogic : ℕ → Bool
 isLogic t = between AND XOR t
+
+-- no token of a row is the end of a line
+abbrev pub AllReal : List ℕ → Type 0
+AllReal l = (i : ℕ) → i < length l → getD l i 0 ≡ 0 → ⊥
 
 -- ---- what a token carries
 

@@ -1,4 +1,3 @@
--- Laws that several proofs cite: OutLaws on text put at a place of a buffer, StepLaws and WorkLaws on a session worked line by line.
-pub mod OutLaws
+-- Laws that several proofs cite: StepLaws and WorkLaws on a session worked line by line.
 pub mod StepLaws
 pub mod WorkLaws

@@ -24,11 +24,12 @@ use Rattle.transcript.specs.declared.session.Ended.{Ended}
 use Rattle.beat_lines.specs.declared.beat_line.Reading.{Reading}
 use Rattle.beat_lines.specs.declared.beat_line.Told.{Told}
 use Rattle.beat_lines.specs.BeatLine.{Lent}
-use Rattle.transcript.specs.Output.{loadLine, errorLine, codeLine, orderLines}
+use Rattle.printing.specs.Output.{loadLine, errorLine, codeLine, orderLines}
 use Rattle.beat_lines.specs.Reading.{noReading, readOn, readLent, withoutCR}
 use Rattle.transcript.specs.Run.{maxBeats, oneIf, counted, ended, answerOf, bufferOf, beatText}
 use Rattle.transcript.specs.Machine.{TEXT, BEATS, OVER, keptSize, Fed, isFit, withPhase, withPlace, withReading, withTotals, totalsOf, starAfter, starOn, placeOn, placeEnd, opened, textEnd, beatOf, beatEnd, chunk, lineEnd}
-use Rattle.transcript.specs.Held.{IsPut, IsFed, machineOf}
+use Rattle.printing.specs.Put.{IsPut}
+use Rattle.transcript.specs.Held.{IsFed, machineOf}
 use Rattle.beat_lines.specs.Told.{toldOf, lentIn}
 use Rattle.transcript.specs.OrdersLaws.{orders-within}
 use Rattle.transcript.specs.RoomLaws.{Fit, Lives}

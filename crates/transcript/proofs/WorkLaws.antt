@@ -16,13 +16,14 @@ use Rattle.draft.specs.Row.{putAt}
 use Rattle.reader.specs.Load.{loadAnswer}
 use Rattle.transcript.specs.declared.session.Session.{Session}
 use Rattle.transcript.specs.declared.session.Ended.{Ended}
-use Rattle.transcript.specs.Output.{loadLine}
+use Rattle.printing.specs.Output.{loadLine}
 use Rattle.beat_lines.specs.Reading.{isUntouched}
 use Rattle.transcript.specs.Run.{ended}
 use Rattle.transcript.specs.Machine.{TEXT, BEATS, Machine, Fed, Work, totalsOf, isFit, beatEnd, chunk, lineEnd, textOver, lastOver, finished, finishedText, workFrom, worked}
-use Rattle.transcript.specs.Held.{IsPut, IsFed, IsWork, machineOf}
+use Rattle.printing.specs.Put.{IsPut}
+use Rattle.transcript.specs.Held.{IsFed, IsWork, machineOf}
 use Rattle.transcript.specs.RoomLaws.{Fit, Lives, fit-parts, chunk-lives, line-lives}
-use Rattle.transcript.proofs.OutLaws.{put-both, put-nothing}
+use Rattle.printing.proofs.OutLaws.{put-both, put-nothing}
 
 -- what is left to say once it is known what a piece came to
 pub work-is : {w : Work} {t s o b exit : List ℕ} {y : Session} {k q : ℕ} → w ≡ record { machine = machineOf t s y; taken = k; output = o } → IsPut b 0 o exit q → IsWork w t s b (record { session = y; taken = k; written = q }) exit

@@ -1,18 +1,14 @@
 -- How the code holds what it prints and reads: text put at a place of a buffer, what a beat line lends, what a session came to. Definitions only.
 use mathlib.Core.Path.{_≡_}
 use mathlib.Core.List.{List}
-use Prim.Native.Nat.{ℕ, _+_}
+use Prim.Native.Nat.{ℕ}
 use lib.ListN.{length}
 use Rattle.draft.specs.Row.{putAt}
 use Rattle.transcript.specs.declared.session.Session.{Session}
 use Rattle.transcript.specs.declared.session.Stepped.{Stepped}
 use Rattle.transcript.specs.declared.session.Ended.{Ended}
 use Rattle.transcript.specs.Machine.{Machine, Fed, Work}
-
--- a text is put into a buffer at a place, past whose end nothing is written; the place behind the text is `end`
-pub record IsPut (buffer : List ℕ) (at : ℕ) (text exit : List ℕ) (end : ℕ) : Type 0 where
-  pub put : exit ≡ putAt buffer at text
-  pub behind : end ≡ at + length text
+use Rattle.printing.specs.Put.{IsPut}
 
 abbrev pub machineOf : List ℕ → List ℕ → Session → Machine
 machineOf t s x = record { text = t; lines = s; session = x }

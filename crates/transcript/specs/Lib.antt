@@ -1,7 +1,6 @@
--- All that synrun prints from all that it reads: Input, Output and Run are the definitions, in document 01's words; Machine says how the code works, Held how it hands over.
+-- All that synrun prints from all that it reads: Input and Run, with Output of printing and BeatLine of beat_lines, are the definitions, in document 01's words; Machine says how the code works, Held how it hands over.
 -- The laws: OrdersLaws, at most 256 orders a beat; RoomLaws, what has room, and that a session stays fit.
 pub mod Input
-pub mod Output
 pub mod Run
 pub mod Machine
 pub mod Held

@@ -15,7 +15,7 @@ use Rattle.transcript.specs.declared.session.Session.{Session}
 use Rattle.transcript.specs.declared.session.Stepped.{Stepped}
 use Rattle.beat_lines.specs.declared.beat_line.Reading.{Reading}
 use Rattle.beat_lines.specs.BeatLine.{Lent}
-use Rattle.transcript.specs.Output.{loadLine, errorLine, endLine}
+use Rattle.printing.specs.Output.{loadLine, errorLine, endLine}
 use Rattle.transcript.specs.Run.{maxBeats, Totals, ended, counted, answerOf, beatText}
 use Rattle.beat_lines.specs.Reading.{noReading, readOn, isUntouched, withoutCR, readLent}
 

@@ -11,35 +11,20 @@ use Rattle.values.specs.Choice.{either}
 use Rattle.buffers.specs.OrderLaws.{eight-bytes}
 use Rattle.buffers.specs.declared.order.Order.{Order}
 use Rattle.tokens.specs.Token.{END, M, SETAL, LOCK, isVariable, isDrive, whole}
-use Rattle.tokens.specs.Reading.{Answer, good, stop, _>>=_, indexAt}
+use Rattle.tokens.specs.Reading.{Answer, good, stop, indexAt}
 use Rattle.working.specs.Working.{rightValue, conditionValue, isYes}
 use Rattle.code.specs.declared.check.Line.{Line}
 use Rattle.state.specs.declared.state.State.{State}
 use Rattle.set.specs.Set.{maxLines, rankIn, noLine, soundLines}
+use Rattle.soundness.specs.GoodAnswers.{Ok, bind-ok, ok-then}
 use Rattle.soundness.specs.SetLaws.{lines-lined}
 use Rattle.state.specs.Sound.{isSound}
 use Rattle.actions.specs.Action.{World, Did, ordered, fromGot, lockOf, takenAt, assignmentOf, driveOf, commandOf, actionOf, actionsOf}
 use Rattle.writing.specs.Drive.{driveOrder}
 use Rattle.writing.specs.Write.{writeTo}
-use Rattle.engine.specs.Turn.{Entry, Turned, worked, remembered, counted, takesTurn, doTurn, tryTurn, turnOf, turnsFrom}
+use Rattle.turns.specs.Turn.{Entry, Turned, worked, remembered, counted, takesTurn, doTurn, tryTurn, turnOf, turnsFrom}
 use Rattle.state.specs.Keyword.{tries, acts, remembers}
 use Rattle.engine.specs.Beat.{bufferSize, areInputs, begun, beatOf, answered, beatAnswer}
-
--- ---- answers
-
--- what holds of an answer, if it is good
-abbrev pub Ok : {A : Type 0} → (A → Type 0) → Answer A → Type 0
-Ok P (good a) = P a
-Ok P (stop c) = Unit {0}
-
-pub ok-then : {A B : Type 0} (P : A → Type 0) (Q : B → Type 0) (x : Answer A) (f : A → Answer B) → Ok P x → ((a : A) → P a → Ok Q (f a)) → Ok Q (x >>= f)
-ok-then P Q (good a) f h k = k a h
-ok-then P Q (stop c) f h k = tt
-
--- whatever went before
-ok-after : {A B : Type 0} (Q : B → Type 0) (x : Answer A) (f : A → Answer B) → ((a : A) → Ok Q (f a)) → Ok Q (x >>= f)
-ok-after Q (good a) f k = k a
-ok-after Q (stop c) f k = tt
 
 -- ---- the bytes of orders that are added
 
@@ -67,16 +52,16 @@ lock-adds c x b k q =
 assignment-adds : (s : List ℕ) (x : World) (w p : ℕ) → DidAdd x 8 (assignmentOf s x w p)
 unfolding assignmentOf
 assignment-adds s x w p =
-    ok-after (λ (d : Did). Adds x 8 (d .world)) (takenAt s (x .vars) (p + 5)) _ λ a.
-    ok-after (λ (d : Did). Adds x 8 (d .world)) (writeTo (a .vars) w (indexAt s w p) (a .value)) _ λ v.
+    bind-ok (λ (d : Did). Adds x 8 (d .world)) (takenAt s (x .vars) (p + 5)) _ λ a _.
+    bind-ok (λ (d : Did). Adds x 8 (d .world)) (writeTo (a .vars) w (indexAt s w p) (a .value)) _ λ v _.
     omega arith
 
 drive-adds : (s : List ℕ) (number : ℕ) (x : World) (w p : ℕ) → DidAdd x 8 (driveOf s number x w p)
 unfolding driveOf
 drive-adds s number x w p =
     either (DidAdd x 8) (ltb 255 (indexAt s w p)) (λ e. tt) λ e.
-    ok-after (λ (d : Did). Adds x 8 (d .world)) (fromGot (rightValue s (x .vars .r) (x .vars .cells) (p + 5))) _ λ a.
-    ok-after (λ (d : Did). Adds x 8 (d .world)) (driveOrder number w (indexAt s w p) (a .0)) _ λ o.
+    bind-ok (λ (d : Did). Adds x 8 (d .world)) (fromGot (rightValue s (x .vars .r) (x .vars .cells) (p + 5))) _ λ a _.
+    bind-ok (λ (d : Did). Adds x 8 (d .world)) (driveOrder number w (indexAt s w p) (a .0)) _ λ o _.
     order-adds x o
 
 module _ (s numbers : List ℕ) (cancelled : List Bool) (number : ℕ) where
@@ -118,7 +103,7 @@ module _ (s numbers : List ℕ) (cancelled : List Bool) (automatic : Bool) where
   try-adds l k x =
       let m = getD (x .memory) k false in
       either (TurnAdds x 64) (tries (l .keyword) m)
-      (λ e. ok-after (λ (t : Turned). Adds x 64 (t .world)) (fromGot (conditionValue s (x .vars .r) (x .vars .cells) (l .condition))) _ λ a.
+      (λ e. bind-ok (λ (t : Turned). Adds x 64 (t .world)) (fromGot (conditionValue s (x .vars .r) (x .vars .cells) (l .condition))) _ λ a _.
       do-adds l k (remembered x k (remembers (l .keyword) m (isYes (a .0)))) (worked k (isYes (a .0)) ∷ []) (acts (l .keyword) m (isYes (a .0))))
       (λ e. do-adds l k x [] (acts (l .keyword) m false))
 

@@ -9,7 +9,7 @@ use native.Mathlib.Omega.{arith}
 use lib.Dec.{eqb, leb, ltb}
 use lib.ListN.{length, take, drop, getD, replicate, length-append}
 use borrow.Author.Tests.{leb-true, le-leb, ltb-true, lt-ltb, eqb-true, eqb-false}
-use Rattle.values.specs.Choice.{either, and-left, and-right, and-true}
+use Rattle.values.specs.Choice.{either, both, and-true}
 use Rattle.text.specs.Byte.{CR, SPACE, isDigit}
 use Rattle.engine.specs.Beat.{bufferSize}
 use Rattle.reader.specs.Load.{loadAnswer}
@@ -17,7 +17,7 @@ use Rattle.transcript.specs.declared.session.Place.{Place}
 use Rattle.transcript.specs.declared.session.Session.{Session}
 use Rattle.beat_lines.specs.declared.beat_line.Reading.{Reading}
 use Rattle.beat_lines.specs.BeatLine.{Lent}
-use Rattle.transcript.specs.Output.{digitsUp, decimal, signedText, fourOf, loadLine, errorLine, codeLine, orderLine, orderLines, endLine}
+use Rattle.printing.specs.Output.{digitsUp, decimal, signedText, fourOf, loadLine, errorLine, codeLine, orderLine, orderLines, endLine}
 use Rattle.transcript.specs.Run.{maxBeats, Totals, ended, counted, oneIf, answerOf, bufferOf, beatText}
 use Rattle.beat_lines.specs.Reading.{illFormed, withField, closed, spaceAfter, modeByte, minusByte, digitByte, fieldByte, readByte, readOn, greatest, readLent, withoutCR, isUntouched}
 use Rattle.transcript.specs.Machine.{TEXT, BEATS, OVER, keptSize, Machine, Fed, totalsOf, isFit, placeOn, placeEnd, opened, textEnd, beatOf, beatEnd, chunk, lineEnd, textOver, lastOver, finished, finishedText, lineRoom}
@@ -201,17 +201,17 @@ fit-parts x h =
     let f = leb (x .reading .field) 15 in
     let s = leb (x .place .start) (x .place .size) in
     let p = leb (x .place .size) keptSize in
-    let h₁ = and-right p (s && (f && (b && (c && o)))) h in
-    let h₂ = and-right s (f && (b && (c && o))) h₁ in
-    let h₃ = and-right f (b && (c && o)) h₂ in
-    let h₄ = and-right b (c && o) h₃ in
+    let h₁ = both p (s && (f && (b && (c && o)))) h .1 in
+    let h₂ = both s (f && (b && (c && o))) h₁ .1 in
+    let h₃ = both f (b && (c && o)) h₂ .1 in
+    let h₄ = both b (c && o) h₃ .1 in
     record {
-      size = leb-true _ _ (and-left p (s && (f && (b && (c && o)))) h);
-      start = leb-true _ _ (and-left s (f && (b && (c && o))) h₁);
-      field = leb-true _ _ (and-left f (b && (c && o)) h₂);
-      beats = ltb-true _ _ (and-left b (c && o) h₃);
-      coded = leb-true _ _ (and-left c o h₄);
-      orders = leb-true _ _ (and-right c o h₄);
+      size = leb-true _ _ (both p (s && (f && (b && (c && o)))) h .0);
+      start = leb-true _ _ (both s (f && (b && (c && o))) h₁ .0);
+      field = leb-true _ _ (both f (b && (c && o)) h₂ .0);
+      beats = ltb-true _ _ (both b (c && o) h₃ .0);
+      coded = leb-true _ _ (both c o h₄ .0);
+      orders = leb-true _ _ (both c o h₄ .1);
     }
 
 pub fit-whole : (x : Session) → Fit x → isFit x ≡ true
@@ -238,7 +238,7 @@ space-narrow : (r : Reading) → Narrow r → Narrow (spaceAfter r)
 unfolding spaceAfter
 space-narrow r n =
     either Narrow (eqb (r .stage) 2 && ltb (r .field) 15)
-    (λ e. let h = ltb-true (r .field) 15 (and-right (eqb (r .stage) 2) (ltb (r .field) 15) e) in omega arith)
+    (λ e. let h = ltb-true (r .field) 15 (both (eqb (r .stage) 2) (ltb (r .field) 15) e .1) in omega arith)
     (λ e. n)
 
 field-narrow : (r : Reading) (b : ℕ) → Narrow r → Narrow (fieldByte r b)

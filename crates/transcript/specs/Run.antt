@@ -12,7 +12,7 @@ use Rattle.engine.specs.Beat.{bufferSize, beatAnswer, beatBuffer}
 use Rattle.reader.specs.Load.{loadAnswer, loadSet}
 use Rattle.transcript.specs.Input.{Input, inputOf}
 use Rattle.beat_lines.specs.BeatLine.{Lent, lineLent}
-use Rattle.transcript.specs.Output.{loadLine, errorLine, codeLine, orderLines, endLine}
+use Rattle.printing.specs.Output.{loadLine, errorLine, codeLine, orderLines, endLine}
 
 -- after 1,000,000 beats it ends as at the end of input
 abbrev pub maxBeats : ℕ

@@ -60,16 +60,6 @@ pub either-cond : {X : Type 0} (P : X → Type 0) (b : Bool) (x y : X) → P x �
 either-cond P true x y p q = p
 either-cond P false x y p q = q
 
--- the parts of a joint test that holds: the first
-pub and-left : (a b : Bool) → (a && b) ≡ true → a ≡ true
-and-left true b e = refl
-and-left false b e = absurd (false≢true e)
-
--- the second
-pub and-right : (a b : Bool) → (a && b) ≡ true → b ≡ true
-and-right true b e = e
-and-right false b e = absurd (false≢true e)
-
 -- both hold, so the joint test does
 pub and-true : {a b : Bool} → a ≡ true → b ≡ true → (a && b) ≡ true
 and-true {a} {b} p q = rw (p, q)

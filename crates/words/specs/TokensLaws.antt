@@ -2,11 +2,12 @@
 use mathlib.Core.Path.{_≡_, refl, ap, _∙_}
 use mathlib.Core.Bool.{true, false, and-false}
 use mathlib.Core.List.{List, [], _∷_}
-use Prim.Native.Nat.{ℕ, zero, suc, _+_, _-_, _≤_, _<_}
+use Prim.Native.Nat.{ℕ, zero, suc, _+_, _-_, _≤_}
 use native.Mathlib.Omega.{arith}
 use lib.Dec.{eqb}
 use lib.ListN.{length, take, drop, getD, length-drop}
 use Rattle.values.specs.Choice.{decide}
+use Rattle.tokens.specs.Token.{AllReal}
 use Rattle.words.specs.declared.first.First.{First}
 use Rattle.text.specs.Byte.{POINT, isDigit, isLetter, startsWord, isWordByte, isSpace, run}
 use Rattle.text.specs.ByteLaws.{run-within}
@@ -163,9 +164,6 @@ from-within (suc n) (b ∷ bs) =
 pub tokens-within : (t : List ℕ) → length (tokensOf t .list) ≤ length t
 unfolding tokensOf
 tokens-within t = from-within (length t) t
-
-abbrev pub AllReal : List ℕ → Type 0
-AllReal l = (i : ℕ) → i < length l → getD l i 0 ≡ 0 → ⊥
 
 none-real : AllReal []
 none-real i h = absurd (omega arith)

@@ -3,8 +3,8 @@ use mathlib.Core.Path.{_≡_, sym, ap}
 use mathlib.Core.Bool.{Bool, true, false}
 use mathlib.Core.List.{List}
 use Prim.Native.Nat.{ℕ}
-use native.Mathlib.Omega.{arith}
 use lib.IntN.{ℤ}
+use Rattle.values.specs.Numbers.{clash}
 use Rattle.values.specs.declared.arithmetic.Worked.{Worked}
 use Rattle.values.specs.declared.arithmetic.Worked.the-variants.{Value, Alarm}
 use Rattle.buffers.specs.declared.order.Order.{Order}
@@ -15,43 +15,34 @@ use Rattle.writing.specs.Write.{Vars, Changed, Celled}
 use Rattle.writing.specs.WriteHeld.{varsOf, IsChanged, IsCelled, IsWritten, IsOrder}
 
 -- what is good does not stop
-pub clash : {A : Type 0} {b : Bool} → b ≡ true → b ≡ false → A
-clash t f = absurd (let z : _≡_ {A = ℕ} 0 1 = cc in omega arith)
+pub contrary : {A : Type 0} {b : Bool} → b ≡ true → b ≡ false → A
+contrary t f = clash (cc)
 
 module _ (x : Worked) (r c : List ℤ) where
   pub changed-good : (y : Answer Changed) → IsChanged x r c y → {v : ℤ} → x ≡ Value v → y ≡ good (record { value = v; r = r; cells = c })
   changed-good (good a) h {v} e = let p : v ≡ a .value = cc in rw (p, h .1 .0, h .1 .1)
-  changed-good (stop k) h e = absurd (let z : _≡_ {A = ℕ} 0 1 = cc in omega arith)
+  changed-good (stop k) h e = clash (cc)
 
   pub changed-stop : (y : Answer Changed) → IsChanged x r c y → {k : ℕ} → x ≡ Alarm k → y ≡ stop k
-  changed-stop (good a) h e = absurd (let z : _≡_ {A = ℕ} 0 1 = cc in omega arith)
+  changed-stop (good a) h e = clash (cc)
   changed-stop (stop k) h e = cc
-
-module _ (x : Wrote) (c : List ℤ) where
-  pub celled-good : (y : Answer Celled) → IsCelled x c y → x .good ≡ true → y ≡ good (record { cells = c; runs = x .runs })
-  celled-good (good a) h e = rw (h .1 .0, h .1 .1)
-  celled-good (stop k) h e = clash e (h .0)
-
-  pub celled-stop : (y : Answer Celled) → IsCelled x c y → x .good ≡ false → y ≡ stop (x .alarm)
-  celled-stop (good a) h e = clash (h .0) e
-  celled-stop (stop k) h e = cc
 
 module _ (x : Wrote) (r c : List ℤ) where
   pub written-good : (y : Answer Vars) → IsWritten x r c y → x .good ≡ true → y ≡ good (varsOf r c (x .runs))
   written-good (good a) h e = ap good (sym (h .1))
-  written-good (stop k) h e = clash e (h .0)
+  written-good (stop k) h e = contrary e (h .0)
 
   pub written-stop : (y : Answer Vars) → IsWritten x r c y → x .good ≡ false → y ≡ stop (x .alarm)
-  written-stop (good a) h e = clash (h .0) e
+  written-stop (good a) h e = contrary (h .0) e
   written-stop (stop k) h e = cc
 
 module _ (x : Ordered) where
   pub order-good : (y : Answer Order) → IsOrder x y → x .good ≡ true → y ≡ good (x .order)
   order-good (good a) h e = ap good (sym (h .1))
-  order-good (stop k) h e = clash e (h .0)
+  order-good (stop k) h e = contrary e (h .0)
 
   pub order-stop : (y : Answer Order) → IsOrder x y → x .good ≡ false → y ≡ stop (x .alarm)
-  order-stop (good a) h e = clash (h .0) e
+  order-stop (good a) h e = contrary (h .0) e
   order-stop (stop k) h e = cc
 
 -- what a cell's write gave is written, and changes nothing of R

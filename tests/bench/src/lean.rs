@@ -2,7 +2,7 @@
 
 use crate::memory::World;
 use reference::code::Code;
-use reference::token::{Comparison, Joint, Name};
+use reference::token::{Joint, Name};
 use reference::tree::{Expression, Variable};
 use reference::value::{ranged, Cut, Value, UNIT};
 
@@ -15,7 +15,7 @@ pub fn truth(world: &World, expression: &Expression) -> Worked<bool> {
         Expression::Not(inner) => Ok(!truth(world, inner)?),
         Expression::Compared(left, comparison, right) => {
             let left = number(world, left)?;
-            Ok(compare(*comparison, left, number(world, right)?))
+            Ok(comparison.holds(left, number(world, right)?))
         }
         Expression::Joined(joint, members) => {
             let mut value = truth(world, &members[0])?;
@@ -42,17 +42,6 @@ pub fn number(world: &World, expression: &Expression) -> Worked<Value> {
             Ok(value)
         }
         _ => unreachable!("yes/no where the checks found a number"),
-    }
-}
-
-fn compare(comparison: Comparison, left: Value, right: Value) -> bool {
-    match comparison {
-        Comparison::Equal => left == right,
-        Comparison::Unequal => left != right,
-        Comparison::Less => left < right,
-        Comparison::Greater => left > right,
-        Comparison::AtMost => left <= right,
-        Comparison::AtLeast => left >= right,
     }
 }
 

@@ -5,21 +5,21 @@ use mathlib.Core.Path.{refl}
 use native.Mathlib.Omega.{arith}
 use denote.Ref.{now}
 use Rattle.tokens.specs.Reading.{Answer}
-use Rattle.engine.specs.Turn.{Turned, turnsFrom}
+use Rattle.turns.specs.Turn.{Turned, turnsFrom}
 use Rattle.engine.specs.Beat.{begun}
-use Rattle.engine.specs.TurnHeld.{IsTurned}
-use Rattle.engine.proofs.TurnLaws.{turned-good, turned-stop}
+use Rattle.turns.specs.TurnHeld.{IsTurned}
+use Rattle.turns.proofs.TurnLaws.{turned-good, turned-stop, few-lines}
 use Rattle.engine.proofs.BeatLaws.{refuses, answers, writes}
 use Rattle.engine.proofs.beat.all_turns.Statement.{statement}
 use Rattle.engine.proofs.beat.all_turns.Tie as tie
 
 -- all turns, and what they came to
 abbrev all : tie.After-turns → Answer Turned
-all c = let a = c .before .before .before .before .before .before .before .before .before .before .before .before .args in turnsFrom (now (a .set)) (a .lines .numbers) (a .state .cancelled) (a .automatic) (a .lines .items) (a .lines .count) 0 (begun (a .state) (a .inputs) (now (a .lent)))
+all c = let a = c .before .before .before .before .before .before .before .before .before .before .args in turnsFrom (now (a .set)) (a .lines .numbers) (a .state .cancelled) (a .automatic) (a .lines .items) (a .lines .count) 0 (begun (a .state) (a .inputs) (now (a .lent)))
 
 came : (c : tie.After-turns) → let d = c .turns in let o = d .last .1 .1 .1 .1 in IsTurned (d .result) (o .0) (o .1 .0) (o .1 .1 .0) (all c)
 unfolding begun
-came c = let f = c .before .before .before .before .before in rw (f .first-flags .ensures, f .before .before .beat-cells .ensures) at (c .turns .ensures .0)
+came c = let s = c .before .before .before .before .before .before .before .before .before .before in rw (few-lines (s .args .lines .count) _ (s .pre .0), c .before .before .before .before .before .beat-cells .ensures) at (c .turns .ensures .0)
 
 pub all-turns-spec : {M : Type 1} → statement M
 all-turns-spec =
@@ -27,18 +27,17 @@ all-turns-spec =
     (tie.spec
     (λ c κs. search needs)
     (λ c κs. search needs)
-    (λ c κs. (c .before .before .before .before .before .before .before .before .before .before .before .pre .0, rw (c .before .before .before .before .first-flags .ensures) (refl, refl)))
     (λ c κs. search needs)
     (λ c κs. search needs)
     (λ c κs. search needs)
     (λ c.
     let i = c .before in
     let d = i .before .before .before .before .before in
-    let a = d .before .before .before .before .before .before .before .before .before .before .before .before .args in
+    let a = d .before .before .before .before .before .before .before .before .before .before .args in
     let o = d .turns .last .1 .1 .1 .1 in
     refuses (a .state) (now (a .orders)) (all d) (c .refused .ensures) (turned-stop (d .turns .result) (o .0) (o .1 .0) (o .1 .1 .0) (all d) (came d) (not-true _ (i .if1 .taken))))
     (λ c. search needs)
-    (λ c κs. let d = c .before .before .before .before .before .before .before .before in (omega (arith, d .turns .ensures .1 .0), d .before .before .before .before .before .before .before .before .before .before .before .before .pre .1 .1))
+    (λ c κs. let d = c .before .before .before .before .before .before .before .before in (omega (arith, d .turns .ensures .1 .0), d .before .before .before .before .before .before .before .before .before .before .pre .1 .1))
     (λ c κs. search needs)
     (λ c. search needs)
     (λ c.
@@ -47,7 +46,7 @@ all-turns-spec =
     let m = i .before in
     let k = m .before in
     let d = k .before .before .before in
-    let a = d .before .before .before .before .before .before .before .before .before .before .before .before .args in
+    let a = d .before .before .before .before .before .before .before .before .before .before .args in
     let o = d .turns .last .1 .1 .1 .1 in
     let f = d .turns .result .flags in
     let w = turned-good (d .turns .result) (o .0) (o .1 .0) (o .1 .1 .0) (all d) (came d) (not-false _ (i .if1 .left)) in

@@ -1,5 +1,7 @@
 -- `session::beat_end` meets its contract: by what the line lends.
 use borrow.Author.Needs.{needs}
+use native.Mathlib.Omega.{arith}
+use Rattle.printing.proofs.OutLaws.{reached}
 use Rattle.transcript.proofs.StepLaws.{fed, fed-as, lent-some, lent-none, beat-good, beat-ill}
 use Rattle.transcript.proofs.session.beat_end.Statement.{statement}
 use Rattle.transcript.proofs.session.beat_end.Tie as tie
@@ -21,4 +23,4 @@ beat-end-spec =
     (λ c t.
     let p = c .before .before in
     let i = p .before .before .before in
-    fed (beat-ill t _ _ _ (lent-none _ (i .before .read-lent .ensures) (i .if1 .left))) (p .error-line .ensures)))
+    fed (beat-ill t _ _ _ (lent-none _ (i .before .read-lent .ensures) (i .if1 .left))) (reached _ _ (p .error-line .ensures) (omega arith))))

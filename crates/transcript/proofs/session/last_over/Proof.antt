@@ -5,7 +5,7 @@ use mathlib.Core.List.{[]}
 use denote.Ref.{now}
 use Rattle.transcript.specs.Held.{machineOf}
 use Rattle.transcript.specs.RoomLaws.{beat-end-room}
-use Rattle.transcript.proofs.OutLaws.{put-both}
+use Rattle.printing.proofs.OutLaws.{put-both}
 use Rattle.transcript.proofs.WorkLaws.{put-as, last-beats, last-else}
 use Rattle.transcript.proofs.session.last_over.Statement.{statement}
 use Rattle.transcript.proofs.session.last_over.Tie as tie

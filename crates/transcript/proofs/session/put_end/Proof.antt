@@ -1,5 +1,7 @@
 -- `session::put_end` meets its contract: the line END.
 use borrow.Author.Needs.{needs}
+use native.Mathlib.Omega.{arith}
+use Rattle.printing.proofs.OutLaws.{reached}
 use Rattle.transcript.proofs.session.put_end.Statement.{statement}
 use Rattle.transcript.proofs.session.put_end.Tie as tie
 
@@ -9,4 +11,4 @@ put-end-spec =
     (tie.spec
     (λ c κs. search needs)
     (λ c. search needs)
-    (λ c. c .before .before .end-line .ensures))
+    (λ c. reached _ _ (c .before .before .end-line .ensures) (omega arith)))

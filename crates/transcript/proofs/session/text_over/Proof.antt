@@ -1,5 +1,7 @@
 -- `session::text_over` meets its contract: by the code of the load.
 use borrow.Author.Needs.{needs}
+use native.Mathlib.Omega.{arith}
+use Rattle.printing.proofs.OutLaws.{reached}
 use Rattle.transcript.proofs.WorkLaws.{put-as, over-good, over-not}
 use Rattle.transcript.proofs.session.text_over.Statement.{statement}
 use Rattle.transcript.proofs.session.text_over.Tie as tie
@@ -14,7 +16,7 @@ text-over-spec =
     (λ c m s.
     let p = c .before .before in
     let i = p .before .before in
-    put-as (over-not _ _ (i .before .load .ensures .0) (i .if1 .taken)) (p .load-line .ensures))
+    put-as (over-not _ _ (i .before .load .ensures .0) (i .if1 .taken)) (reached _ _ (p .load-line .ensures) (omega arith)))
     (λ c κs. search needs)
     (λ c. search needs)
     (λ c m s.
