@@ -1,4 +1,7 @@
 // synrun: reads standard input, hands it to a session piece by piece, and writes what the session prints. Nothing else happens here.
+//
+// Where reading or writing fails it says so on standard error and stops, without END.
+use libc::STDERR_FILENO;
 use libc::STDIN_FILENO;
 use libc::STDOUT_FILENO;
 use set::set::empty_set;
@@ -11,31 +14,52 @@ use transcript::session::finish;
 use transcript::session::is_over;
 use transcript::session::step;
 
-// A session, and whether more of its input is wanted.
+// A session, whether more of its input is wanted, and whether reading or writing failed.
 struct Next {
     session: Session,
     more: bool,
+    failed: bool,
 }
 
-// Hands over one piece of input, and writes what it prints.
+// Writes what was printed; whether that failed.
+fn not_written(part: &[u8]) -> bool {
+    if io::write_all(STDOUT_FILENO, part) {
+        return false;
+    }
+    io::write_all(STDERR_FILENO, b"synrun: standard output cannot be written\n");
+    true
+}
+
+// Hands over one piece of input, and writes what it prints, up to a write that fails.
 fn hand_over(
     session: Session,
     text: &mut [u8; KEPT],
     set: &mut [u32; SIZE],
     piece: &[u8],
-) -> Session {
+) -> Next {
     let mut s = session;
     let mut at: usize = 0;
     while at < piece.len() {
         let mut out = [0u8; OUT];
         let x = step(s, text, set, &piece[at..], &mut out);
         let written = x.written;
-        io::write_all(STDOUT_FILENO, &out[..written]);
         let next = x.session;
+        if not_written(&out[..written]) {
+            return Next {
+                session: next,
+                more: false,
+                failed: true,
+            };
+        }
         s = next;
         at += x.taken;
     }
-    s
+    let over = is_over(s);
+    Next {
+        session: s,
+        more: !over,
+        failed: false,
+    }
 }
 
 // Reads once and hands over what came; at the end of input, or of the session, no more is wanted.
@@ -44,17 +68,17 @@ fn read_some(session: Session, text: &mut [u8; KEPT], set: &mut [u32; SIZE]) -> 
     let got = libc::read(STDIN_FILENO, &mut piece);
     let n = io::count(got, &piece);
     if n == 0 {
+        let bad = got < 0;
+        if bad {
+            io::write_all(STDERR_FILENO, b"synrun: standard input cannot be read\n");
+        }
         return Next {
             session: session,
             more: false,
+            failed: bad,
         };
     }
-    let s = hand_over(session, text, set, &piece[..n]);
-    let over = is_over(s);
-    Next {
-        session: s,
-        more: !over,
-    }
+    hand_over(session, text, set, &piece[..n])
 }
 
 fn main() {
@@ -70,11 +94,14 @@ fn main() {
         }
         turns -= 1;
         let x = read_some(s, &mut text, &mut set);
+        if x.failed {
+            return;
+        }
         let next = x.session;
         s = next;
         more = x.more;
     }
     let mut out = [0u8; OUT];
     let n = finish(s, &text, &set, &mut out);
-    io::write_all(STDOUT_FILENO, &out[..n]);
+    not_written(&out[..n]);
 }

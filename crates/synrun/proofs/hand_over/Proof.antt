@@ -16,9 +16,9 @@ abbrev μ-loop : tie.MeasureT-loop
 μ-loop text₀ set₀ piece s₀ at₀ text set s at = length piece - at
 
 prefix : tie.Need-array-share-prefix-out Inv-loop μ-loop
-prefix c = written-room _ _ (c .step .ensures) (length-replicate {A = ℕ} 16384 0)
+prefix c = written-room _ _ (c .before .step .ensures) (length-replicate {A = ℕ} 16384 0)
 
-counted : tie.Need-slice-aggregate-write-all Inv-loop μ-loop
+counted : tie.Need-slice-aggregate-not-written Inv-loop μ-loop
 counted c = sym (length-take-le _ _ (prefix (c .before)))
 
 pub hand-over-spec : {M : Type 1} → statement M
@@ -35,8 +35,9 @@ hand-over-spec =
     prefix
     counted
     (λ c κs. tt)
+    (λ c. search needs)
     (λ c.
-    let s = c .before .before .before .before in
+    let s = c .before .before .before .before .before in
     let b = s .before .before .before .before .before .before in
     let p = b .before .before .args .piece .now in
     let d = left-length (b .loop .at) p in
@@ -44,7 +45,7 @@ hand-over-spec =
     let f = b .before .shared-slice-known .given in
     omega (arith, b .loop .inv, s .before .before .before .before .before .loop-test .taken))
     (λ c.
-    let s = c .before .before .before .before in
+    let s = c .before .before .before .before .before in
     let b = s .before .before .before .before .before .before in
     let p = b .before .before .args .piece .now in
     let d = left-length (b .loop .at) p in
@@ -53,11 +54,12 @@ hand-over-spec =
     let q = some _ _ (s .step .ensures) (omega arith) in
     omega arith)
     (λ c.
-    let s = c .before .before .before .before in
+    let s = c .before .before .before .before .before in
     let b = s .before .before .before .before .before .before in
     let p = b .before .before .args .piece .now in
     let d = left-length (b .loop .at) p in
     let r : s .step .result .taken ≤ length (take (length p - b .loop .at) (drop (b .loop .at) p)) = no-more _ _ (s .step .ensures) in
     let i : b .loop .at ≤ length p = b .loop .inv in
     omega arith)
+    (λ c κs. search needs)
     (λ c. search needs))

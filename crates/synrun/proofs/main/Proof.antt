@@ -31,6 +31,7 @@ main-spec =
     (λ c. search needs)
     (λ c κs. tt)
     (λ c. search needs)
+    (λ c. search needs)
     (λ c. tt)
     (λ c κs. tt)
     prefix
