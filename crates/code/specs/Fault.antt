@@ -6,7 +6,7 @@ use lib.Dec.{eqb, leb}
 use lib.ListN.{getD, drop}
 use Rattle.code.specs.declared.check.Look.{Look}
 use Rattle.code.specs.declared.check.Line.{Line}
-use Rattle.tokens.specs.Token.{setSize, END, EQUALS, OPEN, CLOSE, IDS, DO, M, SETAL, isVariable, isFifo, isDrive, isCall, isKeyword, isId, isFactor, isTerm, isLogic, isWhole, whole}
+use Rattle.tokens.specs.Token.{setSize, END, EQUALS, MINUS, OPEN, CLOSE, IDS, DO, M, SETAL, isVariable, isFifo, isDrive, isCall, isKeyword, isId, isFactor, isTerm, isLogic, isWhole, whole}
 use Rattle.tokens.specs.Reading.{good, Read, read, ends, then, Meaning, isIndexed, indexAt, sumAt, expressionAt}
 use Rattle.tokens.specs.SingleFault.{callFault, codeFault, idFault, lower, notInGrammar, numberFault, opensTooMany, readFault, tooDeep, tooMany, unless, wantingFault, writeFault}
 
@@ -60,6 +60,11 @@ shownSight l = elim (l .good) [ true ↦ read (record { truth = l .truth; fault 
 
 abbrev pub signedSight : Bool → Sight → ℕ → Read Sight
 signedSight t a q = read (signed t a) q
+
+-- how many more - stand directly behind the one at p, at most k
+unfoldable pub signsBehind : List ℕ → ℕ → ℕ → ℕ
+signsBehind s zero p = 0
+signsBehind s (suc k) p = elim (eqb (getD s (p + 1) 0) MINUS) [ true ↦ 1 + signsBehind s k (p + 1) | false ↦ 0 ]
 
 abbrev pub shownFault : Read ℕ → Look
 shownFault (read f q) = record { good = true; truth = false; fault = f; next = q }

@@ -3,9 +3,9 @@
 // The walk goes by recursive descent over the tokens; `left` is the count of tokens left. A fault is document 01's code, 0 for none.
 ghost use mathlib.Core.Path.{_≡_};
 ghost use mathlib.Core.Bool.{true, false};
-ghost use Prim.Native.Nat.{_<_};
+ghost use Prim.Native.Nat.{_+_, _<_, _≤_};
 ghost use Rattle.tokens.specs.Reading.{read, ends, then, readOperand, readProduct, readSum, readExpression, readClose, readVariable, readTruth};
-ghost use Rattle.code.specs.Fault.{joinSights, sight, shown, shownSight, signedSight, shownFault, shownRead, faultFor, isRemoval, assignedAt, assignmentAt, commandAt, actionAt, countFault, actionsAt, numberOf, faultyLine, lineParts, bodyAt, restAt, lineAt};
+ghost use Rattle.code.specs.Fault.{joinSights, sight, shown, shownSight, signedSight, signsBehind, shownFault, shownRead, faultFor, isRemoval, assignedAt, assignmentAt, commandAt, actionAt, countFault, actionsAt, numberOf, faultyLine, lineParts, bodyAt, restAt, lineAt};
 use tokens::fault::NOT_IN_GRAMMAR;
 use tokens::fault::TOO_DEEP;
 use tokens::fault::TOO_MANY;
@@ -151,6 +151,21 @@ fn signed(truth: bool, a: Look) -> Look
     }
 }
 
+// How many more minus signs stand directly behind the one at place `at`, at most `most`: behind one more the check sees the same.
+fn signs_behind(code: &[u32; SIZE], at: usize, most: usize) -> usize
+    requires { ⌜ at < 4130 ⌝ }
+    ensures { λ x. ⌜ (x ≡ signsBehind (now (code .entry)) most at) × ((x ≤ most) × (at + x < 4130)) ⌝ }
+{
+    let mut n: usize = 0;
+    while n < most {
+        if token_at(code, at + n + 1) != MINUS {
+            return n;
+        }
+        n += 1;
+    }
+    n
+}
+
 fn closed(code: &[u32; SIZE], a: Look) -> Look
     requires { ⌜ shown (shownSight a) ≡ a ⌝ }
     ensures { λ x. ⌜ x ≡ shown (then (shownSight a) (readClose (now (code .entry)) sight)) ⌝ }
@@ -234,7 +249,8 @@ fn operand(code: &[u32; SIZE], at: usize, left: usize) -> Look
         return closed(code, expression(code, at + 1, left - 1));
     }
     if t == MINUS {
-        return signed(false, operand(code, at + 1, left - 1));
+        let n = signs_behind(code, at, left - 1);
+        return signed(false, operand(code, at + n + 1, left - 1 - n));
     }
     if t == NOT {
         return signed(true, operand(code, at + 1, left - 1));

@@ -1,11 +1,18 @@
--- The answer of a working as one number: a value is itself, an alarm k is -2^40 - k, below every value. Definitions only.
+-- The answers of a working and of a load as one number each. Definitions only.
 use mathlib.Core.Bool.{true, false}
+use Prim.Native.Nat.{ℕ, _+_, _*_}
 use lib.IntN.{ℤ, negsuc, _-ℤ_}
 use Rattle.working.specs.declared.work.Got.{Got}
+use Rattle.reader.specs.declared.load.Loaded.{Loaded}
 
 -- -2^40
 abbrev pub alarms : ℤ
 alarms = negsuc 1099511627775
 
+-- a value is itself, an alarm k is -2^40 - k, below every value
 unfoldable pub packed : Got → ℤ
 packed g = elim (g .good) [ true ↦ g .value | false ↦ alarms -ℤ g .value ]
+
+-- the code is the lowest byte, the line stands above it; the state is that of power-on in each case
+unfoldable pub packedLoad : Loaded → ℕ
+packedLoad l = l .line * 256 + l .code

@@ -1,10 +1,12 @@
 // Calls of the control for programs in Rust or C. Each is a thin shell over a proved call and asks nothing of its caller but arrays of the
-// right length. What begins with `code_` is lent a set's tokens.
+// right length. What begins with `code_` is lent a set's tokens, with `reader_` a set text.
 ghost use mathlib.Core.Path.{_≡_};
 ghost use Rattle.working.specs.Working.{conditionValue, rightValue};
 ghost use Rattle.code.specs.Fault.{lineAt};
-ghost use Rattle.exports.specs.Packed.{packed};
+ghost use Rattle.reader.specs.Load.{loadAnswer, loadSet};
+ghost use Rattle.exports.specs.Packed.{packed, packedLoad};
 use code::check;
+use reader::load;
 use tokens::token::SIZE;
 use working::variables::CELLS;
 use working::variables::RS;
@@ -58,4 +60,14 @@ pub extern "C" fn code_line_fault(code: &[u32; SIZE], at: usize) -> u32
 {
     let line = check::line_at(code, at);
     line.fault as u32
+}
+
+// Loads a text into a set: the code, and 256 times the line that it names.
+#[no_mangle]
+pub extern "C" fn reader_load(text: &[u8], set: &mut [u32; SIZE]) -> u64
+    ensures { λ x. ⌜ x ≡ packedLoad (loadAnswer (now (text .entry))) ⌝ }
+    ensures { λ x. ⌜ now (set .exit) ≡ loadSet (now (text .entry)) ⌝ }
+{
+    let l = load::load(text, set);
+    l.line as u64 * 256 + l.code as u64
 }

@@ -26,17 +26,15 @@ fn not_written(part: &[u8]) -> bool {
     if io::write_all(STDOUT_FILENO, part) {
         return false;
     }
-    io::write_all(STDERR_FILENO, b"synrun: standard output cannot be written\n");
+    io::write_all(
+        STDERR_FILENO,
+        b"synrun: standard output cannot be written\n",
+    );
     true
 }
 
 // Hands over one piece of input, and writes what it prints, up to a write that fails.
-fn hand_over(
-    session: Session,
-    text: &mut [u8; KEPT],
-    set: &mut [u32; SIZE],
-    piece: &[u8],
-) -> Next {
+fn hand_over(session: Session, text: &mut [u8; KEPT], set: &mut [u32; SIZE], piece: &[u8]) -> Next {
     let mut s = session;
     let mut at: usize = 0;
     while at < piece.len() {

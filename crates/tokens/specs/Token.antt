@@ -204,6 +204,9 @@ isKeyword t = between WHEN EVERY t
 abbrev pub isId : ℕ → Bool
 isId t = between ID IDS t
 
+abbrev pub isBracket : ℕ → Bool
+isBracket t = between OPEN CLOSE t
+
 abbrev pub isFactor : ℕ → Bool
 isFactor t = between TIMES OVER t
 

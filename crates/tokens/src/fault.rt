@@ -5,7 +5,6 @@ ghost use Prim.Native.Nat.{_<_};
 ghost use lib.ListN.{drop};
 ghost use Rattle.tokens.specs.SingleFault.{lower, opensTooMany, wantingFault, numberFault, readFault, isWritable, writeFault, codeFault, callFault, idFault};
 use crate::index::is_inside;
-use crate::token::CLOSE;
 use crate::token::END;
 use crate::token::EVERY;
 use crate::token::OPEN;
@@ -14,6 +13,7 @@ use crate::token::R;
 use crate::token::SETAL;
 use crate::token::TIMER;
 use crate::token::WHEN;
+use crate::token::is_bracket;
 use crate::token::is_fifo;
 use crate::token::token_at;
 use values::arithmetic::TOP;
@@ -36,6 +36,9 @@ pub const TOO_MANY: u8 = 10;
 // The brackets that may be open, and the actions of a line.
 pub const BRACKETS: usize = 8;
 
+// The highest load of a number in the range: 1,000,000 and a written point.
+const HIGHEST: u32 = 2 * (TOP as u32) + 1;
+
 // The lower of two faults.
 pub fn lower_of(a: u8, b: u8) -> u8
     ensures { λ x. ⌜ x ≡ lower a b ⌝ }
@@ -56,10 +59,11 @@ pub fn wanting(wanted: bool, truth: bool) -> u8
     if wanted == truth { 0 } else { CONFUSED }
 }
 
+// The load of a number's token: twice its thousandths, and one more for a written point.
 pub fn number_fault(t: u32) -> u8
     ensures { λ x. ⌜ x ≡ numberFault t ⌝ }
 {
-    if t / 2 <= TOP as u32 { 0 } else { OUTSIDE }
+    if t <= HIGHEST { 0 } else { OUTSIDE }
 }
 
 pub fn read_fault(w: u32, i: u32) -> u8
@@ -150,13 +154,13 @@ pub fn opens_too_many(code: &[u32], at: usize) -> bool
         if t == END {
             return false;
         }
-        if t == OPEN {
-            if BRACKETS <= open {
-                return true;
-            }
-            open += 1;
-        } else if t == CLOSE {
-            if 0 < open {
+        if is_bracket(t) {
+            if t == OPEN {
+                if BRACKETS <= open {
+                    return true;
+                }
+                open += 1;
+            } else if 0 < open {
                 open -= 1;
             }
         }

@@ -2,7 +2,7 @@
 ghost use mathlib.Core.Path.{_≡_};
 ghost use Prim.Native.Nat.{_<_};
 ghost use lib.ListN.{length, getD};
-ghost use Rattle.tokens.specs.Token.{between, isNumber, isVariable, isNumbered, isFifo, isAxis, isDrive, isCall, isKeyword, isId, isFactor, isTerm, isCompare, isLogic, isWhole, whole};
+ghost use Rattle.tokens.specs.Token.{between, isNumber, isVariable, isNumbered, isFifo, isAxis, isDrive, isCall, isKeyword, isId, isBracket, isFactor, isTerm, isCompare, isLogic, isWhole, whole};
 ghost use Rattle.tokens.specs.Reading.{isRow, isIndex, indexOf, isIndexed, indexAt};
 
 // The places of a set: how many lines, where each of 32 starts, and the tokens of 4,096 bytes of text with an end to each line.
@@ -168,6 +168,13 @@ pub fn is_id(t: u32) -> bool
     ensures { λ r. ⌜ r ≡ isId t ⌝ }
 {
     is_between(ID, IDS, t)
+}
+
+// A bracket ( or ).
+pub fn is_bracket(t: u32) -> bool
+    ensures { λ r. ⌜ r ≡ isBracket t ⌝ }
+{
+    is_between(OPEN, CLOSE, t)
 }
 
 pub fn is_factor(t: u32) -> bool

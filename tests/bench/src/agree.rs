@@ -1,13 +1,14 @@
-//! That the proved walks, the reference and the lean interpreter answer alike.
+//! That the proved calls, the reference and the lean interpreter answer alike.
 
 use crate::lean;
 use crate::loaded::{self, Loaded, Worked};
 use crate::memory::{self, World};
-use crate::proved::{self, Answer, Code, Memory};
+use crate::proved::{self, Answer, Code, Memory, SIZE};
 use crate::tokens;
 use reference::beat::Beat;
 use reference::check;
 use reference::generate;
+use reference::load;
 use reference::random::Random;
 use reference::runner::Form;
 use reference::seen::Seen;
@@ -39,11 +40,24 @@ impl Agreement {
         }
     }
 
-    /// The lines of the random sets by these seeds: the same faults, and the same values in random worlds.
+    /// The text is loaded alike: the same code and line, and every place of the set.
+    pub fn text(&mut self, text: &[u8]) {
+        let mut set = Box::new([u32::MAX; SIZE]);
+        let found = proved::load(text, &mut set);
+        let (expected, laid) = match load::load(text, Slip::None) {
+            Ok(_) => ((0, 0), tokens::set(text)),
+            Err(refusal) => ((refusal.code.number(), refusal.line as u64), tokens::laid(&[])),
+        };
+        self.note(found == expected, || format!("loading: {found:?} for {expected:?}: {text:?}"));
+        self.note(set == laid.code, || format!("the set of {text:?}"));
+    }
+
+    /// The random sets by these seeds: loaded alike; of their lines the same faults, and the same values in random worlds.
     pub fn random(&mut self, seeds: Range<u64>) {
         for seed in seeds {
             let mut random = Random::new(seed);
             let input = generate::input(Form::Synrun, seed);
+            self.text(text::split_at_star(&input).0);
             for line in text::lines(&input).map(text::without_comment).take_while(|line| *line != b"*") {
                 self.line(&mut random, line);
             }

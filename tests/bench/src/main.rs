@@ -1,10 +1,11 @@
-//! Runs the proved walks over tokens beside a tree interpreter: that they answer alike, and how long each takes.
+//! Runs the proved walks over tokens and the proved loading beside a tree interpreter: that they answer alike, and how long each takes.
 //!
 //! `run` builds and runs it. The last line is 'N passed, M failed', of the answers that were compared.
 
 mod agree;
 mod lean;
 mod loaded;
+mod loading;
 mod measure;
 mod memory;
 mod proved;
@@ -38,17 +39,16 @@ struct Times {
 fn main() -> ExitCode {
     let agreement = agreement();
     let world = memory::running();
-    let cutter = Loaded::new(sets::CUTTER);
+    let [cutter, brackets, signs] = [sets::CUTTER, sets::BRACKETS, &sets::signs()].map(Loaded::new);
     println!("ns a token, least of many   tokens  proved  reference  ratio   lean  ratio");
     print("(a) cutter, 36 expressions", &times(&cutter, &world));
-    print("(b) eight brackets", &times(&Loaded::new(sets::BRACKETS), &world));
-    print("(c) 4,000 minus signs", &times(&Loaded::new(&sets::signs()), &world));
-    let [checked, walked] = check_times(&cutter, &world.memory());
-    println!(
-        "(d) check of the cutter     {:6}  {checked:6.2}  {:.2} of (a)",
-        cutter.tokens,
-        checked / walked
-    );
+    print("(b) eight brackets", &times(&brackets, &world));
+    print("(c) 4,000 minus signs", &times(&signs, &world));
+    let memory = world.memory();
+    print_check("(d) check of the cutter", "(a)", &cutter, &memory);
+    print_check("(e) check of the brackets", "(b)", &brackets, &memory);
+    print_check("(f) check of the signs", "(c)", &signs, &memory);
+    loading_times();
     println!("{} passed, {} failed", agreement.passed, agreement.failed);
     ExitCode::from(u8::from(agreement.failed > 0))
 }
@@ -58,8 +58,9 @@ fn agreement() -> Agreement {
     let work = || {
         let mut agreement = Agreement::default();
         let world = memory::running();
-        for text in [sets::CUTTER, sets::BRACKETS, &sets::signs()] {
+        for text in [sets::EXAMPLE, sets::CUTTER, sets::BRACKETS, &sets::signs(), &sets::full(32)] {
             agreement.set(&Loaded::new(text), &world);
+            agreement.text(text.as_bytes());
         }
         agreement.random(SEEDS);
         agreement
@@ -120,6 +121,22 @@ fn check_times(loaded: &Loaded, memory: &Memory) -> [f64; 2] {
     let mut by_walk = || walk(loaded, memory, &expressions);
     let [checked, walked] = least_times([&mut check, &mut by_walk]);
     [checked / loaded.tokens as f64, walked / loaded::sizes(&expressions) as f64]
+}
+
+fn loading_times() {
+    loading::head();
+    loading::row("(g) document 01's example", sets::EXAMPLE);
+    loading::row("(h) cutter, 12 lines", sets::CUTTER);
+    loading::row("(i) 4,000 minus signs", &sets::signs());
+    for lines in [1, 2, 4, 8, 16, 32] {
+        loading::row(&format!("(j) lines of 8 actions: {lines:2}"), &sets::full(lines));
+    }
+}
+
+/// The check of a set's lines, and that by the walk over its expressions.
+fn print_check(name: &str, other: &str, loaded: &Loaded, memory: &Memory) {
+    let [checked, walked] = check_times(loaded, memory);
+    println!("{name:26}  {:6}  {checked:6.2}  {:.2} of {other}", loaded.tokens, checked / walked);
 }
 
 fn print(name: &str, times: &Times) {

@@ -1,6 +1,6 @@
-//! The proved calls of the crate `exports`. They ask nothing of their caller; the array types give the lengths.
+//! The proved calls of the crate `exports`. They ask nothing of their caller; the array types give the lengths, a text is lent by its place and length.
 
-/// Places of a set (crates/code/specs/Token), of R, and of the cells of all other variables (crates/working/specs/Variables).
+/// Places of a set (crates/tokens/specs/Token), of R, and of the cells of all other variables (crates/working/specs/Variables).
 pub const SIZE: usize = 4130;
 pub const RS: usize = 164;
 pub const CELLS: usize = 122;
@@ -14,6 +14,7 @@ extern "C" {
     fn code_condition(code: &Code, r: &[i32; RS], cells: &[i32; CELLS], at: usize) -> i64;
     fn code_right_side(code: &Code, r: &[i32; RS], cells: &[i32; CELLS], at: usize) -> i64;
     fn code_line_fault(code: &Code, at: usize) -> u32;
+    fn reader_load(text: *const u8, size: usize, set: &mut Code) -> u64;
 }
 
 /// What a walk reads: R, and one cell for each other variable.
@@ -39,6 +40,13 @@ pub fn right_side(code: &Code, memory: &Memory, at: usize) -> i64 {
 pub fn line_fault(code: &Code, at: usize) -> u32 {
     // SAFETY: as above.
     unsafe { code_line_fault(code, at) }
+}
+
+/// Loads a text into the set: the code and the line that it names, 0 and 0 if the text is taken.
+pub fn load(text: &[u8], set: &mut Code) -> (u8, u64) {
+    // SAFETY: the call reads the bytes of the text, writes the places of the set, and touches nothing else.
+    let packed = unsafe { reader_load(text.as_ptr(), text.len(), set) };
+    (packed as u8, packed >> 8)
 }
 
 pub fn answer(packed: i64) -> Answer {

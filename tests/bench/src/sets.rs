@@ -1,5 +1,8 @@
 //! The sets that are measured.
 
+/// Document 01's example.
+pub const EXAMPLE: &str = "ID=1 EVERY $A_IN[1]==1 DO $AC_MARKER[0]=$AC_MARKER[0]+1 M=7\n";
+
 /// A flying cutter: R[1] the length of a piece, R[2] the lead, R[3] the ratio of wheel to carriage, R[4] the tolerance of being in step,
 /// R[10] where the carriage rests; FIFO 1 holds where the next cuts lie. X is the carriage, Y the wheel.
 pub const CUTTER: &str = "\
@@ -31,4 +34,10 @@ const SIGNS: usize = 4000;
 /// One right side with 4,000 minus signs, nearly all that a text has room for.
 pub fn signs() -> String {
     format!("ID=1 DO $R[1]={}$R[2]\n", "-".repeat(SIGNS))
+}
+
+/// Lines of eight actions and 128 bytes each: 32 of them are all the lines and bytes that a text may have.
+pub fn full(lines: usize) -> String {
+    let line = |number| format!("ID={number} DO $R[1]=$R[2]+1{}\n", " $R[1]=$R[2]+10".repeat(7));
+    (11..).take(lines).map(line).collect()
 }

@@ -1,6 +1,7 @@
-//! Set text as the numbers of crates/code/specs/Token, and lines of them in the array of a set.
+//! Set text as the numbers of crates/tokens/specs/Token, and lines of them in the array of a set.
 
 use crate::proved::{Code, SIZE};
+use reference::text;
 
 /// Where the tokens of a set start: behind its count of lines and the starts of 32.
 pub const FIRST: usize = 33;
@@ -8,6 +9,8 @@ pub const FIRST: usize = 33;
 pub const EQUALS: u32 = 1;
 pub const RIGHT: u32 = 15;
 const NUMBER: u32 = 1 << 31;
+/// The place of a line's number: behind ID or IDS and =.
+const NUMBER_AT: usize = 2;
 /// Twice the thousandths of a number that is too large or has too many digits.
 const BEYOND: u32 = 2_000_002_000;
 const TOP: u64 = 1_000_000_000;
@@ -144,4 +147,14 @@ pub fn laid(lines: &[Vec<u32>]) -> Laid {
         at += line.len() + 1;
     }
     Laid { code, starts }
+}
+
+/// The set that a taken text makes: its lines by rising number, without the marks of written points.
+pub fn set(text: &[u8]) -> Laid {
+    let bare = text::lines(text).map(text::without_comment);
+    let read = |line| tokens(std::str::from_utf8(line).expect("a taken line")).expect("tokens");
+    let mut lines: Vec<Vec<u32>> = bare.map(read).filter(|line| !line.is_empty()).collect();
+    lines.iter_mut().flatten().filter(|token| **token >= NUMBER).for_each(|token| *token &= !1);
+    lines.sort_by_key(|line| line[NUMBER_AT]);
+    laid(&lines)
 }

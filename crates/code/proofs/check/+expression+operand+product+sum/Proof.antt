@@ -1,16 +1,17 @@
--- The walk of `check`, operand to expression, meets its contracts: each arm of an operand by its law of Arms, each loop by those of Rows; the measure is four times the tokens left, and the level.
+-- The walk of `check`, operand to expression, meets its contracts: each arm of an operand by its law of Arms, that of - by SignLaws, each loop by those of Rows; the measure is four times the tokens left, and the level.
 use borrow.Author.Needs.{needs}
 use borrow.Author.Tests.{not-false}
-use mathlib.Core.Path.{sym, ap, _∙_}
+use mathlib.Core.Path.{refl, sym, ap, _∙_}
 use mathlib.Core.Bool.{true, false}
 use Prim.Native.Nat.{_+_, _*_}
 use native.Mathlib.Omega.{arith}
 use Rattle.tokens.specs.Token.{SAME, ATLEAST, PLUS, MINUS, TIMES, OVER, IN, IM, isFactor, isTerm}
 use Rattle.tokens.specs.Reading.{isRow, readClose, readProduct, readSum, readExpression, readOperand}
 use Rattle.code.specs.Fault.{sight, shown, shownSight, signedSight}
-use Rattle.code.proofs.Arms.{spent, number-arm, variable-arm, open-arm, minus-arm, not-arm, truth-arm}
+use Rattle.code.proofs.Arms.{spent, number-arm, variable-arm, open-arm, not-arm, truth-arm}
 use Rattle.tokens.proofs.Between.{no-end, row-no-end}
 use Rattle.code.proofs.Rows.{Kept, row-stops, row-ends, row-spent, row-goes, product-begins, sum-begins, expression-stops, comparison, row-after}
+use Rattle.code.proofs.SignLaws.{signs-arm}
 use Rattle.code.proofs.Shown.{sight-shown, answer, step, sight-ends, sight-read}
 use Rattle.code.proofs.check.again.Reads as again
 use Rattle.code.proofs.check.closed.Reads as closed
@@ -20,6 +21,7 @@ use Rattle.tokens.proofs.fault.number_fault.Reads as number-fault
 use Rattle.code.proofs.check.operand.Reads as operand
 use Rattle.code.proofs.check.product.Reads as product
 use Rattle.code.proofs.check.signed.Reads as signed
+use Rattle.code.proofs.check.signs_behind.Reads as signs-behind
 use Rattle.code.proofs.check.stopped.Reads as stopped
 use Rattle.code.proofs.check.sum.Reads as sum
 use Rattle.code.proofs.check.truth.Reads as truth
@@ -102,7 +104,7 @@ unfolding sight
     (λ c κs. search needs)
     (λ c. c .again5 .ensures ∙ row-spent (c .before .before .loop .inv) (c .before .loop-test .left)))
     -- operand
-    (λ t. operand-lts.spec (_, stopped.Learnt, _, token-at.Learnt, _, number-fault.Learnt, _, is-variable.Learnt, _, variable.Learnt, _, expression.Post, _, closed.Learnt, _, operand.Post, _, signed.Learnt, _, truth.Learnt) _ operand.Post
+    (λ t. operand-lts.spec (_, stopped.Learnt, _, token-at.Learnt, _, number-fault.Learnt, _, is-variable.Learnt, _, variable.Learnt, _, expression.Post, _, closed.Learnt, _, signs-behind.Learnt, _, operand.Post, _, signed.Learnt, _, truth.Learnt) _ operand.Post
     (λ c κs. search needs)
     (λ c. c .stopped .ensures ∙ ap shown (sym (spent _ _ _ _ (c .before .if1 .taken))))
     (λ c κs. search needs)
@@ -121,13 +123,18 @@ unfolding sight
     (λ c.
     let s = c .before .before .before .before .before .before in
     step (readClose (s .before .before .before .args .code .now) sight) (readExpression _ _ _ _ _) (c .before .expression .ensures) (c .closed .ensures) (open-arm _ _ _ _ _ (s .before .before .if1 .left) (s .token-at .ensures .0) (c .before .before .if4 .taken)))
-    (λ c. omega (arith, c .before .before .before .before .before .token-at .ensures .1 (λ z. omega arith)))
     (λ c. omega arith)
+    (λ c κs. omega (arith, c .before .before .before .before .before .token-at .ensures .1 (λ z. omega arith)))
+    (λ c. omega (arith, c .signs-behind .ensures .1 .1))
+    (λ c. omega (arith, c .signs-behind .ensures .1 .1))
+    (λ c. omega arith)
+    (λ c. omega (arith, c .signs-behind .ensures .1 .0))
     (λ c κs. omega arith)
     (λ c κs. answer (readOperand _ _ _ _) (c .operand .ensures))
     (λ c.
-    let s = c .before .before .before .before .before .before .before in
-    step (signedSight false) (readOperand _ _ _ _) (c .before .operand .ensures) (c .signed .ensures) (minus-arm _ _ _ _ _ (s .before .before .if1 .left) (s .token-at .ensures .0) (c .before .before .if5 .taken)))
+    let b = c .before .before in
+    let s = b .before .before .before .before .before .before in
+    step (signedSight false) (readOperand _ _ _ _) (c .before .operand .ensures) (c .signed .ensures) (signs-arm _ _ _ _ _ _ _ (s .before .before .if1 .left) (s .token-at .ensures .0) (b .before .if5 .taken) (b .signs-behind .ensures .0) refl refl))
     (λ c. omega (arith, c .before .before .before .before .before .before .token-at .ensures .1 (λ z. omega arith)))
     (λ c. omega arith)
     (λ c κs. omega arith)

@@ -1,5 +1,6 @@
 -- `fault::number_fault` meets its contract: each return by the tests that led to it.
-use borrow.Author.Needs.{needs}
+use native.Mathlib.Omega.{arith}
+use Prim.Native.Nat.{_<_, _≤_, _/_}
 use borrow.Author.Tests.{le-leb, lt-leb}
 use Rattle.tokens.specs.SingleFault.{numberFault}
 use Rattle.tokens.proofs.fault.number_fault.Statement.{statement}
@@ -10,6 +11,5 @@ unfolding numberFault
 number-fault-spec =
     tie.close
     (tie.spec
-    (λ c. search needs)
-    (λ c. simp (numberFault, le-leb _ _ (c .if1 .taken)))
-    (λ c. simp (numberFault, lt-leb _ _ (c .if1 .left))))
+    (λ c. let n = c .before .args .t in let h : n / 2 ≤ 1000000000 = omega arith in simp (numberFault, le-leb _ _ h))
+    (λ c. let n = c .before .args .t in let h : 1000000000 < n / 2 = omega arith in simp (numberFault, lt-leb _ _ h)))
