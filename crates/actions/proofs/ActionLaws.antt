@@ -1,4 +1,4 @@
--- Laws of the actions: what a change of a FIFO comes to, what a byte can hold, the bytes of one order more, and actions in a row.
+-- Laws of the actions: what a byte can hold, the bytes of one order more, and actions in a row.
 use mathlib.Core.Path.{_≡_, refl, ap, _∙_}
 use mathlib.Core.Bool.{Bool, true, false}
 use mathlib.Core.List.{List, _++_, append-assoc}

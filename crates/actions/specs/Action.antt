@@ -28,8 +28,6 @@ pub record World : Type 0 where
   pub acted : ℕ
   pub orders : List ℕ
 
--- ---- writing
-
 -- ---- orders
 
 abbrev pub ordered : World → Order → World

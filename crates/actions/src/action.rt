@@ -73,8 +73,6 @@ pub struct Done {
     pub flags: Flags,
 }
 
-// ---- writing
-
 // ---- right sides
 
 fn not_taken(alarm: u8) -> Took

@@ -16,8 +16,6 @@ use Rattle.tokens.specs.SingleFault.{lower, codeFault, callFault}
 use Rattle.tokens.proofs.Between.{tested}
 use Rattle.code.proofs.Shown.{fault-ends, fault-read, is-end, is-read, stays, behind}
 
--- ---- a fault 7 hides a higher one
-
 -- ---- actions
 
 pub removal : (s : List ℕ) (p w t : ℕ) → w ≡ getD s p 0 → t ≡ getD s (p + 4) 0 → isFifo w && (isIndexed s w p && (eqb (indexAt s w p) 0 && not (isFactor t || isTerm t))) ≡ isRemoval s p

@@ -10,10 +10,6 @@ use Rattle.tokens.specs.Token.{setSize, END, EQUALS, MINUS, OPEN, CLOSE, IDS, D
 use Rattle.tokens.specs.Reading.{good, Read, read, ends, then, Meaning, isIndexed, indexAt, sumAt, expressionAt}
 use Rattle.tokens.specs.SingleFault.{callFault, codeFault, idFault, lower, notInGrammar, numberFault, opensTooMany, readFault, tooDeep, tooMany, unless, wantingFault, writeFault}
 
--- ---- codes
-
--- ---- 4: brackets, counted token by token over the whole line
-
 -- ---- 5 to 8 in an expression
 
 -- what the check makes of an expression: a yes/no or a number, and the lowest fault of 6 to 8 in it

@@ -49,6 +49,7 @@ use tokens::token::is_whole;
 use tokens::token::token_at;
 use tokens::token::whole_of;
 
+// The actions of a line.
 pub const ACTIONS: usize = 8;
 
 // What the walk sees: a yes/no or a number, the lowest fault in it, and the place behind it; or, where it is not good, that it is not in the grammar.
@@ -70,8 +71,6 @@ pub struct Line {
     pub actions: usize,
     pub end: usize,
 }
-
-// ---- faults of single things
 
 // ---- what one step sees
 

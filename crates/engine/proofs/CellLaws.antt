@@ -1,4 +1,4 @@
--- Laws of cells that a loop writes: timers that grow, a list copied into another, inputs put in front; and the cells of a beat, part by part.
+-- Laws of cells that a loop writes: a list copied into another, inputs put in front; and the cells of a beat, part by part.
 use mathlib.Core.Path.{_≡_, refl, sym, _∙_}
 use mathlib.Core.Bool.{cond}
 use mathlib.Core.List.{List, [], _++_, append-assoc, append-nil}
@@ -13,8 +13,6 @@ use lib.Seq.{paste, paste-suc, take-all, take-length, take-at, append-snoc}
 use Rattle.values.specs.Value.{unit}
 use Rattle.buffers.proofs.Lists.{put}
 use Rattle.engine.specs.Cells.{inputCell, inputCells}
-
--- ---- timers
 
 -- ---- a list copied into another
 

@@ -35,12 +35,6 @@ pub struct Beaten {
     pub state: State,
 }
 
-// ---- by keyword
-
-// ---- a turn
-
-// ---- the beat
-
 // 14 numbers, each within range.
 fn are_inputs(lent: &[i32]) -> bool
     ensures { λ x. ⌜ x ≡ areInputs (now (lent .entry)) ⌝ }

@@ -1,4 +1,4 @@
--- What a keyword makes of a line's memory and its condition (document 01, "A beat"). Definitions only.
+-- What a keyword makes of a line's memory m and of what its condition gives, v (document 01, "A beat"). Definitions only.
 use mathlib.Core.Bool.{Bool, true, false, cond, not, _&&_, _||_}
 use Prim.Native.Nat.{ℕ}
 use lib.Dec.{eqb}

@@ -33,7 +33,7 @@ pub const CODE_ALONE: u8 = 9;
 
 pub const TOO_MANY: u8 = 10;
 
-// The brackets that may be open, and the actions of a line.
+// The brackets that may be open.
 pub const BRACKETS: usize = 8;
 
 // The highest load of a number in the range: 1,000,000 and a written point.

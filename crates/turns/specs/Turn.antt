@@ -1,4 +1,4 @@
--- A turn, by keyword (document 01, "A beat"). Definitions only.
+-- A turn, and the turns of all lines by rising number (document 01, "A beat"). Definitions only.
 use mathlib.Core.Bool.{Bool, true, false, not, _&&_, _||_}
 use mathlib.Core.List.{List, [], _∷_, _++_, map}
 use Prim.Native.Nat.{ℕ, zero, suc, _+_, _^_}
@@ -9,10 +9,6 @@ use Rattle.code.specs.declared.check.Line.{Line}
 use Rattle.set.specs.Set.{noLine}
 use Rattle.actions.specs.Action.{World, Note, fromGot, actionsOf}
 use Rattle.state.specs.Keyword.{acts, remembers, tries}
-
--- ---- by keyword, where m is the line's memory and v what its condition gives
-
--- ---- a turn
 
 -- what is written down: a beat began, in AUTOMATIC or not; the condition of the line of a rank was worked and gave this; it was locked or released;
 -- it was cancelled; a reset
