@@ -3,26 +3,27 @@ mod answers;
 mod beats;
 mod damage;
 mod fields;
-mod lines;
 mod places;
 mod session;
 
+ghost use Prim.Native.Nat.{_≤_, _<_};
+ghost use lib.ListN.{length};
 use answers::OUT;
 use answers::end_answer;
 use answers::error_answer;
+use fields::byte_at;
+use fields::letter_of;
 use fields::part;
 use libc::STDIN_FILENO;
 use libc::STDOUT_FILENO;
-use lines::line_after;
-use lines::line_body;
-use lines::line_end;
-use lines::script_at;
-use lines::star_at;
 use session::Session;
 use session::begin;
 use session::load_text;
 use session::work_line;
 use set::set::empty_set;
+use text::bytes::CR;
+use text::bytes::Kind;
+use text::bytes::run_end;
 use tokens::token::SIZE;
 
 // An input is shorter than this.
@@ -98,4 +99,61 @@ fn main() {
         return;
     }
     answer(&input, n);
+}
+
+// ---- the lines of an input: each ends at its LF, and a CR before that is dropped
+
+const STAR: u8 = 42;
+
+// The place of the LF that ends the line at a place, or the end of the input.
+fn line_end(input: &[u8], at: usize) -> usize
+    ensures { λ r. ⌜ at ≤ r ⌝ }
+{
+    run_end(input, at, Kind::Line)
+}
+
+// The line from place `at` to its end, without that.
+fn line_body(input: &[u8], at: usize, end: usize) -> &[u8] {
+    if end < input.len() {
+        if at < end {
+            if byte_at(input, end - 1) == CR {
+                return part(input, at, end - 1);
+            }
+        }
+    }
+    part(input, at, end)
+}
+
+// Where the first line * begins; the end of the input if there is none.
+fn star_at(input: &[u8]) -> usize {
+    let mut at: usize = 0;
+    while at < input.len() {
+        let end = line_end(input, at);
+        if letter_of(line_body(input, at, end)) == STAR {
+            return at;
+        }
+        at = line_after(input, at);
+    }
+    input.len()
+}
+
+// Where the line after the one at a place begins; the end of the input if there is none.
+fn line_after(input: &[u8], at: usize) -> usize
+    requires { ⌜ at < length (now input) ⌝ }
+    ensures { λ r. ⌜ at < r ⌝ }
+{
+    let end = line_end(input, at);
+    if end < input.len() {
+        end + 1
+    } else {
+        input.len()
+    }
+}
+
+// Where the script begins, behind the line * at a place.
+fn script_at(input: &[u8], star: usize) -> usize {
+    if star < input.len() {
+        return line_after(input, star);
+    }
+    star
 }

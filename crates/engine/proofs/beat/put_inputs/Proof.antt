@@ -1,4 +1,4 @@
--- `cells::put_inputs` meets its contract: after i turns the first i bits are put, and `rest` has the others.
+-- `beat::put_inputs` meets its contract: after i turns the first i bits are put, and `rest` has the others.
 use borrow.Author.Needs.{needs}
 use native.Mathlib.Omega.{arith}
 use native.Mathlib.Nat.{div-one}
@@ -10,8 +10,8 @@ use mir.Syntax.{w32}
 use Rattle.values.proofs.Signed.{back}
 use Rattle.engine.specs.Cells.{inputCells}
 use Rattle.engine.proofs.CellLaws.{input-none, input-rest, input-turn}
-use Rattle.engine.proofs.cells.put_inputs.Statement.{statement}
-use Rattle.engine.proofs.cells.put_inputs.Tie as tie
+use Rattle.engine.proofs.beat.put_inputs.Statement.{statement}
+use Rattle.engine.proofs.beat.put_inputs.Tie as tie
 
 abbrev Inv-loop : tie.InvT-loop
 Inv-loop cells₀ word rest₀ i₀ cells rest i = (cells ≡ inputCells word i ++ drop i cells₀) × (length cells ≡ length cells₀) × (rest ≡ word / 2 ^ i) × (i ≤ 16)

@@ -1,11 +1,11 @@
--- `cells::kept_cells` meets its contract: the copy covers the whole array.
+-- `beat::kept_cells` meets its contract: the copy covers the whole array.
 use borrow.Author.Needs.{needs}
 use mathlib.Core.Path.{refl, _∙_}
 use lib.IntN.{pos}
 use lib.ListN.{replicate}
 use Rattle.engine.proofs.CellLaws.{kept}
-use Rattle.engine.proofs.cells.kept_cells.Statement.{statement}
-use Rattle.engine.proofs.cells.kept_cells.Tie as tie
+use Rattle.engine.proofs.beat.kept_cells.Statement.{statement}
+use Rattle.engine.proofs.beat.kept_cells.Tie as tie
 
 pub kept-cells-spec : {M : Type 1} → statement M
 kept-cells-spec =

@@ -1,4 +1,4 @@
--- `cells::beat_cells` meets its contract: the inputs are put, then the numbers and the grown cells copied behind them.
+-- `beat::beat_cells` meets its contract: the inputs are put, then the numbers and the grown cells copied behind them.
 use borrow.Author.Needs.{needs}
 use native.Mathlib.Omega.{arith}
 use mathlib.Core.Path.{_≡_, refl, sym, ap, _∙_}
@@ -8,8 +8,8 @@ use lib.ListN.{length, replicate}
 use Rattle.engine.specs.Cells.{inputCells, beatCells}
 use Rattle.state.proofs.TimerLaws.{length-grown}
 use Rattle.engine.proofs.CellLaws.{length-inputs, parts}
-use Rattle.engine.proofs.cells.beat_cells.Statement.{statement}
-use Rattle.engine.proofs.cells.beat_cells.Tie as tie
+use Rattle.engine.proofs.beat.beat_cells.Statement.{statement}
+use Rattle.engine.proofs.beat.beat_cells.Tie as tie
 
 whole : (c : tie.After-runs) → length (c .before .before .args .state-cells) ≡ 92
 whole c = search needs

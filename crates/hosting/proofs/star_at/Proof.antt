@@ -1,9 +1,9 @@
--- `lines::star_at` ends: the next line begins behind this one.
+-- `star_at` ends: the next line begins behind this one.
 use borrow.Author.Needs.{needs}
 use Prim.Native.Nat.{_-_}
 use lib.ListN.{length}
-use Rattle.hosting.proofs.lines.star_at.Statement.{statement}
-use Rattle.hosting.proofs.lines.star_at.Tie as tie
+use Rattle.hosting.proofs.star_at.Statement.{statement}
+use Rattle.hosting.proofs.star_at.Tie as tie
 
 abbrev Inv-loop : tie.InvT-loop
 Inv-loop input at₀ at = Unit {0}

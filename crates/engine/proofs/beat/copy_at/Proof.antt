@@ -1,4 +1,4 @@
--- `cells::copy_at` meets its contract: after i turns the first i elements are copied.
+-- `beat::copy_at` meets its contract: after i turns the first i elements are copied.
 use borrow.Author.Needs.{needs}
 use native.Mathlib.Omega.{arith}
 use mathlib.Core.Path.{_≡_, refl}
@@ -8,8 +8,8 @@ use lib.Seq.{paste, paste-zero}
 use mir.Syntax.{w32}
 use Rattle.values.proofs.Signed.{back}
 use Rattle.engine.proofs.CellLaws.{copy-turn, copied}
-use Rattle.engine.proofs.cells.copy_at.Statement.{statement}
-use Rattle.engine.proofs.cells.copy_at.Tie as tie
+use Rattle.engine.proofs.beat.copy_at.Statement.{statement}
+use Rattle.engine.proofs.beat.copy_at.Tie as tie
 
 abbrev Inv-loop : tie.InvT-loop
 Inv-loop to₀ at from i₀ to i = (to ≡ paste to₀ at from i) × (length to ≡ length to₀) × (i ≤ length from)
