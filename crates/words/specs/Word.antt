@@ -1,7 +1,7 @@
 -- The words of document 01's table of variables and of its grammar, each with its token. Definitions only.
 use mathlib.Core.Bool.{Bool, true, false, _&&_}
 use mathlib.Core.List.{List, [], _∷_}
-use Prim.Native.Nat.{ℕ, _+_}
+use Prim.Native.Nat.{ℕ, zero, suc, _+_}
 use lib.Dec.{eqb}
 use Rattle.tokens.specs.Token.{ID, IDS, WHEN, WHENEVER, FROM, EVERY, DO, TRUE, FALSE, NOT, AND, OR, XOR, IN, INA, OUT, MARKER, PARAM, R, TIMER, FIFO1, FIFO4, IM, POS, FA, MOV, M, SETAL, LOCK, UNLOCK, X, W}
 use Rattle.text.specs.Byte.{bytes}
@@ -30,6 +30,11 @@ sameBytes [] [] = true
 sameBytes [] (b ∷ bs) = false
 sameBytes (a ∷ r) [] = false
 sameBytes (a ∷ r) (b ∷ bs) = eqb a b && sameBytes r bs
+
+-- the token so far; while there is none, that of a name if the word is that name
+unfoldable pub orNamed : List ℕ → ℕ → List ℕ × ℕ → ℕ
+orNamed word zero w = elim (sameBytes word (w .0)) [ true ↦ w .1 | false ↦ 0 ]
+orNamed word (suc t) w = suc t
 
 -- the token of a word in a list of words, or that of `other`
 abbrev pub tokenIn : Words → List ℕ → ℕ → ℕ

@@ -11,7 +11,7 @@ use lib.Seq.{drop-cons}
 use borrow.Author.Tests.{eqb-true, eq-eqb, ne-eqb}
 use Rattle.values.specs.Choice.{decide, both}
 use Rattle.text.specs.Byte.{DOLLAR}
-use Rattle.words.specs.Word.{Words, keywords, variables, actions, sameBytes, tokenIn, wordToken}
+use Rattle.words.specs.Word.{Words, keywords, variables, actions, sameBytes, orNamed, tokenIn, wordToken}
 
 -- ---- bytes, place by place
 
@@ -37,10 +37,6 @@ same-ends a b k h g = rw (drop-of-length-le a h, drop-of-length-le b g)
 abbrev pub wordAt : Words → ℕ → List ℕ × ℕ
 wordAt ws k = getD ws k ([], 0)
 
--- the words before the k-th are others
-abbrev pub Past : Words → List ℕ → ℕ → Type 0
-Past ws word k = tokenIn ws word 0 ≡ tokenIn (drop k ws) word 0
-
 pub token-skip : (ws : Words) (word : List ℕ) (k : ℕ) → sameBytes word (wordAt ws k .0) ≡ false → tokenIn (drop k ws) word 0 ≡ tokenIn (drop (suc k) ws) word 0
 token-skip [] word zero h = refl
 token-skip [] word (suc k) h = refl
@@ -53,20 +49,56 @@ token-stop [] word (suc k) h = refl
 token-stop (w ∷ ws) word zero h = rw (tokenIn, h)
 token-stop (w ∷ ws) word (suc k) h = token-stop ws word k h
 
-module _ (ws : Words) (word : List ℕ) (k : ℕ) (same : Bool) (e : same ≡ sameBytes word (wordAt ws k .0)) where
-  pub past-more : same ≡ false → Past ws word k → Past ws word (suc k)
-  past-more h p = p ∙ token-skip ws word k (sym e ∙ h)
-
-  pub found-at : same ≡ true → Past ws word k → wordAt ws k .1 ≡ tokenIn ws word 0
-  found-at h p = sym (p ∙ token-stop ws word k (sym e ∙ h))
-
--- ---- one list, then another
-
 -- no token of a list is 0
 abbrev pub named : Words → Bool
 named [] = true
 named ((v, zero) ∷ ws) = false
 named ((v, suc t) ∷ ws) = named ws
+
+-- the names of a list one after the other, with the token so far
+abbrev pub tried : List ℕ → Words → ℕ → ℕ
+tried word [] t = t
+tried word (w ∷ ws) t = tried word ws (orNamed word t w)
+
+module _ (word : List ℕ) (t : ℕ) (w : List ℕ × ℕ) where
+  pub kept : (t ≡ 0 → ⊥) → t ≡ orNamed word t w
+  unfolding orNamed
+  kept h = go t h
+    where
+      go : (n : ℕ) → (n ≡ 0 → ⊥) → n ≡ orNamed word n w
+      go zero h = absurd (h refl)
+      go (suc n) h = refl
+
+  module _ (e : t ≡ 0) (same : Bool) (g : same ≡ sameBytes word (w .0)) where
+    pub is-named : same ≡ true → w .1 ≡ orNamed word t w
+    unfolding orNamed
+    is-named h = rw (e, orNamed, sym g ∙ h)
+
+    pub not-named : same ≡ false → 0 ≡ orNamed word t w
+    unfolding orNamed
+    not-named h = rw (e, orNamed, sym g ∙ h)
+
+found-stays : (word : List ℕ) (ws : Words) (t : ℕ) → tried word ws (suc t) ≡ suc t
+unfolding orNamed
+found-stays word [] t = refl
+found-stays word (w ∷ ws) t = found-stays word ws t
+
+-- the token so far, where the k-th name is tried next, comes to u behind it
+pub tried-on : (word : List ℕ) (ws : Words) (k t u n : ℕ) → k < length ws → u ≡ orNamed word t (wordAt ws k) → tried word (drop k ws) t ≡ n → tried word (drop (suc k) ws) u ≡ n
+tried-on word [] k t u n l e h = absurd (omega arith)
+tried-on word (w ∷ ws) zero t u n l e h = ap (tried word ws) e ∙ h
+tried-on word (w ∷ ws) (suc k) t u n l e h = tried-on word ws k t u n (omega arith) e h
+
+pub tried-all : (word : List ℕ) (ws : Words) → named ws ≡ true → tried word ws 0 ≡ tokenIn ws word 0
+unfolding orNamed
+tried-all word [] n = refl
+tried-all word ((v, zero) ∷ ws) n = absurd (false≢true n)
+tried-all word ((v, suc t) ∷ ws) n =
+    decide _ (sameBytes word v)
+    (λ e. rw (tokenIn, orNamed, e) (found-stays word ws t))
+    (λ e. rw (tokenIn, orNamed, e) (tried-all word ws n))
+
+-- ---- one list, then another
 
 -- what a list gives goes before what comes after it, and 0 does not
 pub given-first : (ws : Words) (word : List ℕ) (other : ℕ) → (tokenIn ws word 0 ≡ 0 → ⊥) → tokenIn ws word other ≡ tokenIn ws word 0

@@ -1,6 +1,6 @@
 // The token of a word.
 ghost use mathlib.Core.Path.{_≡_};
-ghost use Rattle.words.specs.Word.{keywords, variables, actions, sameBytes, tokenIn, wordToken};
+ghost use Rattle.words.specs.Word.{keywords, variables, actions, sameBytes, orNamed, tokenIn, wordToken};
 use text::bytes::DOLLAR;
 use tokens::token::AND;
 use tokens::token::DO;
@@ -51,139 +51,70 @@ pub fn same_bytes(a: &[u8], b: &[u8]) -> bool
     true
 }
 
+// The token t if it is one; else that of a name, if the word is that name.
+fn named(t: u32, word: &[u8], name: &[u8], token: u32) -> u32
+    ensures { λ r. ⌜ r ≡ orNamed (now (word .entry)) t (now (name .entry), token) ⌝ }
+{
+    if t != 0 {
+        return t;
+    }
+    if same_bytes(word, name) { token } else { 0 }
+}
+
 // The token of a keyword, or 0.
 fn keyword_token(word: &[u8]) -> u32
     ensures { λ r. ⌜ r ≡ tokenIn keywords (now (word .entry)) 0 ⌝ }
 {
-    if same_bytes(word, b"ID") {
-        return ID;
-    }
-    if same_bytes(word, b"IDS") {
-        return IDS;
-    }
-    if same_bytes(word, b"WHEN") {
-        return WHEN;
-    }
-    if same_bytes(word, b"WHENEVER") {
-        return WHENEVER;
-    }
-    if same_bytes(word, b"FROM") {
-        return FROM;
-    }
-    if same_bytes(word, b"EVERY") {
-        return EVERY;
-    }
-    if same_bytes(word, b"DO") {
-        return DO;
-    }
-    if same_bytes(word, b"TRUE") {
-        return TRUE;
-    }
-    if same_bytes(word, b"FALSE") {
-        return FALSE;
-    }
-    if same_bytes(word, b"NOT") {
-        return NOT;
-    }
-    if same_bytes(word, b"AND") {
-        return AND;
-    }
-    if same_bytes(word, b"OR") {
-        return OR;
-    }
-    if same_bytes(word, b"XOR") {
-        return XOR;
-    }
-    0
+    let mut t = named(0, word, b"ID", ID);
+    t = named(t, word, b"IDS", IDS);
+    t = named(t, word, b"WHEN", WHEN);
+    t = named(t, word, b"WHENEVER", WHENEVER);
+    t = named(t, word, b"FROM", FROM);
+    t = named(t, word, b"EVERY", EVERY);
+    t = named(t, word, b"DO", DO);
+    t = named(t, word, b"TRUE", TRUE);
+    t = named(t, word, b"FALSE", FALSE);
+    t = named(t, word, b"NOT", NOT);
+    t = named(t, word, b"AND", AND);
+    t = named(t, word, b"OR", OR);
+    named(t, word, b"XOR", XOR)
 }
 
 // That of a variable, or 0.
 fn variable_token(word: &[u8]) -> u32
     ensures { λ r. ⌜ r ≡ tokenIn variables (now (word .entry)) 0 ⌝ }
 {
-    if same_bytes(word, b"$A_IN") {
-        return IN;
-    }
-    if same_bytes(word, b"$A_INA") {
-        return INA;
-    }
-    if same_bytes(word, b"$AA_IM") {
-        return IM;
-    }
-    if same_bytes(word, b"$A_OUT") {
-        return OUT;
-    }
-    if same_bytes(word, b"$AC_MARKER") {
-        return MARKER;
-    }
-    if same_bytes(word, b"$AC_PARAM") {
-        return PARAM;
-    }
-    if same_bytes(word, b"$R") {
-        return R;
-    }
-    if same_bytes(word, b"$AC_TIMER") {
-        return TIMER;
-    }
-    if same_bytes(word, b"$AC_FIFO1") {
-        return FIFO1;
-    }
-    if same_bytes(word, b"$AC_FIFO2") {
-        return FIFO1 + 1;
-    }
-    if same_bytes(word, b"$AC_FIFO3") {
-        return FIFO1 + 2;
-    }
-    if same_bytes(word, b"$AC_FIFO4") {
-        return FIFO4;
-    }
-    0
+    let mut t = named(0, word, b"$A_IN", IN);
+    t = named(t, word, b"$A_INA", INA);
+    t = named(t, word, b"$AA_IM", IM);
+    t = named(t, word, b"$A_OUT", OUT);
+    t = named(t, word, b"$AC_MARKER", MARKER);
+    t = named(t, word, b"$AC_PARAM", PARAM);
+    t = named(t, word, b"$R", R);
+    t = named(t, word, b"$AC_TIMER", TIMER);
+    t = named(t, word, b"$AC_FIFO1", FIFO1);
+    t = named(t, word, b"$AC_FIFO2", FIFO1 + 1);
+    t = named(t, word, b"$AC_FIFO3", FIFO1 + 2);
+    named(t, word, b"$AC_FIFO4", FIFO4)
 }
 
 // That of an action or an axis, or 0.
 fn action_token(word: &[u8]) -> u32
     ensures { λ r. ⌜ r ≡ tokenIn actions (now (word .entry)) 0 ⌝ }
 {
-    if same_bytes(word, b"POS") {
-        return POS;
-    }
-    if same_bytes(word, b"FA") {
-        return FA;
-    }
-    if same_bytes(word, b"MOV") {
-        return MOV;
-    }
-    if same_bytes(word, b"M") {
-        return M;
-    }
-    if same_bytes(word, b"SETAL") {
-        return SETAL;
-    }
-    if same_bytes(word, b"LOCK") {
-        return LOCK;
-    }
-    if same_bytes(word, b"UNLOCK") {
-        return UNLOCK;
-    }
-    if same_bytes(word, b"X") {
-        return X;
-    }
-    if same_bytes(word, b"Y") {
-        return X + 1;
-    }
-    if same_bytes(word, b"Z") {
-        return X + 2;
-    }
-    if same_bytes(word, b"U") {
-        return X + 3;
-    }
-    if same_bytes(word, b"V") {
-        return X + 4;
-    }
-    if same_bytes(word, b"W") {
-        return W;
-    }
-    0
+    let mut t = named(0, word, b"POS", POS);
+    t = named(t, word, b"FA", FA);
+    t = named(t, word, b"MOV", MOV);
+    t = named(t, word, b"M", M);
+    t = named(t, word, b"SETAL", SETAL);
+    t = named(t, word, b"LOCK", LOCK);
+    t = named(t, word, b"UNLOCK", UNLOCK);
+    t = named(t, word, b"X", X);
+    t = named(t, word, b"Y", X + 1);
+    t = named(t, word, b"Z", X + 2);
+    t = named(t, word, b"U", X + 3);
+    t = named(t, word, b"V", X + 4);
+    named(t, word, b"W", W)
 }
 
 // The token of a word, 0 if it makes none. A variable begins with $, and no other word does.

@@ -1,49 +1,11 @@
--- `word::keyword_token` meets its contract: `past1` and on, that the words compared so far are others; each return by them and the test that led to it.
+-- `word::keyword_token` meets its contract: one name after the other; WordLaws says that this finds a word of the list.
 use borrow.Author.Needs.{needs}
-use mathlib.Core.Path.{refl, sym}
+use mathlib.Core.Path.{refl}
+use native.Mathlib.Omega.{arith}
 use Rattle.words.specs.Word.{keywords}
-use Rattle.words.specs.WordLaws.{Past, past-more, found-at}
+use Rattle.words.specs.WordLaws.{tried-all, tried-on}
 use Rattle.words.proofs.word.keyword_token.Statement.{statement}
 use Rattle.words.proofs.word.keyword_token.Tie as tie
-
-past1 : (c : tie.Else1) → Past keywords (c .before .before .before .before .args .word .now) 1
-past1 c = past-more keywords (c .before .before .before .before .args .word .now) 0 _ (c .before .same-bytes .ensures) (c .if1 .left) refl
-
-past2 : (c : tie.Else2) → Past keywords (c .before .before .before .before .before .before .before .args .word .now) 2
-past2 c = past-more keywords (c .before .before .before .before .before .before .before .args .word .now) 1 _ (c .before .same-bytes2 .ensures) (c .if2 .left) (past1 (c .before .before .before))
-
-past3 : (c : tie.Else3) → Past keywords (c .before .before .before .before .before .before .before .before .before .before .args .word .now) 3
-past3 c = past-more keywords (c .before .before .before .before .before .before .before .before .before .before .args .word .now) 2 _ (c .before .same-bytes3 .ensures) (c .if3 .left) (past2 (c .before .before .before))
-
-past4 : (c : tie.Else4) → Past keywords (c .before .before .before .before .before .before .before .before .before .before .before .before .before .args .word .now) 4
-past4 c = past-more keywords (c .before .before .before .before .before .before .before .before .before .before .before .before .before .args .word .now) 3 _ (c .before .same-bytes4 .ensures) (c .if4 .left) (past3 (c .before .before .before))
-
-past5 : (c : tie.Else5) → Past keywords (c .before .before .before .before .before .before .before .before .before .before .before .before .before .before .before .before .args .word .now) 5
-past5 c = past-more keywords (c .before .before .before .before .before .before .before .before .before .before .before .before .before .before .before .before .args .word .now) 4 _ (c .before .same-bytes5 .ensures) (c .if5 .left) (past4 (c .before .before .before))
-
-past6 : (c : tie.Else6) → Past keywords (c .before .before .before .before .before .before .before .before .before .before .before .before .before .before .before .before .before .before .before .args .word .now) 6
-past6 c = past-more keywords (c .before .before .before .before .before .before .before .before .before .before .before .before .before .before .before .before .before .before .before .args .word .now) 5 _ (c .before .same-bytes6 .ensures) (c .if6 .left) (past5 (c .before .before .before))
-
-past7 : (c : tie.Else7) → Past keywords (c .before .before .before .before .before .before .before .before .before .before .before .before .before .before .before .before .before .before .before .before .before .before .args .word .now) 7
-past7 c = past-more keywords (c .before .before .before .before .before .before .before .before .before .before .before .before .before .before .before .before .before .before .before .before .before .before .args .word .now) 6 _ (c .before .same-bytes7 .ensures) (c .if7 .left) (past6 (c .before .before .before))
-
-past8 : (c : tie.Else8) → Past keywords (c .before .before .before .before .before .before .before .before .before .before .before .before .before .before .before .before .before .before .before .before .before .before .before .before .before .args .word .now) 8
-past8 c = past-more keywords (c .before .before .before .before .before .before .before .before .before .before .before .before .before .before .before .before .before .before .before .before .before .before .before .before .before .args .word .now) 7 _ (c .before .same-bytes8 .ensures) (c .if8 .left) (past7 (c .before .before .before))
-
-past9 : (c : tie.Else9) → Past keywords (c .before .before .before .before .before .before .before .before .before .before .before .before .before .before .before .before .before .before .before .before .before .before .before .before .before .before .before .before .args .word .now) 9
-past9 c = past-more keywords (c .before .before .before .before .before .before .before .before .before .before .before .before .before .before .before .before .before .before .before .before .before .before .before .before .before .before .before .before .args .word .now) 8 _ (c .before .same-bytes9 .ensures) (c .if9 .left) (past8 (c .before .before .before))
-
-past10 : (c : tie.Else10) → Past keywords (c .before .before .before .before .before .before .before .before .before .before .before .before .before .before .before .before .before .before .before .before .before .before .before .before .before .before .before .before .before .before .before .args .word .now) 10
-past10 c = past-more keywords (c .before .before .before .before .before .before .before .before .before .before .before .before .before .before .before .before .before .before .before .before .before .before .before .before .before .before .before .before .before .before .before .args .word .now) 9 _ (c .before .same-bytes10 .ensures) (c .if10 .left) (past9 (c .before .before .before))
-
-past11 : (c : tie.Else11) → Past keywords (c .before .before .before .before .before .before .before .before .before .before .before .before .before .before .before .before .before .before .before .before .before .before .before .before .before .before .before .before .before .before .before .before .before .before .args .word .now) 11
-past11 c = past-more keywords (c .before .before .before .before .before .before .before .before .before .before .before .before .before .before .before .before .before .before .before .before .before .before .before .before .before .before .before .before .before .before .before .before .before .before .args .word .now) 10 _ (c .before .same-bytes11 .ensures) (c .if11 .left) (past10 (c .before .before .before))
-
-past12 : (c : tie.Else12) → Past keywords (c .before .before .before .before .before .before .before .before .before .before .before .before .before .before .before .before .before .before .before .before .before .before .before .before .before .before .before .before .before .before .before .before .before .before .before .before .before .args .word .now) 12
-past12 c = past-more keywords (c .before .before .before .before .before .before .before .before .before .before .before .before .before .before .before .before .before .before .before .before .before .before .before .before .before .before .before .before .before .before .before .before .before .before .before .before .before .args .word .now) 11 _ (c .before .same-bytes12 .ensures) (c .if12 .left) (past11 (c .before .before .before))
-
-past13 : (c : tie.Else13) → Past keywords (c .before .before .before .before .before .before .before .before .before .before .before .before .before .before .before .before .before .before .before .before .before .before .before .before .before .before .before .before .before .before .before .before .before .before .before .before .before .before .before .before .args .word .now) 13
-past13 c = past-more keywords (c .before .before .before .before .before .before .before .before .before .before .before .before .before .before .before .before .before .before .before .before .before .before .before .before .before .before .before .before .before .before .before .before .before .before .before .before .before .before .before .before .args .word .now) 12 _ (c .before .same-bytes13 .ensures) (c .if13 .left) (past12 (c .before .before .before))
 
 pub keyword-token-spec : {M : Type 1} → statement M
 keyword-token-spec =
@@ -51,41 +13,55 @@ keyword-token-spec =
     (tie.spec
     (λ c. search needs)
     (λ c κs. search needs)
-    (λ c. found-at keywords (c .before .before .before .before .args .word .now) 0 _ (c .before .same-bytes .ensures) (c .if1 .taken) refl)
     (λ c. search needs)
     (λ c κs. search needs)
-    (λ c. found-at keywords (c .before .before .before .before .before .before .before .args .word .now) 1 _ (c .before .same-bytes2 .ensures) (c .if2 .taken) (past1 (c .before .before .before)))
     (λ c. search needs)
     (λ c κs. search needs)
-    (λ c. found-at keywords (c .before .before .before .before .before .before .before .before .before .before .args .word .now) 2 _ (c .before .same-bytes3 .ensures) (c .if3 .taken) (past2 (c .before .before .before)))
     (λ c. search needs)
     (λ c κs. search needs)
-    (λ c. found-at keywords (c .before .before .before .before .before .before .before .before .before .before .before .before .before .args .word .now) 3 _ (c .before .same-bytes4 .ensures) (c .if4 .taken) (past3 (c .before .before .before)))
     (λ c. search needs)
     (λ c κs. search needs)
-    (λ c. found-at keywords (c .before .before .before .before .before .before .before .before .before .before .before .before .before .before .before .before .args .word .now) 4 _ (c .before .same-bytes5 .ensures) (c .if5 .taken) (past4 (c .before .before .before)))
     (λ c. search needs)
     (λ c κs. search needs)
-    (λ c. found-at keywords (c .before .before .before .before .before .before .before .before .before .before .before .before .before .before .before .before .before .before .before .args .word .now) 5 _ (c .before .same-bytes6 .ensures) (c .if6 .taken) (past5 (c .before .before .before)))
     (λ c. search needs)
     (λ c κs. search needs)
-    (λ c. found-at keywords (c .before .before .before .before .before .before .before .before .before .before .before .before .before .before .before .before .before .before .before .before .before .before .args .word .now) 6 _ (c .before .same-bytes7 .ensures) (c .if7 .taken) (past6 (c .before .before .before)))
     (λ c. search needs)
     (λ c κs. search needs)
-    (λ c. found-at keywords (c .before .before .before .before .before .before .before .before .before .before .before .before .before .before .before .before .before .before .before .before .before .before .before .before .before .args .word .now) 7 _ (c .before .same-bytes8 .ensures) (c .if8 .taken) (past7 (c .before .before .before)))
     (λ c. search needs)
     (λ c κs. search needs)
-    (λ c. found-at keywords (c .before .before .before .before .before .before .before .before .before .before .before .before .before .before .before .before .before .before .before .before .before .before .before .before .before .before .before .before .args .word .now) 8 _ (c .before .same-bytes9 .ensures) (c .if9 .taken) (past8 (c .before .before .before)))
     (λ c. search needs)
     (λ c κs. search needs)
-    (λ c. found-at keywords (c .before .before .before .before .before .before .before .before .before .before .before .before .before .before .before .before .before .before .before .before .before .before .before .before .before .before .before .before .before .before .before .args .word .now) 9 _ (c .before .same-bytes10 .ensures) (c .if10 .taken) (past9 (c .before .before .before)))
     (λ c. search needs)
     (λ c κs. search needs)
-    (λ c. found-at keywords (c .before .before .before .before .before .before .before .before .before .before .before .before .before .before .before .before .before .before .before .before .before .before .before .before .before .before .before .before .before .before .before .before .before .before .args .word .now) 10 _ (c .before .same-bytes11 .ensures) (c .if11 .taken) (past10 (c .before .before .before)))
     (λ c. search needs)
     (λ c κs. search needs)
-    (λ c. found-at keywords (c .before .before .before .before .before .before .before .before .before .before .before .before .before .before .before .before .before .before .before .before .before .before .before .before .before .before .before .before .before .before .before .before .before .before .before .before .before .args .word .now) 11 _ (c .before .same-bytes12 .ensures) (c .if12 .taken) (past11 (c .before .before .before)))
     (λ c. search needs)
     (λ c κs. search needs)
-    (λ c. found-at keywords (c .before .before .before .before .before .before .before .before .before .before .before .before .before .before .before .before .before .before .before .before .before .before .before .before .before .before .before .before .before .before .before .before .before .before .before .before .before .before .before .before .args .word .now) 12 _ (c .before .same-bytes13 .ensures) (c .if13 .taken) (past12 (c .before .before .before)))
-    (λ c. sym (past13 c)))
+    (λ c.
+    let c12 = c .before .before in
+    let c11 = c12 .before .before in
+    let c10 = c11 .before .before in
+    let c9 = c10 .before .before in
+    let c8 = c9 .before .before in
+    let c7 = c8 .before .before in
+    let c6 = c7 .before .before in
+    let c5 = c6 .before .before in
+    let c4 = c5 .before .before in
+    let c3 = c4 .before .before in
+    let c2 = c3 .before .before in
+    let c1 = c2 .before .before in
+    let w = c1 .before .before .before .args .word .now in
+    let s0 = tried-all w keywords refl in
+    let s1 = tried-on w keywords 0 _ _ _ (omega arith) (c1 .named .ensures) s0 in
+    let s2 = tried-on w keywords 1 _ _ _ (omega arith) (c2 .named2 .ensures) s1 in
+    let s3 = tried-on w keywords 2 _ _ _ (omega arith) (c3 .named3 .ensures) s2 in
+    let s4 = tried-on w keywords 3 _ _ _ (omega arith) (c4 .named4 .ensures) s3 in
+    let s5 = tried-on w keywords 4 _ _ _ (omega arith) (c5 .named5 .ensures) s4 in
+    let s6 = tried-on w keywords 5 _ _ _ (omega arith) (c6 .named6 .ensures) s5 in
+    let s7 = tried-on w keywords 6 _ _ _ (omega arith) (c7 .named7 .ensures) s6 in
+    let s8 = tried-on w keywords 7 _ _ _ (omega arith) (c8 .named8 .ensures) s7 in
+    let s9 = tried-on w keywords 8 _ _ _ (omega arith) (c9 .named9 .ensures) s8 in
+    let s10 = tried-on w keywords 9 _ _ _ (omega arith) (c10 .named10 .ensures) s9 in
+    let s11 = tried-on w keywords 10 _ _ _ (omega arith) (c11 .named11 .ensures) s10 in
+    let s12 = tried-on w keywords 11 _ _ _ (omega arith) (c12 .named12 .ensures) s11 in
+    tried-on w keywords 12 _ _ _ (omega arith) (c .named13 .ensures) s12))
