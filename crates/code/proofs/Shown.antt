@@ -6,7 +6,7 @@ use borrow.Author.Tests.{not-true, not-false}
 use Rattle.code.specs.declared.check.Look.{Look}
 use Rattle.tokens.specs.Reading.{Read, read, ends, then}
 use Rattle.code.specs.Fault.{Sight, shown, shownSight, shownFault, shownRead, faultFor}
-use Rattle.code.proofs.Answers as answers
+use Rattle.tokens.proofs.Answers as answers
 
 pub sight-shown : (x : Read Sight) → shownSight (shown x) ≡ x
 sight-shown (read a q) = refl

@@ -11,7 +11,7 @@ use Rattle.tokens.specs.Token.{MINUS}
 use Rattle.tokens.specs.Reading.{Read, read, ends, then, readOperand}
 use Rattle.tokens.specs.SingleFault.{lower, wantingFault}
 use Rattle.code.specs.Fault.{Sight, sight, signedSight, signsBehind}
-use Rattle.code.proofs.Arms.{minus-arm}
+use Rattle.tokens.proofs.Arms.{minus-arm}
 
 module _ (s : List ℕ) (k p t n : ℕ) (e : t ≡ getD s (p + 1) 0) where
   pub behind-none : (t ≡ MINUS → ⊥) → n + signsBehind s k p ≡ n

@@ -11,7 +11,7 @@ use Rattle.values.proofs.Signed.{back}
 use Rattle.working.specs.declared.work.Got.{Got}
 use Rattle.tokens.specs.Reading.{Read, read, ends, then, upTo}
 use Rattle.working.specs.Working.{fromWorked, told, heard}
-use Rattle.code.proofs.Answers as answers
+use Rattle.tokens.proofs.Answers as answers
 
 pub heard-told : (x : Read ℤ) → heard (told x) ≡ x
 heard-told (read v q) = refl

@@ -8,9 +8,9 @@ use native.Mathlib.Omega.{arith}
 use Rattle.tokens.specs.Token.{SAME, ATLEAST, PLUS, MINUS, TIMES, OVER, IN, IM, isFactor, isTerm}
 use Rattle.tokens.specs.Reading.{isRow, readClose, readProduct, readSum, readExpression, readOperand}
 use Rattle.code.specs.Fault.{sight, shown, shownSight, signedSight}
-use Rattle.code.proofs.Arms.{spent, number-arm, variable-arm, open-arm, not-arm, truth-arm}
+use Rattle.tokens.proofs.Arms.{spent, number-arm, variable-arm, open-arm, not-arm, truth-arm}
 use Rattle.tokens.proofs.Between.{no-end, row-no-end}
-use Rattle.code.proofs.Rows.{Kept, row-stops, row-ends, row-spent, row-goes, product-begins, sum-begins, expression-stops, comparison, row-after}
+use Rattle.tokens.proofs.Rows.{Kept, row-stops, row-ends, row-spent, row-goes, product-begins, sum-begins, expression-stops, comparison, row-after}
 use Rattle.code.proofs.SignLaws.{signs-arm}
 use Rattle.code.proofs.Shown.{sight-shown, answer, step, sight-ends, sight-read}
 use Rattle.code.proofs.check.again.Reads as again

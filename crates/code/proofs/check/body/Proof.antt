@@ -4,7 +4,7 @@ use native.Mathlib.Omega.{arith}
 use borrow.Author.Tests.{eq-eqb, ne-eqb}
 use mathlib.Core.Path.{sym, ap, _∙_}
 use Rattle.code.specs.Fault.{actionsAt, bodyAt, lineParts, shownFault, shownRead}
-use Rattle.code.proofs.Answers.{hears}
+use Rattle.tokens.proofs.Answers.{hears}
 use Rattle.code.proofs.Shown.{fault-shown}
 use Rattle.code.proofs.check.body.Statement.{statement}
 use Rattle.code.proofs.check.body.Tie as tie

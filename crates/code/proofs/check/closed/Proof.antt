@@ -3,7 +3,7 @@ use borrow.Author.Needs.{needs}
 use mathlib.Core.Path.{_∙_}
 use native.Mathlib.Omega.{arith}
 use Rattle.code.specs.Fault.{sight}
-use Rattle.code.proofs.Arms.{closes, closes-not}
+use Rattle.tokens.proofs.Arms.{closes, closes-not}
 use Rattle.code.proofs.Shown.{passes, enters}
 use Rattle.code.proofs.check.closed.Statement.{statement}
 use Rattle.code.proofs.check.closed.Tie as tie

@@ -3,7 +3,7 @@ use borrow.Author.Needs.{needs}
 use mathlib.Core.Path.{sym, ap, _∙_}
 use native.Mathlib.Omega.{arith}
 use Rattle.code.specs.Fault.{sight, shown}
-use Rattle.code.proofs.Arms.{yes-truth, no-truth, not-truth}
+use Rattle.tokens.proofs.Arms.{yes-truth, no-truth, not-truth}
 use Rattle.code.proofs.check.truth.Statement.{statement}
 use Rattle.code.proofs.check.truth.Tie as tie
 

@@ -3,7 +3,7 @@ use borrow.Author.Needs.{needs}
 use borrow.Author.Tests.{not-true, not-false}
 use mathlib.Core.Path.{sym, ap, _∙_}
 use Rattle.code.specs.Fault.{sight, shown}
-use Rattle.code.proofs.Arms.{indexed, indexed-not}
+use Rattle.tokens.proofs.Arms.{indexed, indexed-not}
 use Rattle.code.proofs.check.variable.Statement.{statement}
 use Rattle.code.proofs.check.variable.Tie as tie
 

@@ -10,9 +10,9 @@ use mir.ValLaws.{toZ-pos}
 use Rattle.tokens.specs.Token.{SAME, ATLEAST, PLUS, MINUS, TIMES, OVER, IN, IM, isFactor, isTerm}
 use Rattle.tokens.specs.Reading.{read, isRow, readClose, readProduct, readSum, readExpression, readOperand}
 use Rattle.working.specs.Working.{valueOver, told, heard, negated, inverted}
-use Rattle.code.proofs.Arms.{spent, number-arm, variable-arm, open-arm, minus-arm, not-arm, truth-arm}
+use Rattle.tokens.proofs.Arms.{spent, number-arm, variable-arm, open-arm, minus-arm, not-arm, truth-arm}
 use Rattle.tokens.proofs.Between.{no-end, row-no-end}
-use Rattle.code.proofs.Rows.{Kept, row-stops, row-ends, row-spent, row-goes, product-begins, sum-begins, expression-stops, comparison, row-after}
+use Rattle.tokens.proofs.Rows.{Kept, row-stops, row-ends, row-spent, row-goes, product-begins, sum-begins, expression-stops, comparison, row-after}
 use Rattle.working.proofs.Told.{heard-told, answer, step, heard-alarm, heard-value, heard-back}
 use Rattle.tokens.proofs.token.is_compare.Reads as is-compare
 use Rattle.tokens.proofs.token.is_factor.Reads as is-factor

@@ -8,7 +8,7 @@ use mir.Syntax.{w32}
 use Rattle.values.proofs.Signed.{back}
 use Rattle.tokens.specs.Reading.{read}
 use Rattle.working.specs.Working.{valueOver, told}
-use Rattle.code.proofs.Arms.{closes, closes-not}
+use Rattle.tokens.proofs.Arms.{closes, closes-not}
 use Rattle.working.proofs.Told.{passes, enters}
 use Rattle.working.proofs.work.closed.Statement.{statement}
 use Rattle.working.proofs.work.closed.Tie as tie

@@ -3,7 +3,7 @@ use borrow.Author.Needs.{needs}
 use mathlib.Core.Path.{sym, ap, _∙_}
 use native.Mathlib.Omega.{arith}
 use Rattle.working.specs.Working.{valueOver, told}
-use Rattle.code.proofs.Arms.{yes-truth, no-truth, not-truth}
+use Rattle.tokens.proofs.Arms.{yes-truth, no-truth, not-truth}
 use Rattle.working.proofs.work.truth.Statement.{statement}
 use Rattle.working.proofs.work.truth.Tie as tie
 

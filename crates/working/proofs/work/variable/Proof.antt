@@ -5,7 +5,7 @@ use mathlib.Core.Path.{sym, ap, _∙_}
 use Prim.Native.Nat.{ℕ, _+_}
 use Rattle.working.specs.Variables.{variableValue}
 use Rattle.working.specs.Working.{valueOver, told}
-use Rattle.code.proofs.Arms.{indexed, indexed-not}
+use Rattle.tokens.proofs.Arms.{indexed, indexed-not}
 use Rattle.working.proofs.Told.{gives}
 use Rattle.working.proofs.work.variable.Statement.{statement}
 use Rattle.working.proofs.work.variable.Tie as tie

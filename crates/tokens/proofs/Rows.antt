@@ -5,10 +5,10 @@ use mathlib.Core.List.{List}
 use Prim.Native.Nat.{ℕ, zero, suc, _+_, _-_, _<_, _≤_}
 use native.Mathlib.Omega.{arith}
 use borrow.Author.Tests.{not-true, not-false}
 use Rattle.tokens.specs.Token.{isFactor, isTerm, isCompare}
 use Rattle.tokens.specs.Reading.{Read, read, ends, then, upTo, Meaning, isRow, token, joined, more, readProduct, readSum, readRest, readExpression}
-use Rattle.code.proofs.Answers.{hears, answer, stays, behind}
+use Rattle.tokens.proofs.Answers.{hears, answer, stays, behind}
 use Rattle.tokens.proofs.Between.{tested}
 
 module _ (s : List ℕ) {A : Type 0} (𝓜 : Meaning A) (isOp : ℕ → Bool) (sub : ℕ → Read A) where
   more-again : (k : ℕ) (a : A) (p : ℕ) → 0 < k → isOp (token s p) ≡ true → then (joined s 𝓜 sub (token s p) a p) (more s 𝓜 isOp sub (k - 1)) ≡ more s 𝓜 isOp sub k a p
