@@ -1,4 +1,3 @@
--- Laws that the proofs of the functions cite: LineLaws on the lines and tokens of a text, DraftLaws on the draft, ArrangeLaws on its lines by rising number.
+-- Laws that the proofs of the functions cite: LineLaws on the lines and tokens of a text, DraftLaws on the draft.
 pub mod LineLaws
 pub mod DraftLaws
-pub mod ArrangeLaws

@@ -1,5 +1,4 @@
-// The draft of a set: the lines of a text in one array, as the text has them, and then by rising number.
+// The draft of a set: the lines of a text in one array, as the text has them.
 //
 // No public call asks anything of its caller.
-pub mod arrange;
 pub mod draft;

@@ -1,23 +1,22 @@
 // hosting, a test: answers a host session on standard input, as tests/HOST-SESSIONS.md describes it, by the proved calls. It is proved safe and to end, no more.
-mod answers;
 mod beats;
-mod damage;
-mod fields;
-mod places;
 mod session;
 
 ghost use Prim.Native.Nat.{_≤_, _<_};
 ghost use lib.ListN.{length};
-use answers::OUT;
-use answers::end_answer;
-use answers::error_answer;
-use fields::byte_at;
-use fields::letter_of;
-use fields::part;
 use libc::STDIN_FILENO;
 use libc::STDOUT_FILENO;
+use script::answers::OUT;
+use script::answers::end_answer;
+use script::answers::error_answer;
+use script::fields::byte_at;
+use script::fields::field;
+use script::fields::letter_of;
+use script::fields::part;
 use session::Session;
 use session::begin;
+use session::gives_back;
+use session::keeps;
 use session::load_text;
 use session::work_line;
 use set::set::empty_set;
@@ -57,12 +56,15 @@ fn work_script(
     out: &mut [u8; OUT],
 ) {
     let text = part(input, 0, star);
-    let mut s = load_text(session, text, text.len(), set, kept, out);
+    let mut s = load_text(session, text, text.len(), set, out);
+    let mut state = s.state;
+    *kept = *set;
     let mut at = script_at(input, star);
     while at < input.len() {
         let next = line_after(input, at);
         let end = line_end(input, at);
-        s = work_line(s, text, line_body(input, at, end), set, kept, out);
+        let line = line_body(input, at, end);
+        s = work_line(s, text, line, set, out);
         let good = s.good;
         if !good {
             let n = error_answer(out, s.at, s.number);
@@ -70,6 +72,15 @@ fn work_script(
             return;
         }
         s = write_much(s, out);
+        let letter = letter_of(field(line, 0));
+        if keeps(letter) {
+            *kept = *set;
+            state = s.state;
+        }
+        if gives_back(letter) {
+            *set = *kept;
+            s.state = state;
+        }
         at = next;
     }
     let n = end_answer(out, s.at, s.calls, s.coded, s.orders);

@@ -1,34 +1,34 @@
 // A host session: what it keeps between two lines of its script, and how it works each line.
-use crate::answers::OUT;
-use crate::answers::beat_answer;
-use crate::answers::call_answer;
-use crate::answers::dump_answer;
-use crate::answers::load_answer;
-use crate::answers::orders_answer;
 use crate::beats::BUFFER;
 use crate::beats::Lent;
 use crate::beats::beat_over;
 use crate::beats::checksum;
 use crate::beats::read_lent_beat;
 use crate::beats::read_plain_beat;
-use crate::damage::damage_set;
-use crate::damage::damage_token;
-use crate::fields::count_fields;
-use crate::fields::field;
-use crate::fields::letter_of;
-use crate::fields::part;
-use crate::fields::signed;
-use crate::fields::unsigned;
-use crate::places::dump_places;
-use crate::places::has_index;
-use crate::places::has_value;
-use crate::places::with_value;
 use calls::host::Called;
 use calls::host::cancel;
 use calls::host::lock;
 use calls::host::reset;
 use calls::host::unlock;
 use reader::load::load;
+use script::answers::OUT;
+use script::answers::beat_answer;
+use script::answers::call_answer;
+use script::answers::dump_answer;
+use script::answers::load_answer;
+use script::answers::orders_answer;
+use script::damage::damage_set;
+use script::damage::damage_token;
+use script::fields::count_fields;
+use script::fields::field;
+use script::fields::letter_of;
+use script::fields::part;
+use script::fields::signed;
+use script::fields::unsigned;
+use script::places::dump_places;
+use script::places::has_index;
+use script::places::has_value;
+use script::places::with_value;
 use state::state::State;
 use state::state::power_on;
 use tokens::token::SIZE;
@@ -41,11 +41,10 @@ const LAST_NUMBER: u64 = 255;
 // No session counts so far.
 const MANY: u32 = 4000000000;
 
-// The state and the one kept; how many lines the set had when it was loaded; the number of the script line; beats and host calls, those with a code, orders;
+// The state; how many lines the set had when it was loaded; the number of the script line; beats and host calls, those with a code, orders;
 // how many bytes wait to be written; whether every line so far was well-formed.
 pub struct Session {
     pub state: State,
-    pub kept: State,
     pub lines: usize,
     pub number: u32,
     pub calls: u32,
@@ -58,7 +57,6 @@ pub struct Session {
 pub fn begin() -> Session {
     Session {
         state: power_on(),
-        kept: power_on(),
         lines: 0,
         number: 0,
         calls: 0,
@@ -97,21 +95,18 @@ fn counted(s: Session, code: u8, orders: u32) -> Session {
     x
 }
 
-// The first n bytes of the set text are loaded, and set and state kept.
+// The first n bytes of the set text are loaded.
 pub fn load_text(
     s: Session,
     text: &[u8],
     n: usize,
     set: &mut [u32; SIZE],
-    kept: &mut [u32; SIZE],
     out: &mut [u8; OUT],
 ) -> Session {
     let l = load(part(text, 0, n), set);
-    *kept = *set;
     let state = l.state;
     let mut x = s;
     x.state = state;
-    x.kept = state;
     x.lines = token_at(set, 0) as usize;
     x.at = load_answer(out, s.at, l.code, l.line);
     x
@@ -174,36 +169,34 @@ fn host_call(s: Session, set: &[u32; SIZE], letter: u8, n: u64, out: &mut [u8; O
 
 // ---- lines by their fields
 
-// R, K, G, D
-fn one_field(
-    s: Session,
-    letter: u8,
-    set: &mut [u32; SIZE],
-    kept: &mut [u32; SIZE],
-    out: &mut [u8; OUT],
-) -> Session {
-    let mut x = s;
+// R, D; K and G ask nothing of the control.
+fn one_field(s: Session, letter: u8, set: &[u32; SIZE], out: &mut [u8; OUT]) -> Session {
     let state = s.state;
     if letter == b'R' {
         return call_made(s, reset(set, state), out);
     }
-    if letter == b'K' {
-        *kept = *set;
-        x.kept = state;
-        return x;
-    }
-    if letter == b'G' {
-        *set = *kept;
-        let back = s.kept;
-        x.state = back;
-        return x;
-    }
     if letter == b'D' {
+        let mut x = s;
         let at = dump_answer(out, s.at, token_at(set, 0));
         x.at = dump_places(state, out, at);
         return x;
     }
-    answered(s, false)
+    if keeps(letter) {
+        return s;
+    }
+    answered(s, gives_back(letter))
+}
+
+// K keeps set and state, and so does a load; G gives them back.
+pub fn keeps(letter: u8) -> bool {
+    if letter == b'N' {
+        return true;
+    }
+    letter == b'K'
+}
+
+pub fn gives_back(letter: u8) -> bool {
+    letter == b'G'
 }
 
 // V p i v
@@ -249,7 +242,6 @@ fn two_fields(
     line: &[u8],
     letter: u8,
     set: &mut [u32; SIZE],
-    kept: &mut [u32; SIZE],
     out: &mut [u8; OUT],
 ) -> Session {
     let n = unsigned(field(line, 1));
@@ -259,7 +251,7 @@ fn two_fields(
     if (text.len() as u64) < n {
         return answered(s, false);
     }
-    load_text(s, text, n as usize, set, kept, out)
+    load_text(s, text, n as usize, set, out)
 }
 
 // The next line of the script is worked.
@@ -268,7 +260,6 @@ pub fn work_line(
     text: &[u8],
     line: &[u8],
     set: &mut [u32; SIZE],
-    kept: &mut [u32; SIZE],
     out: &mut [u8; OUT],
 ) -> Session {
     let mut s = session;
@@ -285,10 +276,10 @@ pub fn work_line(
         return beat_line(s, set, read_plain_beat(line), out);
     }
     if n == 1 {
-        return one_field(s, letter, set, kept, out);
+        return one_field(s, letter, set, out);
     }
     if n == 2 {
-        return two_fields(s, text, line, letter, set, kept, out);
+        return two_fields(s, text, line, letter, set, out);
     }
     if n == 4 {
         return four_fields(s, line, letter, set);

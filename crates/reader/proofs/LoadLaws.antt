@@ -11,7 +11,8 @@ use Rattle.text.specs.Lines.{tokenLines}
 use Rattle.reader.specs.declared.load.Loaded.{Loaded}
 use Rattle.draft.specs.Codes.{textSize, notInSet}
 use Rattle.reader.specs.Load.{loadAnswer, loadSet}
-use Rattle.draft.specs.Draft.{Drafted, noDraft, draftOf, textDraft, unknownIn, arranged, arrangedSet}
+use Rattle.draft.specs.Draft.{Drafted, noDraft, draftOf, textDraft}
+use Rattle.ranking.specs.Arrange.{unknownIn, arranged, arrangedSet}
 use Rattle.reader.specs.DraftLoad.{answered, draftAnswer, draftSet, workedAnswer, workedSet}
 use Rattle.reader.specs.DraftLaws.{worked-answer, worked-set}
 use Rattle.draft.proofs.DraftLaws.{coded, code-none, code-some, few-lines}

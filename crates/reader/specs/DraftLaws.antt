@@ -15,7 +15,8 @@ use Rattle.reader.specs.declared.load.Loaded.{Loaded}
 use Rattle.draft.specs.Row.{Row, ended, numbersOf, total, leastAbove, noRow, rising, byNumber, plain, putAt, placed, firstPlace, setOf}
 use Rattle.draft.specs.Codes.{textSize, notInSet}
 use Rattle.reader.specs.Load.{Outcome, taken, refused, rowsFrom, firstUnknown, named, outcome, loadAnswer, loadSet}
-use Rattle.draft.specs.Draft.{Drafted, noDraft, unknownFrom, lineIn, arranged, arrangedSet, draftOf, unknownIn}
+use Rattle.draft.specs.Draft.{Drafted, noDraft, draftOf}
+use Rattle.ranking.specs.Arrange.{unknownFrom, lineIn, arranged, arrangedSet, unknownIn}
 use Rattle.reader.specs.DraftLoad.{answered, draftAnswer, draftSet, workedAnswer, workedSet}
 use Rattle.reader.specs.PlaceLaws.{stands-self, names-same}
 use Rattle.reader.specs.RisingLaws.{Apart, number-at, countAbove, sum-next, count-all, least-found, taken-apart}

@@ -9,7 +9,8 @@ use Rattle.state.specs.State.{powerOn}
 use Rattle.text.specs.Lines.{tokenLines}
 use Rattle.reader.specs.declared.load.Loaded.{Loaded}
 use Rattle.draft.specs.Codes.{textSize, tooLong, tooManyLines, notInSet}
-use Rattle.draft.specs.Draft.{Drafted, arrangedSet, draftOf, unknownIn}
+use Rattle.draft.specs.Draft.{Drafted, draftOf}
+use Rattle.ranking.specs.Arrange.{arrangedSet, unknownIn}
 
 abbrev pub answered : ℕ → ℕ → Loaded
 answered c k = record { code = c; line = k; state = powerOn }

@@ -21,7 +21,8 @@ use Rattle.draft.specs.declared.draft.Draft.{Draft}
 use Rattle.draft.specs.Row.{Row, ended, numbersOf, total, noRow, putAt, firstPlace}
 use Rattle.draft.specs.Codes.{badToken, usedAbove}
 use Rattle.reader.specs.Load.{numberIn, tokensFault, faultBelow, Outcome, taken, refused, rowOf, rowsFrom}
-use Rattle.draft.specs.Draft.{Drafted, refusedAt, grownBy, keptLine, addedLine, draftFrom, lineIn}
+use Rattle.draft.specs.Draft.{Drafted, refusedAt, grownBy, keptLine, addedLine, draftFrom}
+use Rattle.ranking.specs.Arrange.{lineIn}
 use Rattle.reader.specs.PlaceLaws.{stands-self, stands-same, up-to-end, line-same, faultless-closed}
 use Rattle.draft.specs.PutLaws.{put-length, put-before}
 use Rattle.reader.specs.StandLaws.{put-stands}

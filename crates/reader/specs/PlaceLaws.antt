@@ -23,7 +23,7 @@ use Rattle.grammar.specs.LineTokens.{Closed, front, front-end, front-closed, sa
 use Rattle.grammar.specs.AgreementLine.{line-written, line-told, line-found, fault-five}
 use Rattle.set.specs.Set.{isKnown, isLock, namesKnown}
 use Rattle.draft.specs.Row.{ended}
-use Rattle.draft.specs.Draft.{upToEnd, lineIn}
+use Rattle.ranking.specs.Arrange.{upToEnd, lineIn}
 
 -- ---- where tokens stand
 

@@ -2,10 +2,10 @@
 ghost use mathlib.Core.Path.{_≡_};
 ghost use Rattle.reader.specs.Load.{loadAnswer, loadSet};
 ghost use Rattle.reader.specs.DraftLoad.{answered};
-use draft::arrange::arrange;
-use draft::arrange::first_unknown;
 use draft::draft::put;
 use draft::draft::read_text;
+use ranking::arrange::arrange;
+use ranking::arrange::first_unknown;
 use set::set::empty_set;
 use state::state::State;
 use state::state::power_on;
