@@ -19,7 +19,9 @@ use Rattle.reader.specs.Load.{loadAnswer, loadSet}
 use Rattle.transcript.specs.Input.{inputOf}
 use Rattle.beat_lines.specs.BeatLine.{Lent, fields, lineLent}
 use Rattle.printing.specs.Output.{digitsUp, decimal, signedText, fourOf, codeLine, orderLine, orderLines, errorLine, endLine}
-use Rattle.transcript.specs.Run.{maxBeats, Totals, noTotals, ended, oneIf, counted, answerOf, bufferOf, beatText, beatsText, synrun}
+use Rattle.tally.specs.declared.tally.Totals.{Totals}
+use Rattle.tally.specs.Tally.{maxBeats, noTotals, ended, oneIf, counted, answerOf, bufferOf, beatText}
+use Rattle.transcript.specs.Run.{beatsText, synrun}
 use Rattle.transcript.specs.RoomLaws.{byLent}
 use Rattle.sessions.specs.SessionLaws.{beats-over, beats-some, loaded-zero}
 

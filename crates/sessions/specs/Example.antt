@@ -36,7 +36,8 @@ use Rattle.reader.specs.Load.{tokensFault, faultBelow, rowsFrom, firstUnknown, 
 use Rattle.transcript.specs.Input.{beatLines, cut, inputOf}
 use Rattle.beat_lines.specs.BeatLine.{lentNumber, lentNumbers, modeOf, allDigits, wholeOf, fieldsLent, lineLent}
 use Rattle.printing.specs.Output.{digitsUp, fourOf, signedText, loadLine, errorLine, codeLine, orderLine, orderLines, endLine}
-use Rattle.transcript.specs.Run.{answerOf, bufferOf, beatText, beatsText, loadedText, synrun}
+use Rattle.tally.specs.Tally.{answerOf, bufferOf, beatText}
+use Rattle.transcript.specs.Run.{beatsText, loadedText, synrun}
 
 abbrev prints : String → List ℕ
 prints t = synrun (bytes t)

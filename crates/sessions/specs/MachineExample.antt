@@ -36,7 +36,8 @@ use Rattle.reader.specs.Load.{tokensFault, faultBelow, rowsFrom, firstUnknown, 
 use Rattle.transcript.specs.Input.{beatLines, cut, inputOf}
 use Rattle.beat_lines.specs.BeatLine.{lentNumber, lentNumbers, modeOf, allDigits, wholeOf, fieldsLent, lineLent}
 use Rattle.printing.specs.Output.{digitsUp, fourOf, signedText, loadLine, errorLine, codeLine, orderLine, orderLines, endLine}
-use Rattle.transcript.specs.Run.{answerOf, bufferOf, beatText, beatsText, loadedText, synrun}
+use Rattle.tally.specs.Tally.{answerOf, bufferOf, beatText}
+use Rattle.transcript.specs.Run.{beatsText, loadedText, synrun}
 use lib.ListN.{replicate}
 use Rattle.beat_lines.specs.Reading.{greatest, withField, closed, spaceAfter, modeByte, minusByte, digitByte, fieldByte, readByte, readOn, isUntouched, withoutCR, readLent}
 use Rattle.transcript.specs.Machine.{starAfter, starOn, placeOn, placeEnd, opened, textEnd, beatOf, beatEnd, chunk, lineEnd, fedLines, textOver, lastOver, finished}

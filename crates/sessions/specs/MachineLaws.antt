@@ -19,8 +19,8 @@ use Rattle.transcript.specs.declared.session.Place.{Place}
 use Rattle.beat_lines.specs.declared.beat_line.Reading.{Reading}
 use Rattle.reader.specs.Load.{loadAnswer}
 use Rattle.beat_lines.specs.Reading.{readByte, readOn, withoutCR, readLent}
-use Rattle.transcript.specs.Run.{maxBeats, counted, answerOf}
-use Rattle.transcript.specs.Machine.{TEXT, BEATS, keptSize, Machine, Fed, totalsOf, withPlace, withReading, starAfter, starOn, placeOn, opened, textEnd, beatOf, beatEnd, chunk, lineEnd, behind, fedLines}
+use Rattle.tally.specs.Tally.{maxBeats, counted, answerOf}
+use Rattle.transcript.specs.Machine.{TEXT, BEATS, keptSize, Machine, Fed, withPlace, withReading, starAfter, starOn, placeOn, opened, textEnd, beatOf, beatEnd, chunk, lineEnd, behind, fedLines}
 use Rattle.transcript.specs.RoomLaws.{byCode, byLent}
 
 -- ---- bytes of a line, in two parts
@@ -122,7 +122,7 @@ line-held m =
     (λ g. byCode P (loadAnswer (take (p .start) (m .text)) .code) (λ c. refl) (λ n c. refl))
     (λ g. length-set (m .text) (p .size) LF)) λ e.
     either P (eqb (m .session .phase) BEATS)
-    (λ g. byLent P (readLent r) (λ c. refl) (λ l c. either P (eqb (counted (totalsOf (m .session)) (answerOf (m .lines) (totalsOf (m .session)) l) .beats) maxBeats) (λ u. refl) (λ u. refl)))
+    (λ g. byLent P (readLent r) (λ c. refl) (λ l c. either P (eqb (counted (m .session .totals) (answerOf (m .lines) (m .session .totals) l) .beats) maxBeats) (λ u. refl) (λ u. refl)))
     (λ g. refl)
 
 -- ---- lines

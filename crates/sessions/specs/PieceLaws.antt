@@ -16,6 +16,7 @@ use Rattle.text.specs.ByteLaws.{run-within}
 use Rattle.text.specs.Lines.{before, split, textLines}
 use Rattle.text.specs.LinesLaws.{line-end, line-on, run-end, run-more, lines-last, split-some}
 use Rattle.transcript.specs.declared.session.Place.{Place}
+use Rattle.tally.specs.Taken.{areFit}
 use Rattle.transcript.specs.Run.{synrun}
 use Rattle.transcript.specs.Machine.{TEXT, BEATS, keptSize, Machine, Fed, begun, withPlace, isFit, placeOn, starOn, chunk, lineEnd, behind, fedLines, finished, finishedText, outSize, lineRoom, Work, workFrom, worked}
 use Rattle.beat_lines.specs.Reading.{readOn}
@@ -304,7 +305,7 @@ handed-prints m ps o (works x p rest u w) h t =
 
 -- a session at the beginning is fit
 begun-lives : Lives begun
-unfolding isFit
+unfolding isFit areFit
 begun-lives = inl (fit-parts begun refl)
 
 -- THE PROMISE: whatever the pieces, and whatever the text and the set held before, the bytes handed over are those of the definition for the whole input

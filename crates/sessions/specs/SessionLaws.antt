@@ -24,7 +24,9 @@ use Rattle.beat_lines.specs.declared.beat_line.Reading.{Reading}
 use Rattle.transcript.specs.Input.{Input, isStar, beatLines, lineBefore, cut, inputOf}
 use Rattle.beat_lines.specs.BeatLine.{Lent, lineLent}
 use Rattle.printing.specs.Output.{loadLine, errorLine}
-use Rattle.transcript.specs.Run.{maxBeats, Totals, noTotals, ended, counted, answerOf, beatText, beatsText, loadedText, synrun}
+use Rattle.tally.specs.declared.tally.Totals.{Totals}
+use Rattle.tally.specs.Tally.{maxBeats, noTotals, ended, counted, answerOf, beatText}
+use Rattle.transcript.specs.Run.{beatsText, loadedText, synrun}
 use Rattle.beat_lines.specs.Reading.{noReading, readOn, withoutCR, isUntouched, readLent}
 use Rattle.transcript.specs.Machine.{TEXT, BEATS, OVER, keptSize, Machine, Fed, begun, withPhase, withTotals, starAfter, starOn, placeOn, placeEnd, opened, textEnd, beatOf, beatEnd, chunk, lineEnd, behind, fedLines, textOver, lastOver, finished}
 use Rattle.transcript.specs.RoomLaws.{byCode, byLent, over-chunk, over-line}
@@ -100,13 +102,13 @@ abbrev beating : List ℕ → List ℕ → Place → Totals → Reading → Mach
 beating t s p n r = record {
   text = t;
   lines = s;
-  session = record { phase = BEATS; place = p; reading = r; state = n .state; beats = n .beats; coded = n .coded; orders = n .orders };
+  session = record { phase = BEATS; place = p; reading = r; totals = n };
 }
 
 module _ (m : Machine) where
   -- an ill-formed line
   abbrev illEnded : Fed
-  illEnded = record { machine = record { text = m .text; lines = m .lines; session = withPhase (m .session) OVER }; output = errorLine (m .session .beats + 1) }
+  illEnded = record { machine = record { text = m .text; lines = m .lines; session = withPhase (m .session) OVER }; output = errorLine (m .session .totals .beats + 1) }
 
   end-none : (r : Reading) → readLent r ≡ none → beatEnd m r ≡ illEnded
   unfolding beatEnd
@@ -345,7 +347,7 @@ abbrev texting : List ℕ → List ℕ → Place → Machine
 texting t s p = record {
   text = t;
   lines = s;
-  session = record { phase = TEXT; place = p; reading = noReading; state = powerOn; beats = 0; coded = 0; orders = 0 };
+  session = record { phase = TEXT; place = p; reading = noReading; totals = noTotals };
 }
 
 -- the text before what is left of the input

@@ -4,16 +4,14 @@ use mathlib.Core.Bool.{true, false, _&&_, _||_, and-false}
 use mathlib.Core.List.{List, [], _++_}
 use mathlib.Core.Logic.{inl, inr}
 use mathlib.Core.Option.{Option, none, some}
-use Prim.Native.Nat.{ℕ, zero, suc, _+_, _-_, _*_, _≤_, _<_}
+use Prim.Native.Nat.{ℕ, zero, suc, _+_, _≤_, _<_}
 use native.Mathlib.Omega.{arith}
 use native.Mathlib.Numerals.{add-one}
-use borrow.Author.Tests.{eq-eqb, ne-eqb, le-leb, lt-ltb}
-use lib.Dec.{eqb, leb}
-use lib.ListN.{length, getD, set, take, drop, replicate, drop-of-length-le}
+use borrow.Author.Tests.{eq-eqb, ne-eqb, le-leb}
+use lib.Dec.{eqb}
+use lib.ListN.{length, getD, set, take, drop, drop-of-length-le}
 use lib.Seq.{drop-cons}
 use Rattle.tokens.proofs.Between.{never}
-use Rattle.engine.specs.declared.beat.Beaten.{Beaten}
-use Rattle.engine.specs.Beat.{bufferSize, beatAnswer, beatBuffer}
 use Rattle.text.specs.Byte.{LF, CR}
 use Rattle.reader.specs.declared.load.Loaded.{Loaded}
 use Rattle.draft.specs.Row.{putAt}
@@ -24,15 +22,18 @@ use Rattle.transcript.specs.declared.session.Ended.{Ended}
 use Rattle.beat_lines.specs.declared.beat_line.Reading.{Reading}
 use Rattle.beat_lines.specs.declared.beat_line.Told.{Told}
 use Rattle.beat_lines.specs.BeatLine.{Lent}
-use Rattle.printing.specs.Output.{loadLine, errorLine, codeLine, orderLines}
+use Rattle.printing.specs.Output.{loadLine, errorLine}
 use Rattle.beat_lines.specs.Reading.{noReading, readOn, readLent, withoutCR}
-use Rattle.transcript.specs.Run.{maxBeats, oneIf, counted, ended, answerOf, bufferOf, beatText}
-use Rattle.transcript.specs.Machine.{TEXT, BEATS, OVER, keptSize, Fed, isFit, withPhase, withPlace, withReading, withTotals, totalsOf, starAfter, starOn, placeOn, placeEnd, opened, textEnd, beatOf, beatEnd, chunk, lineEnd}
-use Rattle.printing.specs.Put.{IsPut}
+use Rattle.tally.specs.declared.tally.Totals.{Totals}
+use Rattle.tally.specs.Tally.{maxBeats, counted, ended, answerOf, beatText}
+use Rattle.tally.specs.Taken.{areFit, Tally, tallied, errorText}
+use Rattle.tally.specs.TallyLaws.{taken-fit, error-some}
+use Rattle.transcript.specs.Machine.{TEXT, BEATS, OVER, keptSize, Fed, isFit, withPhase, withPlace, withReading, starAfter, starOn, placeOn, placeEnd, opened, textEnd, beatOf, beatEnd, chunk, lineEnd}
+use Rattle.printing.specs.Put.{IsPut, furthest}
 use Rattle.transcript.specs.Held.{IsFed, machineOf}
 use Rattle.beat_lines.specs.Told.{toldOf, lentIn}
-use Rattle.transcript.specs.OrdersLaws.{orders-within}
-use Rattle.transcript.specs.RoomLaws.{Fit, Lives}
+use Rattle.transcript.specs.RoomLaws.{Fit, Lives, beat-orders, beat-room}
+use Rattle.printing.proofs.OutLaws.{reached}
 
 -- what is left to say once it is known what a session came to
 pub fed : {f : Fed} {t s o b exit : List ℕ} {y : Session} {at q : ℕ} → f ≡ record { machine = machineOf t s y; output = o } → IsPut b at o exit q → IsFed f t s b at (record { session = y; end = q }) exit
@@ -46,9 +47,9 @@ pub alive : {x : Session} → Lives x → (x .phase ≡ OVER → ⊥) → Fit x
 alive (inl f) n = f
 alive (inr o) n = absurd (n (o .0))
 
-pub fit-but-orders : (x : Session) → x .place .size ≤ keptSize → x .place .start ≤ x .place .size → x .reading .field ≤ 15 → x .beats < maxBeats → x .coded ≤ x .beats → leb (x .orders) (x .beats * 256) ≡ isFit x
+pub fit-but-totals : (x : Session) → x .place .size ≤ keptSize → x .place .start ≤ x .place .size → x .reading .field ≤ 15 → areFit (x .totals) ≡ isFit x
 unfolding isFit
-fit-but-orders x a b c d e = simp (le-leb _ _ a, le-leb _ _ b, le-leb _ _ c, lt-ltb _ _ d, le-leb _ _ e)
+fit-but-totals x a b c = simp (le-leb _ _ a, le-leb _ _ b, le-leb _ _ c)
 
 -- ---- set text
 
@@ -93,14 +94,6 @@ module _ (t s : List ℕ) (x : Session) (l : List ℕ) where
 
 -- ---- beats
 
-pub one-other : (n : ℕ) → (n ≡ 0 → ⊥) → 1 ≡ oneIf n
-one-other zero f = absurd (f refl)
-one-other (suc n) f = refl
-
--- a beat that is counted
-pub counted-so : (x : Session) (b : Beaten) {r : Reading} → r ≡ noReading → {k : ℕ} → k ≡ oneIf (b .code) → record { phase = x .phase; place = x .place; reading = r; state = b .state; beats = x .beats + 1; coded = x .coded + k; orders = x .orders + b .orders } ≡ withTotals x (counted (totalsOf x) b)
-counted-so x b e f = rw (e, f)
-
 -- what a line lends, as it was told
 module _ (o : Option Lent) {t : Told} (e : t ≡ toldOf o) where
   pub lent-some : t .good ≡ true → o ≡ some (lentIn t)
@@ -117,26 +110,33 @@ module _ (o : Option Lent) {t : Told} (e : t ≡ toldOf o) where
       go none e = refl
       go (some l) e = never (sym h ∙ ap (λ (y : Told). y .good) e)
 
--- a beat b of a line that lends l, its orders in o, its session y
-module _ (t s : List ℕ) (x : Session) (l : Lent) {b : Beaten} (a : b ≡ beatAnswer s (x .state) (l .automatic) (l .word) (l .numbers) (replicate bufferSize 0)) {o : List ℕ} (f : o ≡ beatBuffer s (x .state) (l .automatic) (l .word) (l .numbers) (replicate bufferSize 0)) where
-  pub few-orders : b .orders ≤ 256
-  few-orders = rw a (orders-within _ _ _ _ _ _)
+-- a beat of a line that lends l, its totals y
+module _ (t s : List ℕ) (x : Session) (l : Lent) (at : ℕ) (f : Fit x) (w : at ≤ 4096) where
+  tally-is : tallied s (x .totals) l at ≡ record { totals = counted (x .totals) (answerOf s (x .totals) l); text = beatText s (x .totals) l }
+  tally-is = taken-fit s (x .totals) l at (f .totals) (beat-orders s (x .totals) l) (omega arith)
 
-  printed : codeLine (x .beats + 1) (b .code) (b .orders) ++ orderLines (b .orders) o ≡ beatText s (totalsOf x) l
-  unfolding beatText answerOf bufferOf
-  printed = rw (a, f)
+  text-is : beatText s (x .totals) l ≡ tallied s (x .totals) l at .text
+  text-is = ap (λ (z : Tally). z .text) (sym tally-is)
 
-  module _ {y : Session} (e : y ≡ withTotals x (counted (totalsOf x) b)) where
-    beats-are : y .beats ≡ x .beats + 1
-    beats-are = ap (λ (z : Session). z .beats) e
+  -- what is put behind it is in reach
+  pub end-near : {b exit : List ℕ} {q : ℕ} → IsPut b at (tallied s (x .totals) l at .text) exit q → q ≤ furthest
+  end-near p = let e = p .behind in let r = beat-room s (x .totals) l in let g = ap length text-is in omega arith
 
-    pub beat-last : y .beats ≡ maxBeats → beatOf (machineOf t s x) l ≡ record { machine = machineOf t s (withPhase y OVER); output = (codeLine (x .beats + 1) (b .code) (b .orders) ++ orderLines (b .orders) o) ++ ended (totalsOf y) }
-    unfolding beatOf answerOf
-    beat-last h = rw (printed, e, a) (simp (beatOf, eq-eqb (x .beats + 1) maxBeats (sym beats-are ∙ h)))
+  module _ {y : Totals} (e : y ≡ tallied s (x .totals) l at .totals) {r : Reading} (k : r ≡ noReading) where
+    beats-are : x .totals .beats + 1 ≡ y .beats
+    beats-are = ap (λ (z : Tally). z .totals .beats) (sym tally-is) ∙ ap (λ (z : Totals). z .beats) (sym e)
 
-    pub beat-more : (y .beats ≡ maxBeats → ⊥) → beatOf (machineOf t s x) l ≡ record { machine = machineOf t s y; output = codeLine (x .beats + 1) (b .code) (b .orders) ++ orderLines (b .orders) o }
-    unfolding beatOf answerOf
-    beat-more h = rw (printed, e, a) (simp (beatOf, ne-eqb (x .beats + 1) maxBeats (λ g. h (beats-are ∙ g))))
+    pub beat-last : y .beats ≡ maxBeats → beatOf (machineOf t s x) l ≡ record { machine = machineOf t s (record { phase = OVER; place = x .place; reading = r; totals = y }); output = tallied s (x .totals) l at .text ++ ended y }
+    unfolding beatOf
+    beat-last h = rw (e, tally-is, k) (simp (beatOf, eq-eqb (x .totals .beats + 1) maxBeats (beats-are ∙ h)))
+
+    pub beat-more : (y .beats ≡ maxBeats → ⊥) → beatOf (machineOf t s x) l ≡ record { machine = machineOf t s (record { phase = x .phase; place = x .place; reading = r; totals = y }); output = tallied s (x .totals) l at .text }
+    unfolding beatOf
+    beat-more h = rw (e, tally-is, k) (simp (beatOf, ne-eqb (x .totals .beats + 1) maxBeats (λ g. h (sym beats-are ∙ g))))
+
+-- E of a session that is fit
+pub error-put : (n : Totals) {b exit : List ℕ} (at : ℕ) {q : ℕ} → n .beats < maxBeats → at ≤ 4096 → IsPut b at (errorText n at) exit q → IsPut b at (errorLine (n .beats + 1)) exit q
+error-put n at h w p = reached at _ (rw (error-some n at h) at p) (omega arith)
 
 -- a beat line that was read
 module _ (t s : List ℕ) (x : Session) (r : Reading) where
@@ -144,7 +144,7 @@ module _ (t s : List ℕ) (x : Session) (r : Reading) where
   unfolding beatEnd
   beat-good e = simp (beatEnd, e)
 
-  pub beat-ill : readLent r ≡ none → beatEnd (machineOf t s x) r ≡ record { machine = machineOf t s (withPhase x OVER); output = errorLine (x .beats + 1) }
+  pub beat-ill : readLent r ≡ none → beatEnd (machineOf t s x) r ≡ record { machine = machineOf t s (withPhase x OVER); output = errorLine (x .totals .beats + 1) }
   unfolding beatEnd
   beat-ill e = simp (beatEnd, e)
 

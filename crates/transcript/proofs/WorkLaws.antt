@@ -18,8 +18,8 @@ use Rattle.transcript.specs.declared.session.Session.{Session}
 use Rattle.transcript.specs.declared.session.Ended.{Ended}
 use Rattle.printing.specs.Output.{loadLine}
 use Rattle.beat_lines.specs.Reading.{isUntouched}
-use Rattle.transcript.specs.Run.{ended}
-use Rattle.transcript.specs.Machine.{TEXT, BEATS, Machine, Fed, Work, totalsOf, isFit, beatEnd, chunk, lineEnd, textOver, lastOver, finished, finishedText, workFrom, worked}
+use Rattle.tally.specs.Tally.{ended}
+use Rattle.transcript.specs.Machine.{TEXT, BEATS, Machine, Fed, Work, isFit, beatEnd, chunk, lineEnd, textOver, lastOver, finished, finishedText, workFrom, worked}
 use Rattle.printing.specs.Put.{IsPut}
 use Rattle.transcript.specs.Held.{IsFed, IsWork, machineOf}
 use Rattle.transcript.specs.RoomLaws.{Fit, Lives, fit-parts, chunk-lives, line-lives}
@@ -136,9 +136,6 @@ module _ {input : List ℕ} {w : Work} {buffer : List ℕ} {m : Machine} {i : �
 
 -- ---- the end of input
 
-pub put-as : {s a b t : List ℕ} {p q : ℕ} → b ≡ a → IsPut s p a t q → IsPut s p b t q
-put-as e h = rw e h
-
 -- a text that is put at the beginning
 pub put-whole : {s a b t : List ℕ} {q : ℕ} → b ≡ a → IsPut s 0 a t q → (q ≡ length b) × (t ≡ putAt s 0 b)
 put-whole e h = rw e (let b = h .behind in omega arith, h .put)
@@ -147,7 +144,7 @@ module _ (m : Machine) (u : List ℕ) {l : Loaded} (e : l ≡ loadAnswer u) wher
   loaded-code : loadAnswer u .code ≡ l .code
   loaded-code = ap (λ (y : Loaded). y .code) (sym e)
 
-  pub over-good : l .code ≡ 0 → textOver m u ≡ ended (totalsOf (m .session))
+  pub over-good : l .code ≡ 0 → textOver m u ≡ ended (m .session .totals)
   unfolding textOver
   over-good h = simp (textOver, loaded-code ∙ h)
 
@@ -160,7 +157,7 @@ module _ (m : Machine) (u : List ℕ) {l : Loaded} (e : l ≡ loadAnswer u) wher
       go (suc n) g f = simp (textOver, g)
 
 module _ (m : Machine) (f : Fed) {x : Machine} (e : f .machine ≡ x) where
-  pub last-beats : x .session .phase ≡ BEATS → lastOver m f ≡ f .output ++ ended (totalsOf (x .session))
+  pub last-beats : x .session .phase ≡ BEATS → lastOver m f ≡ f .output ++ ended (x .session .totals)
   unfolding lastOver
   last-beats h = simp (lastOver, e, eq-eqb _ _ h)
 
@@ -198,7 +195,7 @@ module _ (t s : List ℕ) (x : Session) where
     unfolding finished
     finish-over p q = finish-fit ∙ simp (finished, ne-eqb _ _ p) (simp (ne-eqb _ _ q))
 
-    pub finish-new : x .phase ≡ BEATS → isUntouched (x .reading) ≡ true → finishedText (machineOf t s x) ≡ ended (totalsOf x)
+    pub finish-new : x .phase ≡ BEATS → isUntouched (x .reading) ≡ true → finishedText (machineOf t s x) ≡ ended (x .totals)
     unfolding finished
     finish-new p q = finish-fit ∙ simp (finished, ne-eqb (x .phase) 0 (λ g. omega arith)) (simp (eq-eqb _ _ p) (simp q))
 

@@ -2,11 +2,9 @@
 use mathlib.Core.Bool.{Bool, true, false, _&&_, _||_}
 use mathlib.Core.List.{List, [], _∷_, _++_}
 use mathlib.Core.Option.{Option, none, some}
-use Prim.Native.Nat.{ℕ, zero, suc, _+_, _*_, min}
+use Prim.Native.Nat.{ℕ, zero, suc, _+_, min}
 use lib.Dec.{eqb, leb, ltb}
 use lib.ListN.{length, set, take, drop}
-use Rattle.state.specs.State.{powerOn}
-use Rattle.engine.specs.declared.beat.Beaten.{Beaten}
 use Rattle.text.specs.Byte.{LF, CR, inLine, run}
 use Rattle.draft.specs.Row.{putAt}
 use Rattle.reader.specs.Load.{loadAnswer, loadSet}
@@ -15,8 +13,10 @@ use Rattle.transcript.specs.declared.session.Session.{Session}
 use Rattle.transcript.specs.declared.session.Stepped.{Stepped}
 use Rattle.beat_lines.specs.declared.beat_line.Reading.{Reading}
 use Rattle.beat_lines.specs.BeatLine.{Lent}
-use Rattle.printing.specs.Output.{loadLine, errorLine, endLine}
-use Rattle.transcript.specs.Run.{maxBeats, Totals, ended, counted, answerOf, beatText}
+use Rattle.printing.specs.Output.{loadLine, errorLine}
+use Rattle.tally.specs.declared.tally.Totals.{Totals}
+use Rattle.tally.specs.Tally.{maxBeats, noTotals, ended, counted, answerOf, beatText}
+use Rattle.tally.specs.Taken.{areFit}
 use Rattle.beat_lines.specs.Reading.{noReading, readOn, isUntouched, withoutCR, readLent}
 
 -- the phases: set text, beat lines, over
@@ -50,28 +50,25 @@ abbrev pub noPlace : Place
 noPlace = record { size = 0; start = 0; star = 0 }
 
 abbrev pub begun : Session
-begun = record { phase = TEXT; place = noPlace; reading = noReading; state = powerOn; beats = 0; coded = 0; orders = 0 }
+begun = record { phase = TEXT; place = noPlace; reading = noReading; totals = noTotals }
 
 abbrev pub withPhase : Session → ℕ → Session
-withPhase x p = record { phase = p; place = x .place; reading = x .reading; state = x .state; beats = x .beats; coded = x .coded; orders = x .orders }
+withPhase x p = record { phase = p; place = x .place; reading = x .reading; totals = x .totals }
 
 abbrev pub withPlace : Session → Place → Session
-withPlace x p = record { phase = x .phase; place = p; reading = x .reading; state = x .state; beats = x .beats; coded = x .coded; orders = x .orders }
+withPlace x p = record { phase = x .phase; place = p; reading = x .reading; totals = x .totals }
 
 abbrev pub withReading : Session → Reading → Session
-withReading x r = record { phase = x .phase; place = x .place; reading = r; state = x .state; beats = x .beats; coded = x .coded; orders = x .orders }
-
-abbrev pub totalsOf : Session → Totals
-totalsOf x = record { state = x .state; beats = x .beats; coded = x .coded; orders = x .orders }
+withReading x r = record { phase = x .phase; place = x .place; reading = r; totals = x .totals }
 
 -- a beat is over: its totals, and no byte of the next line
 abbrev pub withTotals : Session → Totals → Session
-withTotals x n = record { phase = x .phase; place = x .place; reading = noReading; state = n .state; beats = n .beats; coded = n .coded; orders = n .orders }
+withTotals x n = record { phase = x .phase; place = x .place; reading = noReading; totals = n }
 
 -- one that could have come from a beginning; any other is treated as over
 unfoldable pub isFit : Session → Bool
 isFit x =
-    leb (x .place .size) keptSize && (leb (x .place .start) (x .place .size) && (leb (x .reading .field) 15 && (ltb (x .beats) maxBeats && (leb (x .coded) (x .beats) && leb (x .orders) (x .beats * 256)))))
+    leb (x .place .size) keptSize && (leb (x .place .start) (x .place .size) && (leb (x .reading .field) 15 && areFit (x .totals)))
 
 -- ---- set text
 
@@ -119,8 +116,8 @@ textEnd m =
 -- a beat line that lends l
 unfoldable pub beatOf : Machine → Lent → Fed
 beatOf m l =
-    let n = counted (totalsOf (m .session)) (answerOf (m .lines) (totalsOf (m .session)) l) in
-    let text = beatText (m .lines) (totalsOf (m .session)) l in
+    let n = counted (m .session .totals) (answerOf (m .lines) (m .session .totals) l) in
+    let text = beatText (m .lines) (m .session .totals) l in
     elim (eqb (n .beats) maxBeats) [
       | true ↦ record { machine = record { text = m .text; lines = m .lines; session = withPhase (withTotals (m .session) n) OVER }; output = text ++ ended n }
       | false ↦ record { machine = record { text = m .text; lines = m .lines; session = withTotals (m .session) n }; output = text }
@@ -130,7 +127,7 @@ beatOf m l =
 unfoldable pub beatEnd : Machine → Reading → Fed
 beatEnd m r =
     elim (readLent r) [
-      | none ↦ record { machine = record { text = m .text; lines = m .lines; session = withPhase (m .session) OVER }; output = errorLine (m .session .beats + 1) }
+      | none ↦ record { machine = record { text = m .text; lines = m .lines; session = withPhase (m .session) OVER }; output = errorLine (m .session .totals .beats + 1) }
       | some l ↦ beatOf m l
     ]
 
@@ -163,11 +160,11 @@ fedLines m (l ∷ k ∷ ls) = let f = lineEnd (chunk m l) in behind (f .output) 
 
 -- the end of input
 unfoldable pub textOver : Machine → List ℕ → List ℕ
-textOver m t = elim (loadAnswer t .code) [ zero ↦ ended (totalsOf (m .session)) | suc c ↦ loadLine (suc c) (loadAnswer t .line) ]
+textOver m t = elim (loadAnswer t .code) [ zero ↦ ended (m .session .totals) | suc c ↦ loadLine (suc c) (loadAnswer t .line) ]
 
 -- a last line without LF
 unfoldable pub lastOver : Machine → Fed → List ℕ
-lastOver m f = elim (eqb (f .machine .session .phase) BEATS) [ true ↦ f .output ++ ended (totalsOf (f .machine .session)) | false ↦ f .output ]
+lastOver m f = elim (eqb (f .machine .session .phase) BEATS) [ true ↦ f .output ++ ended (f .machine .session .totals) | false ↦ f .output ]
 
 unfoldable pub finished : Machine → List ℕ
 finished m =
@@ -175,7 +172,7 @@ finished m =
       | true ↦ textOver m (elim (eqb (m .session .place .star) 1) [ true ↦ take (m .session .place .start) (m .text) | false ↦ take (m .session .place .size) (m .text) ])
       | false ↦
           elim (eqb (m .session .phase) BEATS) [
-            | true ↦ elim (isUntouched (m .session .reading)) [ true ↦ ended (totalsOf (m .session)) | false ↦ lastOver m (beatEnd m (m .session .reading)) ]
+            | true ↦ elim (isUntouched (m .session .reading)) [ true ↦ ended (m .session .totals) | false ↦ lastOver m (beatEnd m (m .session .reading)) ]
             | false ↦ []
           ]
     ]

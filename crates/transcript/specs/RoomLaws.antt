@@ -4,11 +4,11 @@ use mathlib.Core.Bool.{Bool, true, false, _&&_, _||_}
 use mathlib.Core.List.{List, [], _∷_, _++_}
 use mathlib.Core.Logic.{_⊎_, inl, inr}
 use mathlib.Core.Option.{Option, none, some}
-use Prim.Native.Nat.{ℕ, zero, suc, _+_, _*_, _-_, _/_, _%_, min, _≤_, _<_}
+use Prim.Native.Nat.{ℕ, zero, suc, _+_, _*_, _-_, _/_, _%_, min, _≤_}
 use native.Mathlib.Omega.{arith}
 use lib.Dec.{eqb, leb, ltb}
 use lib.ListN.{length, take, drop, getD, replicate, length-append}
-use borrow.Author.Tests.{leb-true, le-leb, ltb-true, lt-ltb, eqb-true, eqb-false}
+use borrow.Author.Tests.{leb-true, le-leb, ltb-true, eqb-true, eqb-false}
 use Rattle.values.specs.Choice.{either, both, and-true}
 use Rattle.text.specs.Byte.{CR, SPACE, isDigit}
 use Rattle.engine.specs.Beat.{bufferSize}
@@ -18,9 +18,12 @@ use Rattle.transcript.specs.declared.session.Session.{Session}
 use Rattle.beat_lines.specs.declared.beat_line.Reading.{Reading}
 use Rattle.beat_lines.specs.BeatLine.{Lent}
 use Rattle.printing.specs.Output.{digitsUp, decimal, signedText, fourOf, loadLine, errorLine, codeLine, orderLine, orderLines, endLine}
-use Rattle.transcript.specs.Run.{maxBeats, Totals, ended, counted, oneIf, answerOf, bufferOf, beatText}
+use Rattle.tally.specs.declared.tally.Totals.{Totals}
+use Rattle.tally.specs.Tally.{maxBeats, counted, answerOf, bufferOf, beatText}
+use Rattle.tally.specs.Taken.{areFit}
+use Rattle.tally.specs.TallyLaws.{FitTotals, fit-totals, totals-fit, counted-fit}
 use Rattle.beat_lines.specs.Reading.{illFormed, withField, closed, spaceAfter, modeByte, minusByte, digitByte, fieldByte, readByte, readOn, greatest, readLent, withoutCR, isUntouched}
-use Rattle.transcript.specs.Machine.{TEXT, BEATS, OVER, keptSize, Machine, Fed, totalsOf, isFit, placeOn, placeEnd, opened, textEnd, beatOf, beatEnd, chunk, lineEnd, textOver, lastOver, finished, finishedText, lineRoom}
+use Rattle.transcript.specs.Machine.{TEXT, BEATS, OVER, keptSize, Machine, Fed, isFit, placeOn, placeEnd, opened, textEnd, beatOf, beatEnd, chunk, lineEnd, textOver, lastOver, finished, finishedText, lineRoom}
 use Rattle.transcript.specs.OrdersLaws.{orders-within}
 
 -- ---- cases
@@ -125,14 +128,14 @@ Prints n f = length (f .output) ≤ n
 beatOf-room : (m : Machine) (l : Lent) → Prints 12104 (beatOf m l)
 unfolding beatOf
 beatOf-room m l =
-    let n = counted (totalsOf (m .session)) (answerOf (m .lines) (totalsOf (m .session)) l) in
-    let a = beat-room (m .lines) (totalsOf (m .session)) l in
+    let n = counted (m .session .totals) (answerOf (m .lines) (m .session .totals) l) in
+    let a = beat-room (m .lines) (m .session .totals) l in
     let b = end-room (n .beats) (n .coded) (n .orders) in
     either (Prints 12104) (eqb (n .beats) maxBeats) (λ e. simp length-append (omega arith)) (λ e. omega arith)
 
 pub beat-end-room : (m : Machine) (r : Reading) → length (beatEnd m r .output) ≤ 12104
 unfolding beatEnd
-beat-end-room m r = byLent (Prints 12104) (readLent r) (λ e. let a = error-room (m .session .beats + 1) in omega arith) (λ l e. beatOf-room m l)
+beat-end-room m r = byLent (Prints 12104) (readLent r) (λ e. let a = error-room (m .session .totals .beats + 1) in omega arith) (λ l e. beatOf-room m l)
 
 opened-room : (m : Machine) (t : List ℕ) → Prints 24 (opened m t)
 unfolding opened
@@ -157,13 +160,14 @@ line-room m =
 over-room : (m : Machine) (t : List ℕ) → Short 37 (textOver m t)
 unfolding textOver
 over-room m t =
-    byCode (Short 37) (loadAnswer t .code) (λ e. end-room (m .session .beats) (m .session .coded) (m .session .orders)) (λ c e. let a = load-room (suc c) (loadAnswer t .line) in omega arith)
+    byCode (Short 37) (loadAnswer t .code) (λ e. let n = m .session .totals in end-room (n .beats) (n .coded) (n .orders)) (λ c e. let a = load-room (suc c) (loadAnswer t .line) in omega arith)
 
 last-room : (m : Machine) (f : Fed) → Prints 12104 f → Short 12141 (lastOver m f)
 unfolding lastOver
 last-room m f h =
     let x = f .machine .session in
-    let a = end-room (x .beats) (x .coded) (x .orders) in
+    let n = x .totals in
+    let a = end-room (n .beats) (n .coded) (n .orders) in
     either (Short 12141) (eqb (x .phase) BEATS) (λ e. simp length-append (omega arith)) (λ e. omega arith)
 
 pub finished-room : (m : Machine) → length (finished m) ≤ lineRoom
@@ -171,7 +175,8 @@ unfolding finished
 finished-room m =
     let x = m .session in
     let h = last-room m (beatEnd m (x .reading)) (beat-end-room m (x .reading)) in
-    let k = end-room (x .beats) (x .coded) (x .orders) in
+    let n = x .totals in
+    let k = end-room (n .beats) (n .coded) (n .orders) in
     either (Short lineRoom) (eqb (x .phase) TEXT) (λ e. let a = over-room m (elim (eqb (x .place .star) 1) [ true ↦ take (x .place .start) (m .text) | false ↦ take (x .place .size) (m .text) ]) in omega arith) λ e.
     either (Short lineRoom) (eqb (x .phase) BEATS)
     (λ g. either (Short lineRoom) (isUntouched (x .reading)) (λ u. omega arith) (λ u. omega arith))
@@ -187,38 +192,28 @@ pub record Fit (x : Session) : Type 0 where
   pub size : x .place .size ≤ keptSize
   pub start : x .place .start ≤ x .place .size
   pub field : x .reading .field ≤ 15
-  pub beats : x .beats < maxBeats
-  pub coded : x .coded ≤ x .beats
-  pub orders : x .orders ≤ x .beats * 256
+  pub totals : FitTotals (x .totals)
 
 -- each of the tests
 pub fit-parts : (x : Session) → isFit x ≡ true → Fit x
 unfolding isFit
 fit-parts x h =
-    let o = leb (x .orders) (x .beats * 256) in
-    let c = leb (x .coded) (x .beats) in
-    let b = ltb (x .beats) maxBeats in
+    let n = areFit (x .totals) in
     let f = leb (x .reading .field) 15 in
     let s = leb (x .place .start) (x .place .size) in
     let p = leb (x .place .size) keptSize in
-    let h₁ = both p (s && (f && (b && (c && o)))) h .1 in
-    let h₂ = both s (f && (b && (c && o))) h₁ .1 in
-    let h₃ = both f (b && (c && o)) h₂ .1 in
-    let h₄ = both b (c && o) h₃ .1 in
+    let h₁ = both p (s && (f && n)) h .1 in
+    let h₂ = both s (f && n) h₁ .1 in
     record {
-      size = leb-true _ _ (both p (s && (f && (b && (c && o)))) h .0);
-      start = leb-true _ _ (both s (f && (b && (c && o))) h₁ .0);
-      field = leb-true _ _ (both f (b && (c && o)) h₂ .0);
-      beats = ltb-true _ _ (both b (c && o) h₃ .0);
-      coded = leb-true _ _ (both c o h₄ .0);
-      orders = leb-true _ _ (both c o h₄ .1);
+      size = leb-true _ _ (both p (s && (f && n)) h .0);
+      start = leb-true _ _ (both s (f && n) h₁ .0);
+      field = leb-true _ _ (both f n h₂ .0);
+      totals = fit-totals (x .totals) (both f n h₂ .1);
     }
 
 pub fit-whole : (x : Session) → Fit x → isFit x ≡ true
 unfolding isFit
-fit-whole x f =
-    and-true (le-leb _ _ (f .size)) (and-true (le-leb _ _ (f .start)) (and-true (le-leb _ _ (f .field))
-    (and-true (lt-ltb _ _ (f .beats)) (and-true (le-leb _ _ (f .coded)) (le-leb _ _ (f .orders))))))
+fit-whole x f = and-true (le-leb _ _ (f .size)) (and-true (le-leb _ _ (f .start)) (and-true (le-leb _ _ (f .field)) (totals-fit (x .totals) (f .totals))))
 
 -- ---- a line's fields: a space begins the next only below the fifteenth
 
@@ -273,66 +268,50 @@ chunk-fit m l f =
     let P : Machine → Type 0 = λ y. Fit (y .session) in
     let p = place-fit (x .place) l (f .size) (f .start) in
     either P (eqb (x .phase) TEXT)
-    (λ e. record { size = p .0; start = p .1; field = f .field; beats = f .beats; coded = f .coded; orders = f .orders }) λ e.
+    (λ e. record { size = p .0; start = p .1; field = f .field; totals = f .totals }) λ e.
     either P (eqb (x .phase) BEATS)
-    (λ g. record { size = f .size; start = f .start; field = read-narrow (x .reading) l (f .field); beats = f .beats; coded = f .coded; orders = f .orders })
+    (λ g. record { size = f .size; start = f .start; field = read-narrow (x .reading) l (f .field); totals = f .totals })
     (λ g. f)
 
 -- ---- the line's end
 
 -- fit, or over after the last beat
 abbrev pub Lives : Session → Type 0
-Lives x = Fit x ⊎ ((x .phase ≡ OVER) × (x .beats ≡ maxBeats))
+Lives x = Fit x ⊎ ((x .phase ≡ OVER) × (x .totals .beats ≡ maxBeats))
 
 abbrev FedLives : Fed → Type 0
 FedLives f = Lives (f .machine .session)
-
--- a beat counts for one
-one-most : (c : ℕ) → oneIf c ≤ 1
-one-most zero = omega arith
-one-most (suc c) = omega arith
 
 beatOf-fit : (m : Machine) (l : Lent) → Fit (m .session) → FedLives (beatOf m l)
 unfolding beatOf
 beatOf-fit m l f =
     let x = m .session in
-    let a = answerOf (m .lines) (totalsOf x) l in
-    let n = counted (totalsOf x) a in
-    let o = beat-orders (m .lines) (totalsOf x) l in
-    let k = one-most (a .code) in
-    let p = f .beats in
-    let c = f .coded in
-    let d = f .orders in
+    let a = answerOf (m .lines) (x .totals) l in
+    let n = counted (x .totals) a in
+    let o = beat-orders (m .lines) (x .totals) l in
     either FedLives (eqb (n .beats) maxBeats) (λ e. inr (refl, eqb-true (n .beats) maxBeats e))
-    (λ e. inl (record {
-      size = f .size;
-      start = f .start;
-      field = omega arith;
-      beats = let q = eqb-false (n .beats) maxBeats e in omega (arith, q);
-      coded = omega arith;
-      orders = omega arith;
-    }))
+    (λ e. inl (record { size = f .size; start = f .start; field = omega arith; totals = counted-fit (x .totals) a (f .totals) o (eqb-false (n .beats) maxBeats e) }))
 
 beatEnd-fit : (m : Machine) (r : Reading) → Fit (m .session) → FedLives (beatEnd m r)
 unfolding beatEnd
 beatEnd-fit m r f =
     byLent FedLives (readLent r)
-    (λ e. inl (record { size = f .size; start = f .start; field = f .field; beats = f .beats; coded = f .coded; orders = f .orders }))
+    (λ e. inl (record { size = f .size; start = f .start; field = f .field; totals = f .totals }))
     (λ l e. beatOf-fit m l f)
 
 opened-fit : (m : Machine) (t : List ℕ) → Fit (m .session) → FedLives (opened m t)
 unfolding opened
 opened-fit m t f =
     byCode FedLives (loadAnswer t .code)
-    (λ e. inl (record { size = f .size; start = f .start; field = omega arith; beats = f .beats; coded = f .coded; orders = f .orders }))
-    (λ c e. inl (record { size = f .size; start = f .start; field = f .field; beats = f .beats; coded = f .coded; orders = f .orders }))
+    (λ e. inl (record { size = f .size; start = f .start; field = omega arith; totals = f .totals }))
+    (λ c e. inl (record { size = f .size; start = f .start; field = f .field; totals = f .totals }))
 
 textEnd-fit : (m : Machine) → Fit (m .session) → FedLives (textEnd m)
 unfolding textEnd placeEnd
 textEnd-fit m f =
     let p = m .session .place in
     either FedLives (eqb (p .star) 1 || eqb (p .star) 2) (λ e. opened-fit m (take (p .start) (m .text)) f)
-    (λ e. inl (record { size = omega arith; start = omega arith; field = f .field; beats = f .beats; coded = f .coded; orders = f .orders }))
+    (λ e. inl (record { size = omega arith; start = omega arith; field = f .field; totals = f .totals }))
 
 pub line-fit : (m : Machine) → Fit (m .session) → Lives (lineEnd m .machine .session)
 unfolding lineEnd

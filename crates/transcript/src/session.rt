@@ -2,12 +2,11 @@
 ghost use mathlib.Core.Path.{_≡_};
 ghost use mathlib.Core.Bool.{cond, _||_};
 ghost use mathlib.Core.List.{List};
-ghost use Prim.Native.Nat.{ℕ, _+_, _≤_, _<_, min};
+ghost use Prim.Native.Nat.{ℕ, _+_, _≤_, min};
 ghost use lib.Dec.{eqb};
 ghost use lib.ListN.{length};
 ghost use Rattle.draft.specs.Row.{putAt};
-ghost use Rattle.transcript.specs.Run.{oneIf, counted, ended};
-ghost use Rattle.transcript.specs.Machine.{OVER, begun, isFit, starAfter, starOn, placeOn, placeEnd, withTotals, totalsOf, opened, textEnd, beatOf, beatEnd, chunk, lineEnd, textOver, lastOver, finishedText, worked};
+ghost use Rattle.transcript.specs.Machine.{OVER, begun, isFit, starAfter, starOn, placeOn, placeEnd, opened, textEnd, beatOf, beatEnd, chunk, lineEnd, textOver, lastOver, finishedText, worked};
 ghost use Rattle.printing.specs.Put.{IsPut};
 ghost use Rattle.transcript.specs.Held.{IsFed, IsWork, machineOf};
 ghost use Rattle.beat_lines.specs.Told.{lentIn};
@@ -19,18 +18,17 @@ use beat_lines::beat_line::no_reading;
 use beat_lines::beat_line::read_bytes;
 use beat_lines::beat_line::read_lent;
 use beat_lines::beat_line::without_cr;
-use engine::beat::Beaten;
-use engine::beat::beat;
 use printing::out::put;
 use printing::out::put_bytes;
-use printing::output::code_line;
-use printing::output::end_line;
-use printing::output::error_line;
 use printing::output::load_line;
-use printing::output::order_lines;
 use reader::load::load;
-use state::state::State;
-use state::state::power_on;
+use tally::tally::MAX_BEATS;
+use tally::tally::Totals;
+use tally::tally::are_fit;
+use tally::tally::no_totals;
+use tally::tally::put_end;
+use tally::tally::put_error;
+use tally::tally::tally_beat;
 use text::bytes::CR;
 use text::bytes::Kind;
 use text::bytes::LF;
@@ -44,12 +42,6 @@ pub const OUT: usize = 16384;
 
 // The last place where a line's output may begin: one line prints at most 12288 bytes.
 const LAST_START: usize = 4096;
-
-const MAX_BEATS: u32 = 1000000;
-
-const MAX_ORDERS: u32 = 256;
-// The bytes of the orders of a beat.
-const ORDERS: usize = 2048;
 
 const LAST_FIELD: u8 = 15;
 
@@ -73,10 +65,7 @@ pub struct Session {
     pub phase: u8,
     pub place: Place,
     pub reading: Reading,
-    pub state: State,
-    pub beats: u32,
-    pub coded: u32,
-    pub orders: u32,
+    pub totals: Totals,
 }
 
 // What a piece of input came to: how much of it was taken, and how many bytes were written.
@@ -104,10 +93,7 @@ pub fn begin() -> Session
             star: 0,
         },
         reading: no_reading(),
-        state: power_on(),
-        beats: 0,
-        coded: 0,
-        orders: 0,
+        totals: no_totals(),
     }
 }
 
@@ -133,14 +119,8 @@ fn is_fit(session: Session) -> bool
     if LAST_FIELD < session.reading.field {
         return false;
     }
-    let beats = session.beats;
-    if MAX_BEATS <= beats {
-        return false;
-    }
-    if beats < session.coded {
-        return false;
-    }
-    session.orders <= beats * MAX_ORDERS
+    let totals = session.totals;
+    are_fit(totals)
 }
 
 // ---- set text
@@ -223,59 +203,29 @@ fn place_end(place: Place) -> Place
 
 // ---- beats
 
-// One more beat with a code, or none.
-fn one_if(code: u8) -> u32
-    ensures { λ x. ⌜ (x ≡ oneIf code) × (x ≤ 1) ⌝ }
-{
-    if code == 0 { 0 } else { 1 }
-}
-
-// A beat is over: it is counted, and no byte of the next line is read.
-fn count(session: Session, b: Beaten) -> Session
-    requires { ⌜ Fit session × (b .orders ≤ 256) ⌝ }
-    ensures { λ x. ⌜ x ≡ withTotals session (counted (totalsOf session) b) ⌝ }
-{
-    let coded = one_if(b.code);
-    let state = b.state;
-    let mut x = session;
-    x.reading = no_reading();
-    x.state = state;
-    x.beats = session.beats + 1;
-    x.coded = session.coded + coded;
-    x.orders = session.orders + b.orders;
-    x
-}
-
-// END
-fn put_end(session: Session, out: &mut [u8], at: usize) -> usize
-    requires { ⌜ at ≤ 65000 ⌝ }
-    ensures { λ x. ⌜ IsPut (now (out .entry)) at (ended (totalsOf session)) (now (out .exit)) x ⌝ }
-{
-    end_line(out, at, session.beats, session.coded, session.orders)
-}
-
 // A beat line that lends something: C, an O per order, and END behind the last beat.
 fn work_beat(session: Session, set: &[u32; SIZE], told: Told, out: &mut [u8], at: usize) -> Ended
     requires { ⌜ Fit session × (at ≤ 4096) ⌝ }
     ensures { λ x. ⌜ ((t : List ℕ) → IsFed (beatOf (machineOf t (now (set .entry)) session) (lentIn told)) t (now (set .entry)) (now (out .entry)) at x (now (out .exit))) ⌝ }
 {
-    let mut orders = [0u8; ORDERS];
-    let state = session.state;
-    let numbers = told.numbers;
-    let b = beat(set, state, told.automatic, told.word, &numbers, &mut orders);
-    let n = b.orders;
-    let p = code_line(out, at, session.beats + 1, b.code, n);
-    let q = order_lines(out, p, &orders, n);
-    let mut x = count(session, b);
-    if x.beats == MAX_BEATS {
-        let end = put_end(x, out, q);
+    let totals = session.totals;
+    let t = tally_beat(totals, set, told, out, at);
+    let next = t.totals;
+    let mut x = session;
+    x.reading = no_reading();
+    x.totals = next;
+    if next.beats == MAX_BEATS {
+        let end = put_end(next, out, t.end);
         x.phase = OVER;
         return Ended {
             session: x,
             end: end,
         };
     }
-    Ended { session: x, end: q }
+    Ended {
+        session: x,
+        end: t.end,
+    }
 }
 
 // A beat line that was read: E if it is ill-formed.
@@ -294,7 +244,8 @@ fn beat_end(
     if good {
         return work_beat(session, set, told, out, at);
     }
-    let end = error_line(out, at, session.beats + 1);
+    let totals = session.totals;
+    let end = put_error(totals, out, at);
     let mut x = session;
     x.phase = OVER;
     Ended {
@@ -464,7 +415,8 @@ fn text_over(session: Session, t: &[u8], out: &mut [u8]) -> usize
     if code != 0 {
         return load_line(out, 0, code, l.line);
     }
-    put_end(session, out, 0)
+    let totals = session.totals;
+    put_end(totals, out, 0)
 }
 
 // A last beat line without LF.
@@ -477,7 +429,8 @@ fn last_over(session: Session, set: &[u32; SIZE], reading: Reading, out: &mut [u
     let end = f.end;
     let phase = s.phase;
     if phase == BEATS {
-        return put_end(s, out, end);
+        let totals = s.totals;
+        return put_end(totals, out, end);
     }
     end
 }
@@ -502,7 +455,8 @@ pub fn finish(session: Session, text: &[u8; KEPT], set: &[u32; SIZE], out: &mut 
     }
     let reading = session.reading;
     if is_untouched(reading) {
-        return put_end(session, out, 0);
+        let totals = session.totals;
+        return put_end(totals, out, 0);
     }
     last_over(session, set, reading, out)
 }

@@ -1,8 +1,6 @@
 -- `session::beat_end` meets its contract: by what the line lends.
 use borrow.Author.Needs.{needs}
-use native.Mathlib.Omega.{arith}
-use Rattle.printing.proofs.OutLaws.{reached}
-use Rattle.transcript.proofs.StepLaws.{fed, fed-as, lent-some, lent-none, beat-good, beat-ill}
+use Rattle.transcript.proofs.StepLaws.{fed, fed-as, lent-some, lent-none, beat-good, beat-ill, error-put}
 use Rattle.transcript.proofs.session.beat_end.Statement.{statement}
 use Rattle.transcript.proofs.session.beat_end.Tie as tie
 
@@ -17,10 +15,10 @@ beat-end-spec =
     let p = c .before .before in
     let i = p .before .before in
     fed-as (beat-good t _ _ _ (lent-some _ (i .before .read-lent .ensures) (i .if1 .taken))) (p .work-beat .ensures t))
-    (λ c. search needs)
     (λ c κs. search needs)
     (λ c. search needs)
     (λ c t.
     let p = c .before .before in
     let i = p .before .before .before in
-    fed (beat-ill t _ _ _ (lent-none _ (i .before .read-lent .ensures) (i .if1 .left))) (reached _ _ (p .error-line .ensures) (omega arith))))
+    let b = i .before .before .before in
+    fed (beat-ill t _ _ _ (lent-none _ (i .before .read-lent .ensures) (i .if1 .left))) (error-put _ _ (b .pre .0 .totals .beats) (b .pre .1) (p .put-error .ensures))))

@@ -2,7 +2,8 @@
 use borrow.Author.Needs.{needs}
 use native.Mathlib.Omega.{arith}
 use Rattle.printing.proofs.OutLaws.{reached}
-use Rattle.transcript.proofs.WorkLaws.{put-as, over-good, over-not}
+use Rattle.tally.proofs.BeatLaws.{put-as}
+use Rattle.transcript.proofs.WorkLaws.{over-good, over-not}
 use Rattle.transcript.proofs.session.text_over.Statement.{statement}
 use Rattle.transcript.proofs.session.text_over.Tie as tie
 
@@ -21,5 +22,5 @@ text-over-spec =
     (λ c. search needs)
     (λ c m s.
     let p = c .before .before in
-    let i = p .before .before in
-    put-as (over-good _ _ (i .before .load .ensures .0) (i .if1 .left)) (p .put-end .ensures)))
+    let i = p .before .before .before in
+    put-as (over-good _ _ (i .before .load .ensures .0) (i .if1 .left)) (reached _ _ (p .put-end .ensures) (omega arith))))
