@@ -1,6 +1,7 @@
 // The orders of POS, FA and MOV.
 ghost use mathlib.Core.Bool.{true, false};
-ghost use Rattle.writing.specs.Drive.{driveOrder};
+ghost use Rattle.tokens.specs.Reading.{good, stop};
+ghost use Rattle.writing.specs.Drive.{orderOf, driveOrder};
 ghost use Rattle.writing.specs.WriteHeld.{IsOrder};
 use buffers::order::Kind;
 use buffers::order::Order;
@@ -17,54 +18,49 @@ pub struct Ordered {
     pub order: Order,
 }
 
+fn order_of(kind: Kind, number: u8, axis: u8, v: i32) -> Ordered
+    ensures { λ x. ⌜ IsOrder x (good (orderOf number kind axis v)) ⌝ }
+{
+    Ordered {
+        good: true,
+        alarm: 0,
+        order: Order {
+            kind: kind,
+            line: number,
+            target: axis,
+            value: v,
+        },
+    }
+}
+
+// With an alarm the order says nothing.
+fn not_ordered(alarm: u8) -> Ordered
+    ensures { λ x. ⌜ IsOrder x (stop alarm) ⌝ }
+{
+    Ordered {
+        good: false,
+        alarm: alarm,
+        order: Order {
+            kind: Kind::Fa,
+            line: 0,
+            target: 0,
+            value: 0,
+        },
+    }
+}
+
 // The order of POS, FA or MOV.
 pub fn drive_order(number: u8, w: u32, axis: u8, v: i32) -> Ordered
     ensures { λ x. ⌜ IsOrder x (driveOrder number w axis v) ⌝ }
 {
     if w == POS {
-        return Ordered {
-            good: true,
-            alarm: 0,
-            order: Order {
-                kind: Kind::Pos,
-                line: number,
-                target: axis,
-                value: v,
-            },
-        };
+        return order_of(Kind::Pos, number, axis, v);
     }
     if w == FA {
         return match feed(v) {
-            Worked::Value(u) => Ordered {
-                good: true,
-                alarm: 0,
-                order: Order {
-                    kind: Kind::Fa,
-                    line: number,
-                    target: axis,
-                    value: u,
-                },
-            },
-            Worked::Alarm(a) => Ordered {
-                good: false,
-                alarm: a,
-                order: Order {
-                    kind: Kind::Fa,
-                    line: number,
-                    target: axis,
-                    value: 0,
-                },
-            },
+            Worked::Value(u) => order_of(Kind::Fa, number, axis, u),
+            Worked::Alarm(a) => not_ordered(a),
         };
     }
-    Ordered {
-        good: true,
-        alarm: 0,
-        order: Order {
-            kind: Kind::Mov,
-            line: number,
-            target: axis,
-            value: sign(v),
-        },
-    }
+    order_of(Kind::Mov, number, axis, sign(v))
 }
