@@ -2,7 +2,7 @@
 use mathlib.Core.Bool.{Bool, cond}
 use mathlib.Core.List.{List, [], _∷_, _++_}
 use Prim.Native.Nat.{ℕ, _+_, _-_, _/_, _%_}
-use lib.Dec.{leb}
+use lib.Dec.{leb, ltb}
 use lib.IntN.{ℤ, pos, negsuc}
 use lib.ListN.{length, take, drop}
 use Rattle.buffers.specs.declared.order.Kind.{Kind}
@@ -24,6 +24,10 @@ kindNumber Setal = 5
 unfoldable pub twosComplement : ℤ → ℕ
 twosComplement (pos n) = n
 twosComplement (negsuc n) = 4294967295 - n
+
+-- the number that 32 bits stand for in two's complement
+unfoldable pub signed : ℕ → ℤ
+signed b = cond (ltb b 2147483648) (pos b) (negsuc (4294967295 - b))
 
 -- four bytes, low first
 unfoldable pub fourBytes : ℕ → List ℕ

@@ -1,32 +1,26 @@
 -- Laws of an order's bytes: what follows from the definitions of Order.
 use mathlib.Core.Path.{_≡_, refl, sym, ap, _∙_}
-use mathlib.Core.Bool.{cond}
 use mathlib.Core.List.{List}
 use Prim.Native.Nat.{ℕ, _+_, _*_, _-_, _/_, _%_, _<_}
 use native.Mathlib.Omega.{arith}
-use lib.Dec.{ltb}
 use lib.IntN.{ℤ, pos, negsuc}
 use lib.ListN.{length, getD, drop}
 use mir.Syntax.{w32}
 use mir.Val.{SFits}
 use borrow.Author.Tests.{lt-ltb, le-ltb}
 use Rattle.buffers.specs.declared.order.Order.{Order}
-use Rattle.buffers.specs.Order.{orderSize, twosComplement, fourBytes, orderBytes}
+use Rattle.buffers.specs.Order.{orderSize, twosComplement, signed, fourBytes, orderBytes}
 
 -- an order is eight bytes
 pub eight-bytes : (o : Order) → length (orderBytes o) ≡ orderSize
 unfolding orderBytes fourBytes
 eight-bytes o = refl
 
--- the number that 32 bits stand for in two's complement
-unfoldable pub signed : ℕ → ℤ
-signed b = cond (ltb b 2147483648) (pos b) (negsuc (4294967295 - b))
-
 -- the value that four bytes stand for, low first
 unfoldable pub valueFrom : List ℕ → ℤ
 valueFrom bs = signed (getD bs 0 0 + 256 * getD bs 1 0 + 65536 * getD bs 2 0 + 16777216 * getD bs 3 0)
 
-signed-back : {v : ℤ} → SFits w32 v → signed (twosComplement v) ≡ v
+pub signed-back : {v : ℤ} → SFits w32 v → signed (twosComplement v) ≡ v
 unfolding signed twosComplement
 signed-back {v = pos n} h = rw (lt-ltb n 2147483648 (h .sfits))
 signed-back {v = negsuc n} h =

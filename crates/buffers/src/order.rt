@@ -36,7 +36,7 @@ pub fn kind_number(kind: Kind) -> u8
 }
 
 // The two's complement of a number.
-fn twos_complement(v: i32) -> u32
+pub fn twos_complement(v: i32) -> u32
     ensures { λ r. ⌜ r ≡ twosComplement v ⌝ }
 {
     if v < 0 {

@@ -1,3 +1,4 @@
--- Laws that several proofs cite: Cells on counts and where cells lie, Told on the answers of the value walk.
+-- Laws that several proofs cite: Cells on counts and where cells lie, Joins on the operators, Pairs on what the walk hands on.
 pub mod Cells
-pub mod Told
+pub mod Joins
+pub mod Pairs

@@ -4,7 +4,7 @@ use mathlib.Core.Bool.{Bool, true, false, not, _&&_, _||_}
 use mathlib.Core.List.{List}
 use Prim.Native.Nat.{ℕ}
 use lib.Dec.{eqb}
-use lib.IntN.{ℤ, pos, natAbs}
+use lib.IntN.{ℤ, pos}
 use Rattle.values.specs.Value.{sumOf, differenceOf, productOf, quotientOf, negationOf, lessThan, equalTo}
 use Rattle.buffers.specs.Fifo.{unsound}
 use Rattle.values.specs.declared.arithmetic.Worked.{Worked}
@@ -89,10 +89,6 @@ valueOver r c = record {
 abbrev pub told : Read ℤ → Got
 told (read v q) = record { good = true; value = v; next = q }
 told (ends k) = record { good = false; value = pos k; next = 0 }
-
--- what such an answer says
-abbrev pub heard : Got → Read ℤ
-heard g = elim (g .good) [ true ↦ read (g .value) (g .next) | false ↦ ends (natAbs (g .value)) ]
 
 -- the two signs before an operand
 abbrev pub negated : ℤ → ℕ → Read ℤ

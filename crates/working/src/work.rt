@@ -1,30 +1,33 @@
 // The working of a condition and of a right side: the value walk. All operands are worked, left first; the first alarm ends it.
 //
-// Yes is 1 and no is 0. The walk goes by recursive descent over the tokens; `left` is the count of tokens left.
+// The walk goes by recursive descent over the tokens; `left` is the count of tokens left. What each step reads it hands on as a pair.
 ghost use mathlib.Core.Path.{_≡_};
+ghost use mathlib.Core.Bool.{true};
 ghost use Prim.Native.Nat.{_<_};
-ghost use Rattle.tokens.specs.Reading.{ends, upTo, then, readOperand, readProduct, readSum, readExpression, readClose, readVariable, readTruth};
-ghost use Rattle.working.specs.Working.{fromWorked, yesNo, isYes, joinTruths, joinLogic, joinValues, valueOver, told, heard, negated, inverted, conditionValue, rightValue};
+ghost use Rattle.tokens.specs.Token.{isFactor, isTerm, isCompare, isLogic};
+ghost use Rattle.tokens.specs.Reading.{upTo, then, isRow, more, readOperand, readProduct, readSum, readExpression, readClose, readVariable, readTruth};
+ghost use Rattle.working.specs.Pair.{said};
+ghost use Rattle.working.specs.Working.{fromWorked, joinValues, valueOver, told, negated, inverted, conditionValue, rightValue};
+use crate::join::is_yes;
+use crate::join::join_logic;
+use crate::join::join_truths;
+use crate::join::yes_no;
+use crate::pair::alarm_in;
+use crate::pair::alarm_of;
+use crate::pair::next_of;
+use crate::pair::pair_of;
+use crate::pair::value_of;
 use crate::variables::CELLS;
 use crate::variables::RS;
 use crate::variables::UNSOUND;
 use crate::variables::variable_value;
-use tokens::token::AND;
-use tokens::token::ATLEAST;
-use tokens::token::ATMOST;
 use tokens::token::CLOSE;
 use tokens::token::FALSE;
-use tokens::token::LESS;
 use tokens::token::MINUS;
-use tokens::token::MORE;
 use tokens::token::NOT;
 use tokens::token::NUMBER;
 use tokens::token::OPEN;
-use tokens::token::OR;
-use tokens::token::OTHER;
-use tokens::token::OVER;
 use tokens::token::PLUS;
-use tokens::token::SAME;
 use tokens::token::SIZE;
 use tokens::token::TIMES;
 use tokens::token::TRUE;
@@ -32,6 +35,7 @@ use tokens::token::index_at;
 use tokens::token::is_compare;
 use tokens::token::is_factor;
 use tokens::token::is_indexed;
+use tokens::token::is_logic;
 use tokens::token::is_row;
 use tokens::token::is_term;
 use tokens::token::is_variable;
@@ -48,218 +52,139 @@ pub struct Got {
 
 // ---- what one step gives
 
-// The same, field by field: to copy whole what was just written in parts makes the processor wait for all of them.
-fn again(g: Got) -> Got
-    ensures { λ x. ⌜ x ≡ g ⌝ }
-{
-    Got {
-        good: g.good,
-        value: g.value,
-        next: g.next,
-    }
-}
-
-fn stopped(k: u8) -> Got
-    ensures { λ x. ⌜ x ≡ told (ends k) ⌝ }
-{
-    Got {
-        good: false,
-        value: k as i32,
-        next: 0,
-    }
-}
-
-fn got_of(w: Worked, next: usize) -> Got
-    ensures { λ x. ⌜ x ≡ told (upTo (fromWorked w) next) ⌝ }
+fn worked_pair(w: Worked, next: usize) -> u64
+    requires { ⌜ (0 < next) × (next < 8192) ⌝ }
+    ensures { λ x. ⌜ said x ≡ upTo (fromWorked w) next ⌝ }
 {
     match w {
-        Worked::Value(v) => Got {
-            good: true,
-            value: v,
-            next: next,
-        },
-        Worked::Alarm(k) => stopped(k),
+        Worked::Value(v) => pair_of(v, next),
+        Worked::Alarm(k) => alarm_of(k),
     }
 }
 
-fn yes_no(b: bool) -> i32
-    ensures { λ x. ⌜ x ≡ yesNo b ⌝ }
+// A value, the factor's operator behind it, and what was read behind that.
+fn join_factor(op: u32, a: i32, b: u64) -> u64
+    requires { ⌜ isFactor op ≡ true ⌝ }
+    ensures { λ x. ⌜ said x ≡ then (said b) (λ y q. upTo (joinValues op a y) q) ⌝ }
 {
-    if b { 1 } else { 0 }
-}
-
-fn is_yes(v: i32) -> bool
-    ensures { λ x. ⌜ x ≡ isYes v ⌝ }
-{
-    !arithmetic::is_equal(v, 0)
-}
-
-// A comparison, or AND, OR, XOR.
-fn join_truths(op: u32, a: i32, b: i32) -> bool
-    ensures { λ x. ⌜ x ≡ joinTruths op a b ⌝ }
-{
-    if op == SAME {
-        return arithmetic::is_equal(a, b);
-    }
-    if op == OTHER {
-        return !arithmetic::is_equal(a, b);
-    }
-    if op == LESS {
-        return arithmetic::is_less(a, b);
-    }
-    if op == MORE {
-        return arithmetic::is_less(b, a);
-    }
-    if op == ATMOST {
-        return !arithmetic::is_less(b, a);
-    }
-    if op == ATLEAST {
-        return !arithmetic::is_less(a, b);
-    }
-    join_logic(op, is_yes(a), is_yes(b))
-}
-
-// AND, OR, XOR.
-fn join_logic(op: u32, a: bool, b: bool) -> bool
-    ensures { λ x. ⌜ x ≡ joinLogic op a b ⌝ }
-{
-    if op == AND {
-        return a & b;
-    }
-    if op == OR {
-        return a | b;
-    }
-    a ^ b
-}
-
-// The operator between two values.
-fn join_values(op: u32, a: i32, b: i32, next: usize) -> Got
-    ensures { λ x. ⌜ x ≡ told (upTo (joinValues op a b) next) ⌝ }
-{
-    if op == TIMES {
-        return got_of(arithmetic::product(a, b), next);
-    }
-    if op == OVER {
-        return got_of(arithmetic::quotient(a, b), next);
-    }
-    if op == PLUS {
-        return got_of(arithmetic::sum(a, b), next);
-    }
-    if op == MINUS {
-        return got_of(arithmetic::difference(a, b), next);
-    }
-    Got {
-        good: true,
-        value: yes_no(join_truths(op, a, b)),
-        next: next,
-    }
-}
-
-// A value, the operator behind it, and what was got behind that.
-fn joined(op: u32, a: i32, b: Got) -> Got
-    requires { ⌜ told (heard b) ≡ b ⌝ }
-    ensures { λ x. ⌜ x ≡ told (then (heard b) (λ y q. upTo (joinValues op a y) q)) ⌝ }
-{
-    let good = b.good;
-    if !good {
+    let i = next_of(b);
+    if i == 0 {
         return b;
     }
-    join_values(op, a, b.value, b.next)
+    if op == TIMES {
+        return worked_pair(arithmetic::product(a, value_of(b)), i);
+    }
+    worked_pair(arithmetic::quotient(a, value_of(b)), i)
 }
 
-fn negated_got(a: Got) -> Got
-    requires { ⌜ told (heard a) ≡ a ⌝ }
-    ensures { λ x. ⌜ x ≡ told (then (heard a) negated) ⌝ }
+// The same of a term.
+fn join_term(op: u32, a: i32, b: u64) -> u64
+    requires { ⌜ isTerm op ≡ true ⌝ }
+    ensures { λ x. ⌜ said x ≡ then (said b) (λ y q. upTo (joinValues op a y) q) ⌝ }
 {
-    let good = a.good;
-    if !good {
-        return a;
+    let i = next_of(b);
+    if i == 0 {
+        return b;
     }
-    got_of(arithmetic::negation(a.value), a.next)
+    if op == PLUS {
+        return worked_pair(arithmetic::sum(a, value_of(b)), i);
+    }
+    worked_pair(arithmetic::difference(a, value_of(b)), i)
 }
 
-fn inverted_got(a: Got) -> Got
-    requires { ⌜ told (heard a) ≡ a ⌝ }
-    ensures { λ x. ⌜ x ≡ told (then (heard a) inverted) ⌝ }
+// The same of a comparison.
+fn join_compare(op: u32, a: i32, b: u64) -> u64
+    requires { ⌜ isCompare op ≡ true ⌝ }
+    ensures { λ x. ⌜ said x ≡ then (said b) (λ y q. upTo (joinValues op a y) q) ⌝ }
 {
-    let good = a.good;
-    if !good {
-        return a;
+    let i = next_of(b);
+    if i == 0 {
+        return b;
     }
-    Got {
-        good: true,
-        value: yes_no(!is_yes(a.value)),
-        next: a.next,
-    }
+    pair_of(yes_no(join_truths(op, a, value_of(b))), i)
 }
 
-// What was got in brackets, if they are closed behind it.
-fn closed(code: &[u32; SIZE], r: &[i32; RS], cells: &[i32; CELLS], a: Got) -> Got
-    requires { ⌜ told (heard a) ≡ a ⌝ }
-    ensures { λ x. ⌜ x ≡ told (then (heard a) (readClose (now (code .entry)) (valueOver (now (r .entry)) (now (cells .entry))))) ⌝ }
+// The same of AND, OR, XOR.
+fn join_row(op: u32, a: i32, b: u64) -> u64
+    requires { ⌜ isLogic op ≡ true ⌝ }
+    ensures { λ x. ⌜ said x ≡ then (said b) (λ y q. upTo (joinValues op a y) q) ⌝ }
 {
-    let good = a.good;
-    if !good {
+    let i = next_of(b);
+    if i == 0 {
+        return b;
+    }
+    pair_of(yes_no(join_logic(op, is_yes(a), is_yes(value_of(b)))), i)
+}
+
+fn negated_pair(a: u64) -> u64
+    ensures { λ x. ⌜ said x ≡ then (said a) negated ⌝ }
+{
+    let i = next_of(a);
+    if i == 0 {
         return a;
     }
-    let i = a.next;
+    worked_pair(arithmetic::negation(value_of(a)), i)
+}
+
+fn inverted_pair(a: u64) -> u64
+    ensures { λ x. ⌜ said x ≡ then (said a) inverted ⌝ }
+{
+    let i = next_of(a);
+    if i == 0 {
+        return a;
+    }
+    pair_of(yes_no(!is_yes(value_of(a))), i)
+}
+
+// What was read in brackets, if they are closed behind it.
+fn closed(code: &[u32; SIZE], r: &[i32; RS], cells: &[i32; CELLS], a: u64) -> u64
+    ensures { λ x. ⌜ said x ≡ then (said a) (readClose (now (code .entry)) (valueOver (now (r .entry)) (now (cells .entry)))) ⌝ }
+{
+    let i = next_of(a);
+    if i == 0 {
+        return a;
+    }
     if token_at(code, i) != CLOSE {
-        return stopped(UNSOUND);
+        return alarm_of(UNSOUND);
     }
-    Got {
-        good: true,
-        value: a.value,
-        next: i + 1,
-    }
+    a + 1
 }
 
-fn variable(code: &[u32; SIZE], r: &[i32; RS], cells: &[i32; CELLS], w: u32, at: usize) -> Got
+fn variable(code: &[u32; SIZE], r: &[i32; RS], cells: &[i32; CELLS], w: u32, at: usize) -> u64
     requires { ⌜ at < 4130 ⌝ }
-    ensures { λ x. ⌜ x ≡ told (readVariable (now (code .entry)) (valueOver (now (r .entry)) (now (cells .entry))) w at) ⌝ }
+    ensures { λ x. ⌜ said x ≡ readVariable (now (code .entry)) (valueOver (now (r .entry)) (now (cells .entry))) w at ⌝ }
 {
     if !is_indexed(code, w, at) {
-        return stopped(UNSOUND);
+        return alarm_of(UNSOUND);
     }
-    got_of(variable_value(r, cells, w, index_at(code, w, at)), at + 4)
+    worked_pair(variable_value(r, cells, w, index_at(code, w, at)), at + 4)
 }
 
 // TRUE, FALSE or nothing of the grammar.
-fn truth(code: &[u32; SIZE], r: &[i32; RS], cells: &[i32; CELLS], t: u32, at: usize) -> Got
+fn truth(code: &[u32; SIZE], r: &[i32; RS], cells: &[i32; CELLS], t: u32, at: usize) -> u64
     requires { ⌜ ((t ≡ 0 → ⊥) → at < 4130) ⌝ }
-    ensures { λ x. ⌜ x ≡ told (readTruth (now (code .entry)) (valueOver (now (r .entry)) (now (cells .entry))) t at) ⌝ }
+    ensures { λ x. ⌜ said x ≡ readTruth (now (code .entry)) (valueOver (now (r .entry)) (now (cells .entry))) t at ⌝ }
 {
     if t == TRUE {
-        return Got {
-            good: true,
-            value: 1,
-            next: at + 1,
-        };
+        return pair_of(1, at + 1);
     }
     if t == FALSE {
-        return Got {
-            good: true,
-            value: 0,
-            next: at + 1,
-        };
+        return pair_of(0, at + 1);
     }
-    stopped(UNSOUND)
+    alarm_of(UNSOUND)
 }
 
 // ---- the walk
 
-fn operand(code: &[u32; SIZE], r: &[i32; RS], cells: &[i32; CELLS], at: usize, left: usize) -> Got
-    ensures { λ x. ⌜ x ≡ told (readOperand (now (code .entry)) (valueOver (now (r .entry)) (now (cells .entry))) left at) ⌝ }
+fn operand(code: &[u32; SIZE], r: &[i32; RS], cells: &[i32; CELLS], at: usize, left: usize) -> u64
+    ensures { λ x. ⌜ said x ≡ readOperand (now (code .entry)) (valueOver (now (r .entry)) (now (cells .entry))) left at ⌝ }
 {
     if left == 0 {
-        return stopped(UNSOUND);
+        return alarm_of(UNSOUND);
     }
     let t = token_at(code, at);
     if NUMBER <= t {
-        return Got {
-            good: true,
-            value: ((t - NUMBER) / 2) as i32,
-            next: at + 1,
-        };
+        return pair_of(((t - NUMBER) / 2) as i32, at + 1);
     }
     if is_variable(t) {
         return variable(code, r, cells, t, at);
@@ -268,54 +193,109 @@ fn operand(code: &[u32; SIZE], r: &[i32; RS], cells: &[i32; CELLS], at: usize, l
         return closed(code, r, cells, expression(code, r, cells, at + 1, left - 1));
     }
     if t == MINUS {
-        return negated_got(operand(code, r, cells, at + 1, left - 1));
+        return negated_pair(operand(code, r, cells, at + 1, left - 1));
     }
     if t == NOT {
-        return inverted_got(operand(code, r, cells, at + 1, left - 1));
+        return inverted_pair(operand(code, r, cells, at + 1, left - 1));
     }
     truth(code, r, cells, t, at)
 }
 
-fn product(code: &[u32; SIZE], r: &[i32; RS], cells: &[i32; CELLS], at: usize, left: usize) -> Got
-    ensures { λ x. ⌜ x ≡ told (readProduct (now (code .entry)) (valueOver (now (r .entry)) (now (cells .entry))) (readOperand (now (code .entry)) (valueOver (now (r .entry)) (now (cells .entry))) left) left at) ⌝ }
+// What was read, and as many factors as follow. The loops stand apart from the levels, so that a level that joins nothing is merged into the one above it.
+fn factors(code: &[u32; SIZE], r: &[i32; RS], cells: &[i32; CELLS], w: u64, left: usize) -> u64
+    ensures { λ x. ⌜ said x ≡ then (said w) (more (now (code .entry)) (valueOver (now (r .entry)) (now (cells .entry))) isFactor (readOperand (now (code .entry)) (valueOver (now (r .entry)) (now (cells .entry))) left) left) ⌝ }
 {
-    let mut a = operand(code, r, cells, at, left);
+    let mut a = w;
     let mut turns = left;
     while 0 < turns {
-        let good = a.good;
-        if !good {
-            return again(a);
+        let i = next_of(a);
+        if i == 0 {
+            return a;
         }
-        let i = a.next;
         let t = token_at(code, i);
         if !is_factor(t) {
-            return again(a);
+            return a;
         }
-        a = joined(t, a.value, operand(code, r, cells, i + 1, left));
+        a = join_factor(t, value_of(a), operand(code, r, cells, i + 1, left));
         turns -= 1;
     }
-    again(a)
+    a
 }
 
-fn sum(code: &[u32; SIZE], r: &[i32; RS], cells: &[i32; CELLS], at: usize, left: usize) -> Got
-    ensures { λ x. ⌜ x ≡ told (readSum (now (code .entry)) (valueOver (now (r .entry)) (now (cells .entry))) (readOperand (now (code .entry)) (valueOver (now (r .entry)) (now (cells .entry))) left) left at) ⌝ }
+fn product(code: &[u32; SIZE], r: &[i32; RS], cells: &[i32; CELLS], at: usize, left: usize) -> u64
+    ensures { λ x. ⌜ said x ≡ readProduct (now (code .entry)) (valueOver (now (r .entry)) (now (cells .entry))) (readOperand (now (code .entry)) (valueOver (now (r .entry)) (now (cells .entry))) left) left at ⌝ }
 {
-    let mut a = product(code, r, cells, at, left);
+    let a = operand(code, r, cells, at, left);
+    let i = next_of(a);
+    if i == 0 {
+        return a;
+    }
+    if !is_factor(token_at(code, i)) {
+        return a;
+    }
+    factors(code, r, cells, a, left)
+}
+
+fn terms(code: &[u32; SIZE], r: &[i32; RS], cells: &[i32; CELLS], w: u64, left: usize) -> u64
+    ensures { λ x. ⌜ said x ≡ then (said w) (more (now (code .entry)) (valueOver (now (r .entry)) (now (cells .entry))) isTerm (readProduct (now (code .entry)) (valueOver (now (r .entry)) (now (cells .entry))) (readOperand (now (code .entry)) (valueOver (now (r .entry)) (now (cells .entry))) left) left) left) ⌝ }
+{
+    let mut a = w;
     let mut turns = left;
     while 0 < turns {
-        let good = a.good;
-        if !good {
-            return again(a);
+        let i = next_of(a);
+        if i == 0 {
+            return a;
         }
-        let i = a.next;
         let t = token_at(code, i);
         if !is_term(t) {
-            return again(a);
+            return a;
         }
-        a = joined(t, a.value, product(code, r, cells, i + 1, left));
+        a = join_term(t, value_of(a), product(code, r, cells, i + 1, left));
         turns -= 1;
     }
-    again(a)
+    a
+}
+
+fn sum(code: &[u32; SIZE], r: &[i32; RS], cells: &[i32; CELLS], at: usize, left: usize) -> u64
+    ensures { λ x. ⌜ said x ≡ readSum (now (code .entry)) (valueOver (now (r .entry)) (now (cells .entry))) (readOperand (now (code .entry)) (valueOver (now (r .entry)) (now (cells .entry))) left) left at ⌝ }
+{
+    let a = product(code, r, cells, at, left);
+    let i = next_of(a);
+    if i == 0 {
+        return a;
+    }
+    if !is_term(token_at(code, i)) {
+        return a;
+    }
+    terms(code, r, cells, a, left)
+}
+
+// A row of the operator `first`.
+fn row(
+    code: &[u32; SIZE],
+    r: &[i32; RS],
+    cells: &[i32; CELLS],
+    first: u32,
+    w: u64,
+    left: usize,
+) -> u64
+    ensures { λ x. ⌜ said x ≡ then (said w) (more (now (code .entry)) (valueOver (now (r .entry)) (now (cells .entry))) (isRow first) (readSum (now (code .entry)) (valueOver (now (r .entry)) (now (cells .entry))) (readOperand (now (code .entry)) (valueOver (now (r .entry)) (now (cells .entry))) left) left) left) ⌝ }
+{
+    let mut a = w;
+    let mut turns = left;
+    while 0 < turns {
+        let i = next_of(a);
+        if i == 0 {
+            return a;
+        }
+        let t = token_at(code, i);
+        if !is_row(first, t) {
+            return a;
+        }
+        a = join_row(t, value_of(a), sum(code, r, cells, i + 1, left));
+        turns -= 1;
+    }
+    a
 }
 
 fn expression(
@@ -324,47 +304,55 @@ fn expression(
     cells: &[i32; CELLS],
     at: usize,
     left: usize,
-) -> Got
-    ensures { λ x. ⌜ x ≡ told (readExpression (now (code .entry)) (valueOver (now (r .entry)) (now (cells .entry))) (readOperand (now (code .entry)) (valueOver (now (r .entry)) (now (cells .entry))) left) left at) ⌝ }
+) -> u64
+    ensures { λ x. ⌜ said x ≡ readExpression (now (code .entry)) (valueOver (now (r .entry)) (now (cells .entry))) (readOperand (now (code .entry)) (valueOver (now (r .entry)) (now (cells .entry))) left) left at ⌝ }
 {
-    let mut a = sum(code, r, cells, at, left);
-    let good = a.good;
-    if !good {
-        return again(a);
+    let a = sum(code, r, cells, at, left);
+    let i = next_of(a);
+    if i == 0 {
+        return a;
     }
-    let first = token_at(code, a.next);
-    if is_compare(first) {
-        return again(joined(first, a.value, sum(code, r, cells, a.next + 1, left)));
+    let t = token_at(code, i);
+    if is_compare(t) {
+        return join_compare(t, value_of(a), sum(code, r, cells, i + 1, left));
     }
-    let mut turns = left;
-    while 0 < turns {
-        let good = a.good;
-        if !good {
-            return again(a);
-        }
-        let i = a.next;
-        let t = token_at(code, i);
-        if !is_row(first, t) {
-            return again(a);
-        }
-        a = joined(t, a.value, sum(code, r, cells, i + 1, left));
-        turns -= 1;
+    if !is_logic(t) {
+        return a;
     }
-    again(a)
+    row(code, r, cells, t, a, left)
 }
 
 // ---- what the layers above call
+
+// What a pair says, to the layers above.
+fn as_got(w: u64) -> Got
+    ensures { λ x. ⌜ x ≡ told (said w) ⌝ }
+{
+    let i = next_of(w);
+    if i == 0 {
+        return Got {
+            good: false,
+            value: alarm_in(w) as i32,
+            next: 0,
+        };
+    }
+    Got {
+        good: true,
+        value: value_of(w),
+        next: i,
+    }
+}
 
 // The value of the condition that begins at place `at`: yes is 1, no is 0.
 pub fn condition(code: &[u32; SIZE], r: &[i32; RS], cells: &[i32; CELLS], at: usize) -> Got
     ensures { λ x. ⌜ x ≡ conditionValue (now (code .entry)) (now (r .entry)) (now (cells .entry)) at ⌝ }
 {
-    expression(code, r, cells, at, SIZE)
+    as_got(expression(code, r, cells, at, SIZE))
 }
 
 // The value of the right side that begins at place `at`.
 pub fn right_side(code: &[u32; SIZE], r: &[i32; RS], cells: &[i32; CELLS], at: usize) -> Got
     ensures { λ x. ⌜ x ≡ rightValue (now (code .entry)) (now (r .entry)) (now (cells .entry)) at ⌝ }
 {
-    sum(code, r, cells, at, SIZE)
+    as_got(sum(code, r, cells, at, SIZE))
 }

@@ -8,7 +8,7 @@ use lib.Dec.{leb}
 use lib.IntN.{ℤ, pos}
 use mir.Syntax.{w32}
 use Rattle.values.proofs.Signed.{back}
-use Rattle.working.proofs.Told.{both}
+use Rattle.working.proofs.Joins.{both}
 use Rattle.working.specs.Variables.{asCount}
 use Rattle.values.specs.Value.{inRange, lessThan, equalTo, wholeUnits}
 use Rattle.state.specs.Sound.{isOutput, isCell}

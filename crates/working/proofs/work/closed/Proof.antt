@@ -1,15 +1,12 @@
 -- `work::closed` meets its contract: an alarm passes through, a value is closed by the token behind it.
 use borrow.Author.Needs.{needs}
-use mathlib.Core.Path.{ap, _∙_}
-use Prim.Native.Nat.{_+_}
+use mathlib.Core.Path.{refl, sym, ap, _∙_}
 use native.Mathlib.Omega.{arith}
-use lib.IntN.{ℤ}
-use mir.Syntax.{w32}
-use Rattle.values.proofs.Signed.{back}
-use Rattle.tokens.specs.Reading.{read}
-use Rattle.working.specs.Working.{valueOver, told}
+use Rattle.tokens.specs.Reading.{readClose}
+use Rattle.working.specs.Pair.{said}
+use Rattle.working.specs.Working.{valueOver}
 use Rattle.tokens.proofs.Arms.{closes, closes-not}
-use Rattle.working.proofs.Told.{passes, enters}
+use Rattle.working.proofs.Pairs.{passes, enters, alarm-said, next-said}
 use Rattle.working.proofs.work.closed.Statement.{statement}
 use Rattle.working.proofs.work.closed.Tie as tie
 
@@ -18,15 +15,20 @@ unfolding valueOver
 closed-spec =
     tie.close
     (tie.spec
-    (λ c. passes _ _ (c .before .pre) (c .if1 .taken))
+    (λ c κs. search needs)
+    (λ c. passes _ (c .before .next-of .ensures) _ (c .if1 .taken))
     (λ c κs. search needs)
     (λ c κs. search needs)
     (λ c.
     let d = c .before .before in
-    c .stopped .ensures ∙ enters (d .before .before .before .args .a) _ (d .before .before .if1 .left) (closes-not _ _ _ _ _ (d .token-at .ensures .0) (c .before .if2 .taken)))
-    (λ c. omega (arith, c .before .token-at .ensures .1 (λ e. omega arith)))
+    let n = d .before .before .before in
+    let a = n .before .args in
+    enters _ (n .next-of .ensures) refl (readClose (a .code .now) (valueOver (a .r .now) (a .cells .now))) (d .before .before .if1 .left)
+    (ap said (c .alarm-of .ensures) ∙ alarm-said _ (omega arith) ∙ sym (closes-not _ _ _ _ _ (d .token-at .ensures .0) (c .before .if2 .taken))))
+    (λ c. let d = c .before in record { fits = omega (arith, d .before .before .before .next-of .ensures, d .token-at .ensures .1 (λ e. omega arith)) })
     (λ c.
-    let d = c .before .before in
-    let a = d .before .before .before .args .a in
-    ap (λ (v : ℤ). told (read v (a .next + 1))) (back w32 (record { sfits = c .struct-told .given .1 .0 .1 })) ∙
-    enters a _ (d .before .before .if1 .left) (closes _ _ _ _ _ (d .token-at .ensures .0) (c .before .if2 .left))))
+    let d = c .before in
+    let n = d .before .before .before in
+    let a = n .before .args in
+    enters _ (n .next-of .ensures) refl (readClose (a .code .now) (valueOver (a .r .now) (a .cells .now))) (d .before .before .if1 .left)
+    (next-said (a .a) (n .next-of .ensures) (omega (arith, d .token-at .ensures .1 (λ e. omega arith))) ∙ sym (closes _ _ _ _ _ (d .token-at .ensures .0) (c .if2 .left)))))

@@ -2,8 +2,11 @@
 use borrow.Author.Needs.{needs}
 use mathlib.Core.Path.{sym, ap, _∙_}
 use native.Mathlib.Omega.{arith}
-use Rattle.working.specs.Working.{valueOver, told}
+use lib.Dec.{lit<}
+use Rattle.working.specs.Pair.{said}
+use Rattle.working.specs.Working.{valueOver}
 use Rattle.tokens.proofs.Arms.{yes-truth, no-truth, not-truth}
+use Rattle.working.proofs.Pairs.{pair-said, alarm-said}
 use Rattle.working.proofs.work.truth.Statement.{statement}
 use Rattle.working.proofs.work.truth.Tie as tie
 
@@ -13,8 +16,14 @@ truth-spec =
     tie.close
     (tie.spec
     (λ c. omega (arith, c .before .pre (λ e. omega arith)))
-    (λ c. sym (ap told (yes-truth _ _ _ _ (c .if1 .taken))))
-    (λ c. omega (arith, c .before .before .pre (λ e. omega arith)))
-    (λ c. sym (ap told (no-truth _ _ _ _ (c .if2 .taken))))
     (λ c κs. search needs)
-    (λ c. c .stopped .ensures ∙ sym (ap told (not-truth _ _ _ _ (c .before .before .if1 .left) (c .before .if2 .left)))))
+    (λ c.
+    let l = c .before .before .pre (λ e. omega arith) in
+    ap said (c .pair-of .ensures) ∙ pair-said _ (record { sfits = lit< tt }) (omega arith) (omega (arith, l)) ∙ sym (yes-truth _ _ _ _ (c .before .if1 .taken)))
+    (λ c. omega (arith, c .before .before .pre (λ e. omega arith)))
+    (λ c κs. search needs)
+    (λ c.
+    let l = c .before .before .before .pre (λ e. omega arith) in
+    ap said (c .pair-of2 .ensures) ∙ pair-said _ (record { sfits = lit< tt }) (omega arith) (omega (arith, l)) ∙ sym (no-truth _ _ _ _ (c .before .if2 .taken)))
+    (λ c κs. search needs)
+    (λ c. ap said (c .alarm-of .ensures) ∙ alarm-said _ (omega arith) ∙ sym (not-truth _ _ _ _ (c .before .before .if1 .left) (c .before .if2 .left))))

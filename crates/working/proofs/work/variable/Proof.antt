@@ -1,12 +1,14 @@
 -- `work::variable` meets its contract: what is not indexed stops, what is indexed is read.
 use borrow.Author.Needs.{needs}
 use borrow.Author.Tests.{not-true, not-false}
-use mathlib.Core.Path.{sym, ap, _∙_}
+use mathlib.Core.Path.{refl, sym, ap, _∙_}
 use Prim.Native.Nat.{ℕ, _+_}
+use native.Mathlib.Omega.{arith}
+use Rattle.working.specs.Pair.{said}
 use Rattle.working.specs.Variables.{variableValue}
-use Rattle.working.specs.Working.{valueOver, told}
+use Rattle.working.specs.Working.{valueOver}
 use Rattle.tokens.proofs.Arms.{indexed, indexed-not}
-use Rattle.working.proofs.Told.{gives}
+use Rattle.working.proofs.Pairs.{gives, alarm-said}
 use Rattle.working.proofs.work.variable.Statement.{statement}
 use Rattle.working.proofs.work.variable.Tie as tie
 
@@ -17,7 +19,7 @@ variable-spec =
     (tie.spec
     (λ c κs. search needs)
     (λ c κs. search needs)
-    (λ c. c .stopped .ensures ∙ sym (ap told (indexed-not _ _ _ _ (sym (c .before .before .is-indexed .ensures) ∙ not-true _ (c .before .if1 .taken)))))
+    (λ c. ap said (c .alarm-of .ensures) ∙ alarm-said _ (omega arith) ∙ sym (indexed-not _ _ _ _ (sym (c .before .before .is-indexed .ensures) ∙ not-true _ (c .before .if1 .taken))))
     (λ c κs. search needs)
     (λ c κs. search needs)
     (λ c. search needs)
@@ -25,5 +27,6 @@ variable-spec =
     (λ c.
     let d = c .before .before .before .before in
     let a = d .before .before .before .args in
-    gives (a .at + 4) (c .got-of .ensures) (c .before .variable-value .ensures ∙ ap (λ (i : ℕ). variableValue (a .r .now) (a .cells .now) (a .w) i) (c .before .before .index-at .ensures)) ∙
-    sym (ap told (indexed _ _ _ _ (sym (d .before .is-indexed .ensures) ∙ not-false _ (d .if1 .left))))))
+    gives (a .at + 4) (c .worked-pair .ensures) (c .before .variable-value .ensures ∙ ap (λ (i : ℕ). variableValue (a .r .now) (a .cells .now) (a .w) i) (c .before .before .index-at .ensures))
+    refl ∙
+    sym (indexed _ _ _ _ (sym (d .before .is-indexed .ensures) ∙ not-false _ (d .if1 .left)))))

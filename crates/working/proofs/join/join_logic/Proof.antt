@@ -1,10 +1,10 @@
--- `work::join_logic` meets its contract: each return by the tests that led to it.
+-- `join::join_logic` meets its contract: each return by the tests that led to it.
 use borrow.Author.Tests.{ne-eqb}
 use mathlib.Core.Path.{_≡_, refl}
 use mathlib.Core.Bool.{Bool, true, false, not, Bool·beq}
 use Rattle.working.specs.Working.{differ, joinLogic}
-use Rattle.working.proofs.work.join_logic.Statement.{statement}
-use Rattle.working.proofs.work.join_logic.Tie as tie
+use Rattle.working.proofs.join.join_logic.Statement.{statement}
+use Rattle.working.proofs.join.join_logic.Tie as tie
 
 other : (a b : Bool) → not (Bool·beq a b) ≡ differ a b
 other true true = refl

@@ -1,4 +1,4 @@
--- `work::join_truths` meets its contract: each return by the tests that led to it.
+-- `join::join_truths` meets its contract: each return by the tests that led to it.
 use borrow.Author.Needs.{needs}
 use borrow.Author.Tests.{ne-eqb}
 use mathlib.Core.Path.{_≡_, ap, _∙_}
@@ -8,9 +8,9 @@ use mir.Syntax.{w32}
 use Rattle.values.specs.Value.{lessThan, equalTo}
 use Rattle.values.proofs.Signed.{back}
 use Rattle.working.specs.Working.{isYes, joinLogic, joinTruths}
-use Rattle.working.proofs.Told.{both}
-use Rattle.working.proofs.work.join_truths.Statement.{statement}
-use Rattle.working.proofs.work.join_truths.Tie as tie
+use Rattle.working.proofs.Joins.{both}
+use Rattle.working.proofs.join.join_truths.Statement.{statement}
+use Rattle.working.proofs.join.join_truths.Tie as tie
 
 same : (o : ℕ) {a b x y : Bool} → a ≡ x → b ≡ y → joinLogic o a b ≡ joinLogic o x y
 same o e f = cc
