@@ -2,7 +2,7 @@
 -- Each write is seen by whatever is read after it; the first alarm ends it. Definitions only.
 use mathlib.Core.Bool.{Bool, true, false, cond}
 use mathlib.Core.List.{List, [], _∷_, _++_}
-use Prim.Native.Nat.{ℕ, zero, suc, _+_, _-_}
+use Prim.Native.Nat.{ℕ, zero, suc, _+_, _-_, _*_}
 use lib.Dec.{eqb, ltb}
 use lib.IntN.{ℤ, pos, natAbs}
 use lib.ListN.{getD, set, take}
@@ -11,12 +11,12 @@ use Rattle.buffers.specs.Fifo.{unsound}
 use Rattle.buffers.specs.Order.{orderBytes}
 use Rattle.buffers.specs.declared.order.Order.{Order}
 use Rattle.buffers.specs.declared.order.Kind.the-variants as K
-use Rattle.tokens.specs.Token.{END, POS, FA, M, SETAL, LOCK, isVariable, isDrive, whole}
+use Rattle.tokens.specs.Token.{END, POS, FA, M, SETAL, LOCK, isVariable, isDrive, whole, maxLines, maxActions}
 use Rattle.tokens.specs.Reading.{Answer, good, stop, _>>=_, indexAt}
 use Rattle.code.specs.Fault.{isRemoval}
 use Rattle.working.specs.Working.{rightValue}
 use Rattle.working.specs.declared.work.Got.{Got}
-use Rattle.set.specs.Set.{maxLines, rankIn}
+use Rattle.set.specs.Set.{rankIn}
 use Rattle.writing.specs.Write.{Vars, changeFifo, withChanged, writeTo}
 use Rattle.writing.specs.Drive.{driveOrder, orderOf}
 
@@ -143,6 +143,10 @@ module _ (s numbers : List ℕ) (cancelled : List Bool) (number : ℕ) where
         | false ↦ actionsOf j (d .world) (d .next) >>= λ e. good (record { world = e .world; next = e .next; notes = d .notes ++ e .notes })
       ]
 
--- actions are taken only where the n orders so far leave room for eight more: those of a beat always do
+-- the orders of a beat: each line's actions at most
+abbrev pub maxOrders : ℕ
+maxOrders = maxLines * maxActions
+
+-- actions are taken only where the n orders so far leave room for those of one more line: those of a beat always do
 unfoldable pub withRoom : ℕ → Answer Did → Answer Did
-withRoom n a = elim (ltb 248 n) [ true ↦ stop unsound | false ↦ a ]
+withRoom n a = elim (ltb (maxOrders - maxActions) n) [ true ↦ stop unsound | false ↦ a ]

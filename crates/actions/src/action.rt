@@ -10,15 +10,18 @@ ghost use Rattle.working.specs.Working.{rightValue};
 ghost use Rattle.actions.specs.Action.{fromGot, alarmOf, did, ordered, takenAt, assignmentOf, driveOf, lockOf, commandOf, actionOf, actionsOf, withRoom};
 ghost use Rattle.writing.specs.WriteHeld.{varsOf};
 ghost use Rattle.actions.specs.Held.{worldOf, IsWorked, IsTaken, IsDone, Within};
+ghost use Rattle.tokens.specs.Token.{setSize};
 use buffers::order::Kind;
+use buffers::order::ORDER_BYTES;
 use buffers::order::Order;
 use buffers::order::put;
 use code::check::is_removal;
-use set::set::LINES;
 use set::set::rank_in;
 use state::state::TIMERS;
+use tokens::token::ACTIONS;
 use tokens::token::END;
 use tokens::token::FA;
+use tokens::token::LINES;
 use tokens::token::LOCK;
 use tokens::token::M;
 use tokens::token::POS;
@@ -40,12 +43,12 @@ use writing::drive::drive_order;
 use writing::write::take_oldest;
 use writing::write::write;
 
-// The bytes of the orders of a beat: 32 lines of eight actions.
-pub const ORDERS: usize = 2048;
-// The actions of a line.
-pub const ACTIONS: usize = 8;
+// The orders of a beat, and their bytes: each line's actions at most.
+pub const MAX_ORDERS: usize = LINES * ACTIONS;
+
+pub const ORDERS: usize = MAX_ORDERS * ORDER_BYTES;
 // The most orders that leave room for those of one more line.
-const ROOM: usize = 248;
+const ROOM: usize = MAX_ORDERS - ACTIONS;
 
 // What a beat under way holds beside R, the cells and the orders: which timers run, which lines are locked, their memory, the word of those that acted, and
 // the count of orders.
@@ -174,7 +177,7 @@ fn assign(
     w: u32,
     p: usize,
 ) -> Done
-    requires { ⌜ p < 4130 ⌝ }
+    requires { ⌜ p < setSize ⌝ }
     ensures { λ x. ⌜ ((out : List ℕ) → IsDone x (now (r .exit)) (now (cells .exit)) out (assignmentOf (now (code .entry)) (worldOf (now (r .entry)) (now (cells .entry)) out flags) w p)) × Within 0 x flags ⌝ }
 {
     let runs = flags.runs;
@@ -217,7 +220,7 @@ fn drive(
     w: u32,
     p: usize,
 ) -> Done
-    requires { ⌜ (p < 4130) × (flags .count < 256) ⌝ }
+    requires { ⌜ (p < setSize) × (flags .count < 256) ⌝ }
     ensures { λ x. ⌜ IsDone x (now (r .entry)) (now (cells .entry)) (now (out .exit)) (driveOf (now (code .entry)) number (worldOf (now (r .entry)) (now (cells .entry)) (now (out .entry)) flags) w p) × Within 1 x flags ⌝ }
 {
     let axis = index_at(code, w, p);
@@ -264,7 +267,7 @@ fn command(
     w: u32,
     p: usize,
 ) -> Done
-    requires { ⌜ (p < 4130) × (flags .count < 256) ⌝ }
+    requires { ⌜ (p < setSize) × (flags .count < 256) ⌝ }
     ensures { λ x. ⌜ ((r c : List ℤ) → IsDone x r c (now (out .exit)) (commandOf (now (code .entry)) (now (numbers .entry)) (now (cancelled .entry)) number (worldOf r c (now (out .entry)) flags) w p)) × Within 1 x flags ⌝ }
 {
     let n = whole_of(token_at(code, p + 2));

@@ -9,7 +9,8 @@ use Rattle.code.specs.declared.check.Line.{Line}
 use Rattle.state.specs.declared.state.State.{State}
 use Rattle.calls.specs.declared.host.Called.{Called}
 use Rattle.calls.specs.declared.host.Found.{Found}
-use Rattle.set.specs.Set.{maxLines, noLine, rankIn, soundLines}
+use Rattle.tokens.specs.Token.{maxLines}
+use Rattle.set.specs.Set.{noLine, rankIn, soundLines}
 use Rattle.state.specs.Sound.{unsoundCode, isSound}
 
 abbrev pub unknownLine : ℕ

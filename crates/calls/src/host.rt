@@ -3,7 +3,7 @@ ghost use mathlib.Core.Path.{_≡_};
 ghost use Prim.Native.Nat.{_≤_};
 ghost use lib.ListN.{length};
 ghost use Rattle.calls.specs.Calls.{lockCall, unlockCall, cancelCall, resetCancelled, resetState, resetCall, found, lockedCall, zeroed};
-use set::set::LINES;
+ghost use Rattle.tokens.specs.Token.{maxLines};
 use set::set::Lines;
 use set::set::rank_in;
 use set::set::sound_lines;
@@ -12,6 +12,7 @@ use state::state::COUNT_AT;
 use state::state::MARKER_AT;
 use state::state::State;
 use state::state::TIMERS;
+use tokens::token::LINES;
 use tokens::token::SIZE;
 
 pub const UNSOUND: u8 = 22;
@@ -125,7 +126,7 @@ pub fn cancel(set: &[u32; SIZE], state: State, n: u32) -> Called
 
 // Every ID line is cancelled.
 fn cancel_ids(lines: Lines, cancelled: [bool; LINES]) -> [bool; LINES]
-    requires { ⌜ lines .count ≤ 32 ⌝ }
+    requires { ⌜ lines .count ≤ maxLines ⌝ }
     ensures { λ x. ⌜ x ≡ resetCancelled (lines .items) cancelled (lines .count) ⌝ }
 {
     let mut now_cancelled = cancelled;

@@ -6,7 +6,7 @@ use lib.Dec.{eqb, leb}
 use lib.ListN.{getD, drop}
 use Rattle.code.specs.declared.check.Look.{Look}
 use Rattle.code.specs.declared.check.Line.{Line}
-use Rattle.tokens.specs.Token.{setSize, END, EQUALS, MINUS, OPEN, CLOSE, IDS, DO, M, SETAL, isVariable, isFifo, isDrive, isCall, isKeyword, isId, isFactor, isTerm, isLogic, isWhole, whole}
+use Rattle.tokens.specs.Token.{setSize, END, EQUALS, MINUS, OPEN, CLOSE, IDS, DO, M, SETAL, isVariable, isFifo, isDrive, isCall, isKeyword, isId, isFactor, isTerm, isLogic, isWhole, whole, maxActions}
 use Rattle.tokens.specs.Reading.{good, Read, read, ends, then, Meaning, isIndexed, indexAt, sumAt, expressionAt}
 use Rattle.tokens.specs.SingleFault.{callFault, codeFault, idFault, lower, notInGrammar, numberFault, opensTooMany, readFault, tooDeep, tooMany, unless, wantingFault, writeFault}
 
@@ -73,7 +73,7 @@ shownRead l = elim (l .good) [ true ↦ read (l .fault) (l .next) | false ↦ en
 
 -- 10: at most eight actions
 unfoldable pub countFault : ℕ → ℕ
-countFault n = unless (leb n 8) tooMany
+countFault n = unless (leb n maxActions) tooMany
 
 -- a line's number; a number that is none is 0
 unfoldable pub numberOf : ℕ → ℕ

@@ -18,6 +18,7 @@ use tokens::fault::opens_too_many;
 use tokens::fault::read_fault;
 use tokens::fault::wanting;
 use tokens::fault::write_fault;
+use tokens::token::ACTIONS;
 use tokens::token::CLOSE;
 use tokens::token::DO;
 use tokens::token::END;
@@ -48,9 +49,6 @@ use tokens::token::is_variable;
 use tokens::token::is_whole;
 use tokens::token::token_at;
 use tokens::token::whole_of;
-
-// The actions of a line.
-pub const ACTIONS: usize = 8;
 
 // What the walk sees: a yes/no or a number, the lowest fault in it, and the place behind it; or, where it is not good, that it is not in the grammar.
 pub struct Look {

@@ -8,10 +8,10 @@ use lib.Dec.{eqb, ltb}
 use lib.ListN.{getD, set}
 use borrow.Author.Tests.{ltb-true}
 use Rattle.values.specs.Choice.{either}
-use Rattle.tokens.specs.Token.{END, M, SETAL, LOCK, isVariable, isDrive, whole}
+use Rattle.tokens.specs.Token.{END, M, SETAL, LOCK, isVariable, isDrive, whole, maxLines}
 use Rattle.tokens.specs.Reading.{Answer, good, stop, _>>=_, indexAt}
 use Rattle.working.specs.Working.{rightValue}
-use Rattle.set.specs.Set.{maxLines, rankIn}
+use Rattle.set.specs.Set.{rankIn}
 use Rattle.actions.specs.Action.{World, Note, Did, fromGot, takenAt, assignmentOf, lockOf, commandOf, driveOf, actionOf, actionsOf}
 use Rattle.writing.specs.Drive.{driveOrder}
 use Rattle.writing.specs.Write.{writeTo}
@@ -56,7 +56,7 @@ dressDid l m d = good (record { world = dress (noteAll (d .notes) l) m (d .world
 -- these locks and releases name lines that are not cancelled
 abbrev pub Live : List Bool → List Note → Type 0
 Live cs [] = Unit {0}
-Live cs (n ∷ ns) = (n .0 < 32) × (getD cs (n .0) false ≡ false) × Live cs ns
+Live cs (n ∷ ns) = (n .0 < maxLines) × (getD cs (n .0) false ≡ false) × Live cs ns
 
 live-append : (cs : List Bool) (ms ns : List Note) → Live cs ms → Live cs ns → Live cs (ms ++ ns)
 live-append cs [] ns p q = q

@@ -8,6 +8,7 @@ use lib.Dec.{ltb}
 use lib.IntN.{ℤ}
 use lib.ListN.{length, getD}
 use borrow.Author.Tests.{lt-ltb, ltb-true}
+use Rattle.tokens.specs.Token.{maxLines}
 use Rattle.values.specs.Choice.{either}
 use Rattle.tokens.specs.Reading.{Answer, good, stop, _>>=_}
 use Rattle.set.specs.declared.set.Lines.{Lines}
@@ -102,7 +103,7 @@ module _ (s : List ℕ) (n : Now Vars) where
   codeBy a b c = elim a [ true ↦ elim b [ true ↦ elim c [ true ↦ unknownLine | false ↦ 0 ] | false ↦ unknownLine ] | false ↦ unsoundCode ]
 
   host-same : (x : Call) (e : Entry) (change : ℕ → State) (number : ℕ) →
-      (rankOf s number < 32 → ltb (rankOf s number) (soundLines s .count) ≡ true → cancelledBy (soundLines s) (n .written) (rankOf s number) ≡ false →
+      (rankOf s number < maxLines → ltb (rankOf s number) (soundLines s .count) ≡ true → cancelledBy (soundLines s) (n .written) (rankOf s number) ≡ false →
       change (rankOf s number) ≡ stateBy (soundLines s) (n .kept) (e ∷ n .written)) →
       hosted x (called (stateBy (soundLines s) (n .kept) (n .written)) (found s (stateBy (soundLines s) (n .kept) (n .written)) number) change) e (withFlags s n)
       ≡ withFlags s (hostedByRule x (codeByRule s (n .kept) (n .written) number) e n)
@@ -119,7 +120,7 @@ module _ (s : List ℕ) (n : Now Vars) where
       st : State
       st = stateBy ls (n .kept) (n .written)
 
-      small : ltb k (ls .count) ≡ true → k < 32
+      small : ltb k (ls .count) ≡ true → k < maxLines
       small b = omega (arith, ltb-true k (ls .count) b, sound-count s)
 
       asked : ltb k (ls .count) ≡ true → getD (st .cancelled) k false ≡ isCancelled (getD (ls .items) k noLine .ids) k (n .written)
@@ -215,7 +216,7 @@ module _ (s : List ℕ) (cs : List Call) where
       (getD (st .cancelled) k false ≡ c) × (getD (st .locked) k false ≡ isLocked k r && not c) × (getD (st .memory) k false ≡ remembersBy (l .keyword) k r && not c)
   unfolding stateBy
   flags-say-the-record k h =
-      let b : k < 32 = omega (arith, sound-count s) in
+      let b : k < maxLines = omega (arith, sound-count s) in
       let p : ltb k (soundLines s .count) ≡ true = lt-ltb k (soundLines s .count) h in (
         ap (λ st. getD (st .cancelled) k false) state-says-the-record ∙ byRank-at (cancelledBy (soundLines s) (run s cs .written)) k b ∙ rw p (and-true _),
         ap (λ st. getD (st .locked) k false) state-says-the-record ∙ byRank-at (lockedBy (soundLines s) (run s cs .written)) k b ∙ rw (p, and-true),

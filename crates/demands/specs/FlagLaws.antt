@@ -9,7 +9,7 @@ use lib.Dec.{eqb, ltb, nltb→le, leb·suc-zero}
 use lib.ListN.{length, getD, set, replicate, length-set, length-replicate, getD-replicate}
 use lib.Seq.{getD-set-same, getD-set-other, ext-getD}
 use borrow.Author.Tests.{eq-eqb, eqb-false, eqb-true, ltb-true}
-use Rattle.tokens.specs.Token.{WHEN, FROM, EVERY}
+use Rattle.tokens.specs.Token.{WHEN, FROM, EVERY, maxLines}
 use Rattle.set.specs.declared.set.Lines.{Lines}
 use Rattle.set.specs.Set.{noLine}
 use Rattle.turns.specs.Turn.{worked, locks, cancels, resets}
@@ -31,20 +31,20 @@ getD-ranks f zero i h = absurd (omega arith)
 getD-ranks f (suc n) zero h = refl
 getD-ranks f (suc n) (suc i) h = getD-ranks (λ k. f (suc k)) n i (omega arith)
 
-pub length-byRank : (f : ℕ → Bool) → length (byRank f) ≡ 32
+pub length-byRank : (f : ℕ → Bool) → length (byRank f) ≡ maxLines
 unfolding byRank
-length-byRank f = length-ranks f 32
+length-byRank f = length-ranks f maxLines
 
-pub byRank-at : (f : ℕ → Bool) (k : ℕ) → k < 32 → getD (byRank f) k false ≡ f k
+pub byRank-at : (f : ℕ → Bool) (k : ℕ) → k < maxLines → getD (byRank f) k false ≡ f k
 unfolding byRank
-byRank-at f k h = getD-ranks f 32 k h
+byRank-at f k h = getD-ranks f maxLines k h
 
 -- a list of 32 is by rank what it holds at each
-pub as-byRank : (l : List Bool) (f : ℕ → Bool) → length l ≡ 32 → ((j : ℕ) → j < 32 → getD l j false ≡ f j) → l ≡ byRank f
+pub as-byRank : (l : List Bool) (f : ℕ → Bool) → length l ≡ maxLines → ((j : ℕ) → j < maxLines → getD l j false ≡ f j) → l ≡ byRank f
 as-byRank l f n h = ext-getD false l (byRank f) (n ∙ sym (length-byRank f)) (λ j b. h j (omega arith) ∙ sym (byRank-at f j (omega arith)))
 
-pub byRank-none : (f : ℕ → Bool) → ((j : ℕ) → j < 32 → f j ≡ false) → replicate 32 false ≡ byRank f
-byRank-none f h = as-byRank (replicate 32 false) f (length-replicate 32 false) (λ j b. getD-replicate 32 j false false b ∙ sym (h j b))
+pub byRank-none : (f : ℕ → Bool) → ((j : ℕ) → j < maxLines → f j ≡ false) → replicate maxLines false ≡ byRank f
+byRank-none f h = as-byRank (replicate maxLines false) f (length-replicate maxLines false) (λ j b. getD-replicate maxLines j false false b ∙ sym (h j b))
 
 getD-set : (l : List Bool) (k j : ℕ) (v : Bool) → k < length l → getD (set l k v) j false ≡ cond (eqb k j) v (getD l j false)
 getD-set l k j v h = go (eqb k j) refl
@@ -53,7 +53,7 @@ getD-set l k j v h = go (eqb k j) refl
     go true e = let p : k ≡ j = eqb-true k j e in rw (← p) (getD-set-same l k v false h)
     go false e = getD-set-other l k j v false (λ q. eqb-false k j e (sym q))
 
-pub byRank-set : (f g : ℕ → Bool) (k : ℕ) (v : Bool) → k < 32 → ((j : ℕ) → j < 32 → cond (eqb k j) v (f j) ≡ g j) → set (byRank f) k v ≡ byRank g
+pub byRank-set : (f g : ℕ → Bool) (k : ℕ) (v : Bool) → k < maxLines → ((j : ℕ) → j < maxLines → cond (eqb k j) v (f j) ≡ g j) → set (byRank f) k v ≡ byRank g
 byRank-set f g k v b h =
     as-byRank (set (byRank f) k v) g (length-set (byRank f) k v ∙ length-byRank f)
     (λ j c. getD-set (byRank f) k j v (rw (length-byRank f) b) ∙ rw (byRank-at f j c) (h j c))
@@ -87,7 +87,7 @@ none-remembers kw k r p q = rw (p, q) (go (eqb kw WHEN || eqb kw FROM) (eqb kw E
 
 module _ (ls : Lines) where
   -- the condition of a line that is not cancelled was worked
-  pub worked-memory : (k : ℕ) (v : Bool) (r : Record) → k < 32 → cancelledBy ls r k ≡ false →
+  pub worked-memory : (k : ℕ) (v : Bool) (r : Record) → k < maxLines → cancelledBy ls r k ≡ false →
       set (byRank (memoryBy ls r)) k (remembers (getD (ls .items) k noLine .keyword) (remembersBy (getD (ls .items) k noLine .keyword) k r) v) ≡ byRank (memoryBy ls (worked k v ∷ r))
   worked-memory k v r b c = byRank-set (memoryBy ls r) (memoryBy ls (worked k v ∷ r)) k (new k) b (λ j d. go j (eqb k j) refl)
     where
@@ -104,7 +104,7 @@ module _ (ls : Lines) where
       go j false e = rw (worked-other (kw j) k j r v e)
 
   -- a line that is not cancelled was locked or released
-  pub lock-locked : (k : ℕ) (b : Bool) (r : Record) → k < 32 → cancelledBy ls r k ≡ false → set (byRank (lockedBy ls r)) k b ≡ byRank (lockedBy ls (locks k b ∷ r))
+  pub lock-locked : (k : ℕ) (b : Bool) (r : Record) → k < maxLines → cancelledBy ls r k ≡ false → set (byRank (lockedBy ls r)) k b ≡ byRank (lockedBy ls (locks k b ∷ r))
   lock-locked k b r h c = byRank-set (lockedBy ls r) (lockedBy ls (locks k b ∷ r)) k b h (λ j d. go j (eqb k j) refl)
     where
       go : (j : ℕ) (e : Bool) → eqb k j ≡ e → cond e b (lockedBy ls r j) ≡ orElse (only e b) (isLocked j r) && not (cancelledBy ls r j)
@@ -112,7 +112,7 @@ module _ (ls : Lines) where
       go j false e = refl
 
   -- a line of the set was cancelled
-  module _ (k : ℕ) (r : Record) (h : k < 32) (c : ltb k (ls .count) ≡ true) where
+  module _ (k : ℕ) (r : Record) (h : k < maxLines) (c : ltb k (ls .count) ≡ true) where
     counted-too : (j : ℕ) → eqb k j ≡ true → ltb j (ls .count) ≡ true
     counted-too j e = let p : k ≡ j = eqb-true k j e in rw p at c
 
@@ -135,10 +135,10 @@ module _ (ls : Lines) where
     cancel-memory = byRank-set (memoryBy ls r) (memoryBy ls (cancels k ∷ r)) k false h (λ j d. cleared-flag (λ i. remembersBy (getD (ls .items) i noLine .keyword) i r) j (eqb k j) refl)
 
   -- a reset
-  pub reset-locked : (r : Record) → replicate 32 false ≡ byRank (lockedBy ls (resets ∷ r))
+  pub reset-locked : (r : Record) → replicate maxLines false ≡ byRank (lockedBy ls (resets ∷ r))
   reset-locked r = byRank-none (lockedBy ls (resets ∷ r)) (λ j b. refl)
 
-  pub reset-memory : (r : Record) → replicate 32 false ≡ byRank (memoryBy ls (resets ∷ r))
+  pub reset-memory : (r : Record) → replicate maxLines false ≡ byRank (memoryBy ls (resets ∷ r))
   reset-memory r = byRank-none (memoryBy ls (resets ∷ r)) (λ j b. rw (none-remembers (getD (ls .items) j noLine .keyword) j (resets ∷ r) refl refl))
 
   reset-length : (cs : List Bool) (n : ℕ) → length (resetCancelled (ls .items) cs n) ≡ length cs
@@ -167,7 +167,7 @@ module _ (ls : Lines) where
       go false false true e p q i = let g : n ≤ j = nltb→le j n (rw p tt) in let f : j < suc n = ltb-true j (suc n) q in let w : j ≢ n = λ q. eqb-false n j e (sym q) in absurd (omega arith)
       go false false false e p q i = i
 
-  pub reset-cancelled : (r : Record) → ls .count ≤ 32 → resetCancelled (ls .items) (byRank (cancelledBy ls r)) (ls .count) ≡ byRank (cancelledBy ls (resets ∷ r))
+  pub reset-cancelled : (r : Record) → ls .count ≤ maxLines → resetCancelled (ls .items) (byRank (cancelledBy ls r)) (ls .count) ≡ byRank (cancelledBy ls (resets ∷ r))
   reset-cancelled r n =
       as-byRank _ (cancelledBy ls (resets ∷ r)) (reset-length (byRank (cancelledBy ls r)) (ls .count) ∙ length-byRank (cancelledBy ls r))
       (λ j b. reset-at (byRank (cancelledBy ls r)) (ls .count) j (rw (length-byRank (cancelledBy ls r)) n)
@@ -184,11 +184,11 @@ module _ (ls : Lines) where
       go false false false = refl
 
   -- nothing is written down yet
-  pub new-locked : replicate 32 false ≡ byRank (lockedBy ls [])
+  pub new-locked : replicate maxLines false ≡ byRank (lockedBy ls [])
   new-locked = byRank-none (lockedBy ls []) (λ j b. refl)
 
-  pub new-cancelled : replicate 32 false ≡ byRank (cancelledBy ls [])
+  pub new-cancelled : replicate maxLines false ≡ byRank (cancelledBy ls [])
   new-cancelled = byRank-none (cancelledBy ls []) (λ j b. refl)
 
-  pub new-memory : replicate 32 false ≡ byRank (memoryBy ls [])
+  pub new-memory : replicate maxLines false ≡ byRank (memoryBy ls [])
   new-memory = byRank-none (memoryBy ls []) (λ j b. rw (none-remembers (getD (ls .items) j noLine .keyword) j [] refl refl))

@@ -6,7 +6,7 @@ use Prim.Native.Nat.{ℕ, zero, suc, _+_, _/_}
 use lib.Dec.{eqb, ltb}
 use lib.IntN.{ℤ}
 use lib.ListN.{length, getD, drop}
-use Rattle.tokens.specs.Token.{WHEN, FROM, EVERY}
+use Rattle.tokens.specs.Token.{WHEN, FROM, EVERY, maxLines}
 use Rattle.tokens.specs.Reading.{Answer, good, stop, _>>=_}
 use Rattle.working.specs.Working.{isYes, conditionValue}
 use Rattle.code.specs.declared.check.Line.{Line}
@@ -14,7 +14,7 @@ use Rattle.set.specs.declared.set.Lines.{Lines}
 use Rattle.state.specs.declared.state.State.{State}
 use Rattle.engine.specs.declared.beat.Beaten.{Beaten}
 use Rattle.calls.specs.declared.host.Called.{Called}
-use Rattle.set.specs.Set.{maxLines, noLine, rankIn, soundLines}
+use Rattle.set.specs.Set.{noLine, rankIn, soundLines}
 use Rattle.state.specs.State.{powerOn}
 use Rattle.engine.specs.Cells.{inputCount, beatCells}
 use Rattle.state.specs.Sound.{unsoundCode, isSound}

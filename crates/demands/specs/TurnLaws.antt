@@ -8,7 +8,7 @@ use lib.Dec.{eqb}
 use lib.ListN.{getD}
 use borrow.Author.Tests.{eqb-true, lt-ltb}
 use Rattle.values.specs.Choice.{either}
-use Rattle.tokens.specs.Token.{WHEN, WHENEVER, FROM, EVERY}
+use Rattle.tokens.specs.Token.{WHEN, WHENEVER, FROM, EVERY, maxLines}
 use Rattle.tokens.specs.Reading.{Answer, good, stop, _>>=_}
 use Rattle.working.specs.Working.{isYes, conditionValue}
 use Rattle.code.specs.declared.check.Line.{Line}
@@ -125,7 +125,7 @@ module _ (ls : Lines) where
         (λ d q. rw (after-append es (map lockEntry (d .notes)) r) (notes-cancelled (d .notes) (after es r) ∙ h, notes-mode (d .notes) (after es r) ∙ m))
 
     -- a line that is not cancelled
-    module _ (b : k < 32) (c : cancelledBy ls r k ≡ false) where
+    module _ (b : k < maxLines) (c : cancelledBy ls r k ≡ false) where
       memory-at : getD (byRank (memoryBy ls r)) k false ≡ remembersBy (getD (ls .items) k noLine .keyword) k r
       memory-at = byRank-at (memoryBy ls r) k b ∙ rw c (and-true (remembersBy (getD (ls .items) k noLine .keyword) k r))
 
@@ -156,7 +156,7 @@ module _ (ls : Lines) where
     turn-quiet l = either (Ok (Quiet r)) (takesByRule l k r) (λ e. try-quiet l) (λ e. (refl, refl))
 
     -- the turn of a line of the set
-    module _ (b : k < 32) (n : k < ls .count) where
+    module _ (b : k < maxLines) (n : k < ls .count) where
       takes-same : takesTurn s (ls .numbers) (byRank (cancelledBy ls r)) (isAutomatic r) (getD (ls .items) k noLine) k (flagged r x) ≡ takesByRule (getD (ls .items) k noLine) k r
       unfolding takesTurn
       takes-same =
@@ -173,7 +173,7 @@ module _ (ls : Lines) where
           (λ e. refl)
 
   -- the turns of m lines from rank k on
-  pub turns-same : (s : List ℕ) (m k : ℕ) (r : Record) (x : World) → ls .count ≤ 32 → k + m ≤ ls .count →
+  pub turns-same : (s : List ℕ) (m k : ℕ) (r : Record) (x : World) → ls .count ≤ maxLines → k + m ≤ ls .count →
       turnsFrom s (ls .numbers) (byRank (cancelledBy ls r)) (isAutomatic r) (ls .items) m k (flagged r x) ≡ (turnsByRule s ls m k r x >>= flaggedTurn r)
   unfolding turnsFrom turnsByRule
   turns-same s zero k r x n h = refl

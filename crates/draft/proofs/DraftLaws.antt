@@ -18,7 +18,8 @@ use Rattle.text.specs.Lines.{Numbered, isBlank, numbered, tokenLines}
 use Rattle.draft.specs.declared.draft.Draft.{Draft}
 use Rattle.draft.specs.declared.draft.Written.{Written}
 use Rattle.draft.specs.Row.{ended, putAt}
-use Rattle.draft.specs.Codes.{textSize, tooLong, tooManyLines, badToken, usedAbove}
+use Rattle.tokens.specs.Token.{textSize}
+use Rattle.draft.specs.Codes.{tooLong, tooManyLines, badToken, usedAbove}
 use Rattle.draft.specs.Draft.{Drafted, noDraft, refusedAt, grownBy, keptLine, addedLine, draftFrom, textDraft}
 use Rattle.draft.proofs.LineLaws.{line-blank, line-full}
 

@@ -1,8 +1,5 @@
--- The codes 1, 2, 3, 11 and 12 of a text, and how many bytes it may have (document 01, "Codes"). Definitions only.
+-- The codes 1, 2, 3, 11 and 12 of a text (document 01, "Codes"). Definitions only.
 use Prim.Native.Nat.{ℕ}
-
-abbrev pub textSize : ℕ
-textSize = 4096
 
 abbrev pub tooLong : ℕ
 tooLong = 1

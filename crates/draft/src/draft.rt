@@ -7,19 +7,18 @@ ghost use Rattle.words.specs.Tokens.{tokensOf};
 ghost use Rattle.text.specs.Lines.{numbered, tokenLines};
 ghost use Rattle.draft.specs.Row.{ended, putAt};
 ghost use Rattle.draft.specs.Draft.{noDraft, refusedAt, grownBy, keptLine, addedLine, draftFrom, textDraft};
+ghost use Rattle.tokens.specs.Token.{setSize, maxLines, textSize};
 use code::check::line_at;
-use set::set::LINES;
 use set::set::STARTS;
 use set::set::rank_in;
 use text::bytes::SPACE;
 use text::lines::is_blank;
 use text::lines::line_bounds;
 use tokens::token::END;
+use tokens::token::LINES;
 use tokens::token::SIZE;
+use tokens::token::TEXT_SIZE;
 use words::first::first_token;
-
-// The bytes that a text may have.
-pub const TEXT_SIZE: usize = 4096;
 
 pub const TOO_LONG: u8 = 1;
 
@@ -30,7 +29,7 @@ pub const NO_TOKEN: u8 = 3;
 pub const USED_ABOVE: u8 = 11;
 
 // The place of the first line.
-pub const FIRST: usize = 33;
+pub const FIRST: usize = STARTS + LINES;
 
 // What is known of a draft beside its array: the code and the line that refuse the text, 0 while there is none; how many lines it has, the place behind them, their numbers, and where each
 // stands in the text.
@@ -84,7 +83,7 @@ fn refused_at(d: Draft, code: u8, k: u32) -> Draft
 
 // The line k of the text, with the number n, ends before the place `next`.
 fn grown_by(d: Draft, k: u32, n: u8, next: usize) -> Draft
-    requires { ⌜ d .count < 32 ⌝ }
+    requires { ⌜ d .count < maxLines ⌝ }
     ensures { λ x. ⌜ x ≡ grownBy d k n next ⌝ }
 {
     let count = d.count;
@@ -104,7 +103,7 @@ fn grown_by(d: Draft, k: u32, n: u8, next: usize) -> Draft
 
 // The line k of the text stands in the array at the draft's place, and ends before the place `next`.
 fn keep_line(s: &mut [u32; SIZE], d: Draft, k: u32, next: usize) -> Draft
-    requires { ⌜ (d .count < 32) × (d .at ≤ 4130) ⌝ }
+    requires { ⌜ (d .count < maxLines) × (d .at ≤ setSize) ⌝ }
     ensures { λ x. ⌜ record { array = now (s .exit); draft = x } ≡ keptLine (now (s .entry)) d k next ⌝ }
 {
     let at = d.at;
@@ -124,7 +123,7 @@ fn keep_line(s: &mut [u32; SIZE], d: Draft, k: u32, next: usize) -> Draft
 
 // The tokens of a line's bytes are written from a place on, and the end behind them.
 fn put_tokens(body: &[u8], s: &mut [u32; SIZE], at: usize) -> Written
-    requires { ⌜ at + length (now body) + 1 ≤ 4130 ⌝ }
+    requires { ⌜ at + length (now body) + 1 ≤ setSize ⌝ }
     ensures { λ x. ⌜ (x ≡ record { good = tokensOf (now (body .entry)) .good; count = length (tokensOf (now (body .entry)) .list) }) × (now (s .exit) ≡ putAt (now (s .entry)) at (ended (tokensOf (now (body .entry)) .list))) ⌝ }
 {
     let mut n: usize = 0;
@@ -156,7 +155,7 @@ fn put_tokens(body: &[u8], s: &mut [u32; SIZE], at: usize) -> Written
 
 // The line k of the text is added.
 fn add_line(body: &[u8], s: &mut [u32; SIZE], d: Draft, k: u32) -> Draft
-    requires { ⌜ d .at + length (now body) + 1 ≤ 4130 ⌝ }
+    requires { ⌜ d .at + length (now body) + 1 ≤ setSize ⌝ }
     ensures { λ x. ⌜ record { array = now (s .exit); draft = x } ≡ addedLine (now (s .entry)) d k (tokensOf (now (body .entry))) ⌝ }
 {
     if LINES <= d.count {
@@ -173,7 +172,7 @@ fn add_line(body: &[u8], s: &mut [u32; SIZE], d: Draft, k: u32) -> Draft
 
 // The same, unless it is only spaces and comment.
 fn take_line(body: &[u8], s: &mut [u32; SIZE], d: Draft, k: u32) -> Draft
-    requires { ⌜ d .at + length (now body) + 1 ≤ 4130 ⌝ }
+    requires { ⌜ d .at + length (now body) + 1 ≤ setSize ⌝ }
     ensures { λ x. ⌜ record { array = now (s .exit); draft = x } ≡ draftFrom (record { array = now (s .entry); draft = d }) (numbered k (now (body .entry) ∷ [])) ⌝ }
 {
     if is_blank(body) {
@@ -184,7 +183,7 @@ fn take_line(body: &[u8], s: &mut [u32; SIZE], d: Draft, k: u32) -> Draft
 
 // The lines of a text, up to the first that refuses it.
 fn read_lines(text: &[u8], s: &mut [u32; SIZE]) -> Draft
-    requires { ⌜ length (now text) ≤ 4096 ⌝ }
+    requires { ⌜ length (now text) ≤ textSize ⌝ }
     ensures { λ x. ⌜ record { array = now (s .exit); draft = x } ≡ draftFrom (record { array = now (s .entry); draft = noDraft }) (tokenLines (now (text .entry))) ⌝ }
 {
     let mut d = no_draft();
@@ -206,7 +205,7 @@ fn read_lines(text: &[u8], s: &mut [u32; SIZE]) -> Draft
 
 // How many lines with tokens a text has.
 fn count_lines(text: &[u8]) -> usize
-    requires { ⌜ length (now text) ≤ 4096 ⌝ }
+    requires { ⌜ length (now text) ≤ textSize ⌝ }
     ensures { λ x. ⌜ x ≡ length (tokenLines (now (text .entry))) ⌝ }
 {
     let mut n: usize = 0;

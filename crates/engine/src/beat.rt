@@ -4,15 +4,15 @@ ghost use mathlib.Core.List.{_++_};
 ghost use Prim.Native.Nat.{_+_, _*_, _≤_, _<_};
 ghost use lib.ListN.{length, take, drop};
 ghost use Rattle.turns.specs.Turn.{turnsFrom};
-ghost use Rattle.engine.specs.Beat.{areInputs, begun, answered, buffered, beatAnswer, beatBuffer};
+ghost use Rattle.engine.specs.Beat.{areInputs, begun, answered, buffered, beatAnswer, beatBuffer, bufferSize};
 ghost use mathlib.Core.Bool.{cond};
 ghost use lib.Dec.{eqb};
 ghost use lib.IntN.{pos};
 ghost use Rattle.values.specs.Value.{unit};
 ghost use Rattle.engine.specs.Cells.{inputCells, beatCells};
+ghost use Rattle.tokens.specs.Token.{maxLines};
 use actions::action::Flags;
 use actions::action::ORDERS;
-use set::set::LINES;
 use set::set::Lines;
 use set::set::sound_lines;
 use state::sound::all_ranged;
@@ -21,6 +21,7 @@ use state::state::STATE_CELLS;
 use state::state::State;
 use state::state::TIMERS;
 use state::timers::grow_timers;
+use tokens::token::LINES;
 use tokens::token::SIZE;
 use turns::turn::turns;
 use values::arithmetic::UNIT;
@@ -53,7 +54,7 @@ fn are_inputs(lent: &[i32]) -> bool
 
 // The first n bytes of the orders go into the lent buffer; its bytes behind them stay.
 fn copy_orders(orders: &mut [u8], out: &[u8; ORDERS], n: usize)
-    requires { ⌜ (n ≤ 2048) × (2048 ≤ length (now orders)) ⌝ }
+    requires { ⌜ (n ≤ bufferSize) × (bufferSize ≤ length (now orders)) ⌝ }
     ensures { λ x. ⌜ (now (orders .exit) ≡ take n (now (out .entry)) ++ drop n (now (orders .entry))) × (length (take n (now (out .entry))) ≡ n) ⌝ }
 {
     let all = &out[..];
@@ -115,7 +116,7 @@ fn all_turns(
     lent: &[i32],
     orders: &mut [u8],
 ) -> Beaten
-    requires { ⌜ (lines .count ≤ 32) × ((length (now lent) ≡ 14) × (2048 ≤ length (now orders))) ⌝ }
+    requires { ⌜ (lines .count ≤ maxLines) × ((length (now lent) ≡ 14) × (bufferSize ≤ length (now orders))) ⌝ }
     ensures { λ x. ⌜ x ≡ answered state (turnsFrom (now (set .entry)) (lines .numbers) (state .cancelled) automatic (lines .items) (lines .count) 0 (begun state inputs (now (lent .entry)))) ⌝ }
     ensures { λ x. ⌜ now (orders .exit) ≡ buffered (now (orders .entry)) (turnsFrom (now (set .entry)) (lines .numbers) (state .cancelled) automatic (lines .items) (lines .count) 0 (begun state inputs (now (lent .entry)))) ⌝ }
 {

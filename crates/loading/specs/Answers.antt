@@ -13,13 +13,13 @@ use Rattle.values.specs.Choice.{decide, chosen, refused as not-chosen}
 use Rattle.values.specs.Numbers.{clash}
 use Rattle.values.specs.Unique.{unique}
 use Rattle.code.specs.declared.check.Line.{Line as Told}
-use Rattle.tokens.specs.Token.{END, setSize}
+use Rattle.tokens.specs.Token.{END, setSize, maxLines, textSize}
 use Rattle.tokens.specs.SingleFault.{tooDeep, notInGrammar, opensTooMany}
 use Rattle.code.specs.Fault.{lineAt}
 use Rattle.grammar.specs.TreeFault.{lineFault, Proper}
 use Rattle.grammar.specs.TreeFaultLaws.{line-proper}
 use Rattle.grammar.specs.AgreementLine.{line-found, line-fault}
-use Rattle.set.specs.Set.{maxLines, isKnown, emptySet}
+use Rattle.set.specs.Set.{isKnown, emptySet}
 use Rattle.state.specs.State.{powerOn}
 use Rattle.text.specs.Byte.{run}
 use Rattle.words.specs.Tokens.{Tokens, tokensOf}
@@ -27,7 +27,7 @@ use Rattle.text.specs.Lines.{Numbered, tokenLines, numbered, bodies, split, wit
 use Rattle.reader.specs.declared.load.Loaded.{Loaded}
 use Rattle.draft.specs.Row.{Row, ended, byNumber, setOf, numbersOf}
 use Rattle.reader.specs.Load.{Outcome, taken, refused, numberIn, tokensFault, faultBelow, rowOf, rowsFrom, firstUnknown, named, outcome, loadAnswer, loadSet}
-use Rattle.draft.specs.Codes.{textSize, tooLong, tooManyLines, notInSet}
+use Rattle.draft.specs.Codes.{tooLong, tooManyLines, notInSet}
 use Rattle.reader.specs.RisingLaws.{next-row}
 use Rattle.reader.specs.RoomLaws.{roomOf, text-room}
 
@@ -190,7 +190,7 @@ module _ (t : List ℕ) where
   )
 
   -- CODE 1: the text is above 4,096 bytes
-  pub code-1 : (loadAnswer t .code ≡ 1) ↔ (4096 < length t)
+  pub code-1 : (loadAnswer t .code ≡ 1) ↔ (textSize < length t)
   code-1 = (
     (λ e. by-load _ t
         (λ l h. l)
@@ -207,7 +207,7 @@ module _ (t : List ℕ) where
   )
 
   -- CODE 2: it is not, and has more than 32 lines with tokens
-  pub code-2 : (loadAnswer t .code ≡ 2) ↔ ((length t ≤ 4096) × (32 < length (tokenLines t)))
+  pub code-2 : (loadAnswer t .code ≡ 2) ↔ ((length t ≤ textSize) × (maxLines < length (tokenLines t)))
   code-2 = (
     (λ e. by-load _ t
         (λ _ h. let z = refused-answer t tooLong 0 h .0 in absurd (omega arith))

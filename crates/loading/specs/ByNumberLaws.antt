@@ -8,7 +8,7 @@ use lib.Dec.{ltb}
 use lib.ListN.{length, getD}
 use borrow.Author.Tests.{lt-ltb}
 use Rattle.values.specs.Choice.{decide}
-use Rattle.set.specs.Set.{maxLines}
+use Rattle.tokens.specs.Token.{maxLines}
 use Rattle.draft.specs.Row.{Row, numbersOf, total, leastAbove, noRow, rising, byNumber}
 use Rattle.reader.specs.RisingLaws.{Apart, absent-at, Next, Found, sumAbove, sum-next, sumOf, sum-all, countAbove, count-all, least-found}
 use Rattle.reader.specs.DraftLaws.{rising-length}

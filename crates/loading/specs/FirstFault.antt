@@ -8,7 +8,7 @@ use native.Mathlib.Omega.{arith}
 use lib.ListN.{length}
 use Rattle.values.specs.Choice.{choice, chosen, refused as not-chosen}
 use Rattle.values.specs.Numbers.{clash}
-use Rattle.tokens.specs.Token.{setSize}
+use Rattle.tokens.specs.Token.{setSize, maxLines, textSize}
 use Rattle.set.specs.Set.{namesKnown}
 use Rattle.words.specs.Tokens.{tokensOf}
 use Rattle.text.specs.Lines.{Numbered, tokenLines}
@@ -123,7 +123,7 @@ all-inner P (q ∷ ks) rs r h = all-inner P ks rs r (h .1)
 
 module _ (t : List ℕ) where
   abbrev Small : Type 0
-  Small = (length t ≤ 4096) × (length (tokenLines t) ≤ 32)
+  Small = (length t ≤ textSize) × (length (tokenLines t) ≤ maxLines)
 
   -- what is known of a text by the rows that it makes
   refused-not-taken : (rs : List Row) (c k : ℕ) → rowsFrom [] (tokenLines t) ≡ refused c k → outcome t ≡ taken rs → ⊥
@@ -158,7 +158,7 @@ module _ (t : List ℕ) where
 
   -- CODES 3 TO 11, c AND THE LINE k: the text is no longer than 4,096 bytes, has at most 32 lines with tokens, and the first that has a fault stands at k and has the lowest fault c
   pub code-3-to-11 : (c k : ℕ) → 3 ≤ c → c ≤ 11 →
-      ((loadAnswer t .code ≡ c) × (loadAnswer t .line ≡ k)) ↔ ((length t ≤ 4096) × (length (tokenLines t) ≤ 32) × FirstFault [] (tokenLines t) c k)
+      ((loadAnswer t .code ≡ c) × (loadAnswer t .line ≡ k)) ↔ ((length t ≤ textSize) × (length (tokenLines t) ≤ maxLines) × FirstFault [] (tokenLines t) c k)
   code-3-to-11 zero k low high = absurd (omega arith)
   code-3-to-11 (suc c) k low high = (
     (λ x. by-load _ t
@@ -177,7 +177,7 @@ module _ (t : List ℕ) where
   -- CODE 12 AND THE LINE k: no line has such a fault, and the first with a LOCK or UNLOCK of a number that no line of the text has stands at k
   pub code-12 : (k : ℕ) →
       ((loadAnswer t .code ≡ 12) × (loadAnswer t .line ≡ k))
-      ↔ ((length t ≤ 4096) × (length (tokenLines t) ≤ 32) × ((rs : List Row) × (rowsFrom [] (tokenLines t) ≡ taken rs) × FirstUnknown (numbersOf rs) rs k))
+      ↔ ((length t ≤ textSize) × (length (tokenLines t) ≤ maxLines) × ((rs : List Row) × (rowsFrom [] (tokenLines t) ≡ taken rs) × FirstUnknown (numbersOf rs) rs k))
   code-12 k = (
     (λ x. by-load _ t
         (λ m h. let z = refused-answer t tooLong 0 h .0 in let w = x .0 in absurd (omega arith))

@@ -7,9 +7,9 @@ use native.Mathlib.Decide.{decLt}
 use native.Mathlib.Omega.{arith}
 use lib.ListN.{length, getD, replicate, length-replicate, List·getD-eq-default, getD-replicate}
 use borrow.Author.Tests.{ltb-true}
-use Rattle.tokens.specs.Token.{setSize}
+use Rattle.tokens.specs.Token.{setSize, maxLines}
 use Rattle.set.specs.declared.set.Lines.{Lines}
-use Rattle.set.specs.Set.{maxLines, rankIn, isKnown, soundLines}
+use Rattle.set.specs.Set.{rankIn, isKnown, soundLines}
 use Rattle.soundness.specs.SetLaws.{rank-number}
 use Rattle.text.specs.Lines.{tokenLines}
 use Rattle.draft.specs.Row.{Row, numbersOf, total, noRow, byNumber, setOf}

@@ -5,9 +5,9 @@ use Prim.Native.Nat.{ℕ, suc, _+_, _≤_, _<_}
 use native.Mathlib.Omega.{arith}
 use lib.ListN.{length, getD, set, length-set, length-append, length-map, length-replicate}
 use lib.Seq.{getD-set-same, getD-set-other}
-use Rattle.tokens.specs.Token.{END, setSize}
+use Rattle.tokens.specs.Token.{END, setSize, maxLines}
 use Rattle.grammar.specs.Meaning.{Stands}
-use Rattle.set.specs.Set.{maxLines, emptySet}
+use Rattle.set.specs.Set.{emptySet}
 use Rattle.reader.specs.PlaceLaws.{stands-same}
 use Rattle.draft.specs.PutLaws.{put-length, put-before}
 use Rattle.reader.specs.StandLaws.{put-stands}

@@ -9,16 +9,15 @@ use lib.ListN.{length, getD}
 use borrow.Author.Tests.{ltb-false}
 use Rattle.values.specs.Choice.{decide, choice}
 use Rattle.values.specs.Numbers.{clash}
-use Rattle.tokens.specs.Token.{setSize, AllReal}
+use Rattle.tokens.specs.Token.{setSize, AllReal, maxLines, textSize}
 use Rattle.code.specs.Fault.{lineAt}
-use Rattle.set.specs.Set.{maxLines, namesKnown}
+use Rattle.set.specs.Set.{namesKnown}
 use Rattle.words.specs.Tokens.{tokensOf}
 use Rattle.words.specs.TokensLaws.{tokens-real}
 use Rattle.text.specs.Lines.{Numbered, textLines, bodies, isBlank, numbered, tokenLines}
 use Rattle.draft.specs.Row.{Row, ended, numbersOf, total, noRow}
 use Rattle.reader.specs.RisingLaws.{next-row, no-fault}
 use Rattle.reader.specs.Load.{Outcome, taken, refused, rowOf, rowsFrom, firstUnknown, named, outcome}
-use Rattle.draft.specs.Codes.{textSize}
 
 -- ---- what holds of each row
 

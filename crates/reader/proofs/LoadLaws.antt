@@ -6,10 +6,11 @@ use Prim.Native.Nat.{ℕ, suc, _<_, _≤_}
 use native.Mathlib.Omega.{arith}
 use lib.Dec.{ltb}
 use lib.ListN.{length, set}
-use Rattle.set.specs.Set.{maxLines, emptySet}
+use Rattle.tokens.specs.Token.{maxLines, textSize}
+use Rattle.set.specs.Set.{emptySet}
 use Rattle.text.specs.Lines.{tokenLines}
 use Rattle.reader.specs.declared.load.Loaded.{Loaded}
-use Rattle.draft.specs.Codes.{textSize, notInSet}
+use Rattle.draft.specs.Codes.{notInSet}
 use Rattle.reader.specs.Load.{loadAnswer, loadSet}
 use Rattle.draft.specs.Draft.{Drafted, noDraft, draftOf, textDraft}
 use Rattle.ranking.specs.Arrange.{unknownIn, arranged, arrangedSet}

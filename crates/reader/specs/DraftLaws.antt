@@ -8,12 +8,12 @@ use lib.Dec.{ltb}
 use lib.ListN.{length, getD, set, length-replicate}
 use borrow.Author.Tests.{ltb-false}
 use Rattle.values.specs.Choice.{eitherBoth}
-use Rattle.tokens.specs.Token.{setSize}
-use Rattle.set.specs.Set.{maxLines, namesKnown, emptySet}
+use Rattle.tokens.specs.Token.{setSize, maxLines, textSize}
+use Rattle.set.specs.Set.{namesKnown, emptySet}
 use Rattle.text.specs.Lines.{Numbered, tokenLines}
 use Rattle.reader.specs.declared.load.Loaded.{Loaded}
 use Rattle.draft.specs.Row.{Row, ended, numbersOf, total, leastAbove, noRow, rising, byNumber, plain, putAt, placed, firstPlace, setOf}
-use Rattle.draft.specs.Codes.{textSize, notInSet}
+use Rattle.draft.specs.Codes.{notInSet}
 use Rattle.reader.specs.Load.{Outcome, taken, refused, rowsFrom, firstUnknown, named, outcome, loadAnswer, loadSet}
 use Rattle.draft.specs.Draft.{Drafted, noDraft, draftOf}
 use Rattle.ranking.specs.Arrange.{unknownFrom, lineIn, arranged, arrangedSet, unknownIn}

@@ -4,11 +4,12 @@ use mathlib.Core.List.{List}
 use Prim.Native.Nat.{ℕ, zero, suc}
 use lib.Dec.{ltb}
 use lib.ListN.{length}
-use Rattle.set.specs.Set.{maxLines, emptySet}
+use Rattle.tokens.specs.Token.{maxLines, textSize}
+use Rattle.set.specs.Set.{emptySet}
 use Rattle.state.specs.State.{powerOn}
 use Rattle.text.specs.Lines.{tokenLines}
 use Rattle.reader.specs.declared.load.Loaded.{Loaded}
-use Rattle.draft.specs.Codes.{textSize, tooLong, tooManyLines, notInSet}
+use Rattle.draft.specs.Codes.{tooLong, tooManyLines, notInSet}
 use Rattle.draft.specs.Draft.{Drafted, draftOf}
 use Rattle.ranking.specs.Arrange.{arrangedSet, unknownIn}
 

@@ -9,11 +9,11 @@ use lib.ListN.{length, getD, set, length-append, length-set, List·getD-append, 
 use lib.Seq.{getD-set-same, getD-set-other, getD-append-seam, ext-getD}
 use borrow.Author.Tests.{lt-ltb}
 use Rattle.values.specs.Choice.{decide}
-use Rattle.tokens.specs.Token.{setSize}
+use Rattle.tokens.specs.Token.{setSize, maxLines}
 use Rattle.grammar.specs.Meaning.{Stands}
 use Rattle.grammar.specs.LineTokens.{Closed}
 use Rattle.code.specs.Fault.{lineAt}
-use Rattle.set.specs.Set.{maxLines, isKnown}
+use Rattle.set.specs.Set.{isKnown}
 use Rattle.words.specs.Tokens.{Tokens, tokensOf}
 use Rattle.words.specs.TokensLaws.{tokens-real}
 use Rattle.text.specs.Lines.{Numbered}

@@ -4,6 +4,7 @@ use mathlib.Core.List.{List, [], _∷_, _++_}
 use Prim.Native.Nat.{ℕ, suc, _+_, _≤_}
 use native.Mathlib.Omega.{arith}
 use lib.ListN.{length}
+use Rattle.tokens.specs.Token.{textSize}
 use Rattle.values.specs.Choice.{decide}
 use Rattle.values.specs.Numbers.{clash}
 use Rattle.words.specs.Tokens.{tokensOf}
@@ -47,6 +48,6 @@ rows-room (l ∷ ls) rs qs h =
     (λ k f g. clash (cc))
 
 -- THE ROOM OF A TEXT
-pub taken-room : (t : List ℕ) (rs : List Row) → length t ≤ 4096 → rowsFrom [] (tokenLines t) ≡ taken rs → total rs ≤ 4097
+pub taken-room : (t : List ℕ) (rs : List Row) → length t ≤ textSize → rowsFrom [] (tokenLines t) ≡ taken rs → total rs ≤ 4097
 unfolding total
 taken-room t rs l h = let r = rows-room (tokenLines t) [] rs h in let w = text-room t in omega arith

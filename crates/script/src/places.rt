@@ -2,13 +2,13 @@
 ghost use Prim.Native.Nat.{_≤_};
 use crate::answers::OUT;
 use crate::answers::place_answer;
-use set::set::LINES;
 use state::state::COUNT_AT;
 use state::state::MARKER_AT;
 use state::state::STATE_CELLS;
 use state::state::State;
 use state::state::TIMER_AT;
 use state::state::TIMERS;
+use tokens::token::LINES;
 use working::variables::RS;
 
 const PARAM_AT: usize = 48;

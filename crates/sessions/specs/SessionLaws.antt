@@ -16,7 +16,7 @@ use Rattle.text.specs.Byte.{LF, CR}
 use Rattle.text.specs.Lines.{textLines, withoutReturn}
 use Rattle.text.specs.LinesLaws.{split-some}
 use Rattle.draft.specs.Row.{putAt}
-use Rattle.draft.specs.Codes.{textSize}
+use Rattle.tokens.specs.Token.{textSize}
 use Rattle.reader.specs.Load.{Outcome, refused, outcome, loadAnswer, loadSet}
 use Rattle.draft.specs.PutLaws.{put-length}
 use Rattle.transcript.specs.declared.session.Place.{Place}

@@ -5,13 +5,10 @@ use mathlib.Core.List.{List, [], _∷_}
 use Prim.Native.Nat.{ℕ, zero, suc, _+_}
 use lib.Dec.{eqb, leb, ltb}
 use lib.ListN.{getD, set, replicate}
-use Rattle.tokens.specs.Token.{END, LOCK, UNLOCK, between, whole, setSize}
+use Rattle.tokens.specs.Token.{END, LOCK, UNLOCK, between, whole, maxLines, setSize}
 use Rattle.code.specs.Fault.{lineAt, faultyLine}
 use Rattle.code.specs.declared.check.Line.{Line}
 use Rattle.set.specs.declared.set.Lines.{Lines}
-
-abbrev pub maxLines : ℕ
-maxLines = 32
 
 abbrev pub lineCount : List ℕ → ℕ
 lineCount s = getD s 0 0

@@ -2,17 +2,17 @@
 ghost use mathlib.Core.Path.{_≡_};
 ghost use Prim.Native.Nat.{_≤_};
 ghost use Rattle.set.specs.Set.{noLine, noLines, linesRead, rankIn, isLock, namesKnown, allKnown, namedLines, soundLines, emptySet};
+ghost use Rattle.tokens.specs.Token.{setSize, maxLines};
 use code::check::Line;
 use code::check::line_at;
 use tokens::token::END;
+use tokens::token::LINES;
 use tokens::token::LOCK;
 use tokens::token::SIZE;
 use tokens::token::UNLOCK;
 use tokens::token::token_at;
 use tokens::token::whole_of;
 
-// The lines of a set.
-pub const LINES: usize = 32;
 // The place where the first line's start stands; place 0 has the number of lines.
 pub const STARTS: usize = 1;
 
@@ -120,7 +120,7 @@ fn is_lock(t: u32) -> bool
 
 // Whether each LOCK and UNLOCK of the line at a place names a line of the set.
 pub fn names_known(set: &[u32; SIZE], numbers: &[u8; LINES], start: usize) -> bool
-    ensures { λ x. ⌜ x ≡ namesKnown (now (set .entry)) (now (numbers .entry)) 4130 start ⌝ }
+    ensures { λ x. ⌜ x ≡ namesKnown (now (set .entry)) (now (numbers .entry)) setSize start ⌝ }
 {
     let mut p = start;
     let mut left: usize = SIZE;
@@ -142,7 +142,7 @@ pub fn names_known(set: &[u32; SIZE], numbers: &[u8; LINES], start: usize) -> bo
 
 // The same of every line of the set.
 fn all_known(set: &[u32; SIZE], numbers: &[u8; LINES], count: usize) -> bool
-    requires { ⌜ count ≤ 32 ⌝ }
+    requires { ⌜ count ≤ maxLines ⌝ }
     ensures { λ x. ⌜ x ≡ allKnown (now (set .entry)) (now (numbers .entry)) count 0 ⌝ }
 {
     let mut k: usize = 0;

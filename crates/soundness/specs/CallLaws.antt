@@ -18,7 +18,8 @@ use Rattle.buffers.specs.FifoLaws.{same-each}
 use Rattle.state.specs.declared.state.State.{State}
 use Rattle.calls.specs.declared.host.Called.{Called}
 use Rattle.calls.specs.declared.host.Found.{Found}
-use Rattle.set.specs.Set.{maxLines, rankIn, soundLines}
+use Rattle.tokens.specs.Token.{maxLines}
+use Rattle.set.specs.Set.{rankIn, soundLines}
 use Rattle.state.specs.State.{stateCells}
 use Rattle.state.specs.Sound.{isSound, isCell, isFlag}
 use Rattle.calls.specs.Calls.{withLocked, withCancelled, foundAt, found, called, lockedCall, lockCall, unlockCall, cancelCall, resetCancelled, zeroed, resetState, resetCall}

@@ -11,10 +11,10 @@ use lib.Seq.{getD-set-same, getD-set-other}
 use borrow.Author.Tests.{eqb-true, ltb-true, ltb-false}
 use Rattle.values.specs.Choice.{either, ifNot}
 use Rattle.values.specs.Numbers.{clash}
-use Rattle.tokens.specs.Token.{setSize}
+use Rattle.tokens.specs.Token.{setSize, maxLines}
 use Rattle.code.specs.declared.check.Line.{Line}
 use Rattle.set.specs.declared.set.Lines.{Lines}
-use Rattle.set.specs.Set.{maxLines, lineCount, lineOf, emptySet, noLine, noLines, linesFrom, linesRead, rankIn, namesKnown, allKnown, namedLines, soundLines}
+use Rattle.set.specs.Set.{lineCount, lineOf, emptySet, noLine, noLines, linesFrom, linesRead, rankIn, namesKnown, allKnown, namedLines, soundLines}
 
 -- ---- the lines
 

@@ -3,14 +3,15 @@ ghost use mathlib.Core.Path.{_≡_};
 ghost use Prim.Native.Nat.{_<_};
 ghost use lib.ListN.{drop};
 ghost use Rattle.state.specs.Sound.{allRanged, isOutput, isCell, areCells, allZero, isFifoSound, isFlag, areFlags, stateSound, isSound};
+ghost use Rattle.tokens.specs.Token.{maxLines};
 use crate::state::COUNT_AT;
 use crate::state::MARKER_AT;
 use crate::state::STATE_CELLS;
 use crate::state::State;
 use crate::state::TIMER_AT;
 use buffers::fifo::PLACES;
-use set::set::LINES;
 use set::set::sound_lines;
+use tokens::token::LINES;
 use tokens::token::SIZE;
 use values::arithmetic::Worked;
 use values::arithmetic::in_range;
@@ -136,7 +137,7 @@ fn are_flags(
     cancelled: [bool; LINES],
     memory: [bool; LINES],
 ) -> bool
-    ensures { λ x. ⌜ x ≡ areFlags count locked cancelled memory 32 0 ⌝ }
+    ensures { λ x. ⌜ x ≡ areFlags count locked cancelled memory maxLines 0 ⌝ }
 {
     let mut k: usize = 0;
     while k < LINES {

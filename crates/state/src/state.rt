@@ -1,7 +1,7 @@
 // The state: every variable but the inputs, and for each line, by rank, whether it is locked, cancelled, and its memory.
 ghost use mathlib.Core.Path.{_≡_};
 ghost use Rattle.state.specs.State.{powerOn};
-use set::set::LINES;
+use tokens::token::LINES;
 use working::variables::RS;
 
 // The cells of a state: outputs 0..15, markers 16..47, parameters 48..79, timers 80..87, counts of the FIFOs 88..91. In a beat the input cells stand

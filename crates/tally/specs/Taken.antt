@@ -3,15 +3,12 @@ use mathlib.Core.Bool.{Bool, true, false, _&&_}
 use mathlib.Core.List.{List, []}
 use Prim.Native.Nat.{ℕ, _+_, _*_}
 use lib.Dec.{leb, ltb}
+use Rattle.actions.specs.Action.{maxOrders}
 use Rattle.beat_lines.specs.BeatLine.{Lent}
 use Rattle.printing.specs.Output.{errorLine}
 use Rattle.printing.specs.Put.{inReach}
 use Rattle.tally.specs.declared.tally.Totals.{Totals}
 use Rattle.tally.specs.Tally.{maxBeats, counted, answerOf, beatText}
-
--- the orders of a beat
-abbrev pub maxOrders : ℕ
-maxOrders = 256
 
 -- totals that a session may have with a beat still to come
 unfoldable pub areFit : Totals → Bool

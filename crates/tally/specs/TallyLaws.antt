@@ -13,7 +13,8 @@ use Rattle.printing.specs.Output.{errorLine}
 use Rattle.printing.specs.Put.{inReach}
 use Rattle.tally.specs.declared.tally.Totals.{Totals}
 use Rattle.tally.specs.Tally.{maxBeats, oneIf, counted, answerOf, beatText}
-use Rattle.tally.specs.Taken.{maxOrders, areFit, furthestBeat, isTaken, tallied, errorText}
+use Rattle.actions.specs.Action.{maxOrders}
+use Rattle.tally.specs.Taken.{areFit, furthestBeat, isTaken, tallied, errorText}
 
 -- ---- totals that are fit
 

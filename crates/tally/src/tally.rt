@@ -4,8 +4,10 @@ ghost use Prim.Native.Nat.{_≤_};
 ghost use Rattle.beat_lines.specs.Told.{lentIn};
 ghost use Rattle.printing.specs.Put.{IsPut, inReach};
 ghost use Rattle.tally.specs.Tally.{noTotals, oneIf, counted, ended};
+ghost use Rattle.actions.specs.Action.{maxOrders};
 ghost use Rattle.tally.specs.Taken.{areFit, isTaken, tallied, errorText};
 ghost use Rattle.tally.specs.TallyLaws.{FitTotals};
+use actions::action::ORDERS;
 use beat_lines::beat_line::Told;
 use engine::beat::Beaten;
 use engine::beat::beat;
@@ -19,9 +21,8 @@ use tokens::token::SIZE;
 
 pub const MAX_BEATS: u32 = 1000000;
 
-const MAX_ORDERS: u32 = 256;
-// The bytes of the orders of a beat.
-const ORDERS: usize = 2048;
+const MAX_ORDERS: u32 = actions::action::MAX_ORDERS as u32;
+
 // The furthest place at which a beat is put.
 const FURTHEST_BEAT: usize = 64000;
 
@@ -86,7 +87,7 @@ fn one_if(code: u8) -> u32
 }
 
 fn count(totals: Totals, b: Beaten) -> Totals
-    requires { ⌜ FitTotals totals × (b .orders ≤ 256) ⌝ }
+    requires { ⌜ FitTotals totals × (b .orders ≤ maxOrders) ⌝ }
     ensures { λ x. ⌜ x ≡ counted totals b ⌝ }
 {
     let coded = one_if(b.code);

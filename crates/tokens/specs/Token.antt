@@ -7,9 +7,19 @@ use Prim.Native.Nat.{ℕ, _+_, _-_, _*_, _/_, _%_, _<_}
 use lib.Dec.{eqb, leb}
 use lib.ListN.{length, getD}
 
--- the places of a set: how many lines, where each of 32 starts, and the tokens of 4,096 bytes of text with an end to each line
+-- the lines that a set may have, the actions of each, and the bytes of its text
+abbrev pub maxLines : ℕ
+maxLines = 32
+
+abbrev pub maxActions : ℕ
+maxActions = 8
+
+abbrev pub textSize : ℕ
+textSize = 4096
+
+-- the places of a set: how many lines, where each starts, and the tokens of a text with an end to each line
 abbrev pub setSize : ℕ
-setSize = 4130
+setSize = 1 + maxLines + (textSize + 1)
 
 -- ---- the table: signs, words, variables, actions, axes
 

@@ -5,8 +5,14 @@ ghost use lib.ListN.{length, getD};
 ghost use Rattle.tokens.specs.Token.{between, isNumber, isVariable, isNumbered, isFifo, isAxis, isDrive, isCall, isKeyword, isId, isBracket, isFactor, isTerm, isCompare, isLogic, isWhole, whole};
 ghost use Rattle.tokens.specs.Reading.{isRow, isIndex, indexOf, isIndexed, indexAt};
 
-// The places of a set: how many lines, where each of 32 starts, and the tokens of 4,096 bytes of text with an end to each line.
-pub const SIZE: usize = 4130;
+// The lines that a set may have, the actions of each, and the bytes of its text.
+pub const LINES: usize = 32;
+
+pub const ACTIONS: usize = 8;
+
+pub const TEXT_SIZE: usize = 4096;
+// The places of a set: how many lines, where each starts, and the tokens of a text with an end to each line.
+pub const SIZE: usize = 1 + LINES + TEXT_SIZE + 1;
 
 pub const END: u32 = 0;
 

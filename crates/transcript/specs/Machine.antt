@@ -5,6 +5,7 @@ use mathlib.Core.Option.{Option, none, some}
 use Prim.Native.Nat.{ℕ, zero, suc, _+_, min}
 use lib.Dec.{eqb, leb, ltb}
 use lib.ListN.{length, set, take, drop}
+use Rattle.tokens.specs.Token.{textSize}
 use Rattle.text.specs.Byte.{LF, CR, inLine, run}
 use Rattle.draft.specs.Row.{putAt}
 use Rattle.reader.specs.Load.{loadAnswer, loadSet}
@@ -31,7 +32,7 @@ OVER = 2
 
 -- the bytes of set text that are kept: one more than a text may have, so that a longer one is seen to be too long
 abbrev pub keptSize : ℕ
-keptSize = 4097
+keptSize = textSize + 1
 
 -- the kept text, the set, and what is kept beside them
 pub record Machine : Type 0 where

@@ -10,12 +10,12 @@ use lib.ListN.{length, getD, length-append}
 use Rattle.values.specs.Choice.{either}
 use Rattle.buffers.specs.OrderLaws.{eight-bytes}
 use Rattle.buffers.specs.declared.order.Order.{Order}
-use Rattle.tokens.specs.Token.{END, M, SETAL, LOCK, isVariable, isDrive, whole}
+use Rattle.tokens.specs.Token.{END, M, SETAL, LOCK, isVariable, isDrive, whole, maxLines}
 use Rattle.tokens.specs.Reading.{Answer, good, stop, indexAt}
 use Rattle.working.specs.Working.{rightValue, conditionValue, isYes}
 use Rattle.code.specs.declared.check.Line.{Line}
 use Rattle.state.specs.declared.state.State.{State}
-use Rattle.set.specs.Set.{maxLines, rankIn, noLine, soundLines}
+use Rattle.set.specs.Set.{rankIn, noLine, soundLines}
 use Rattle.soundness.specs.GoodAnswers.{Ok, bind-ok, ok-then}
 use Rattle.soundness.specs.SetLaws.{lines-lined}
 use Rattle.state.specs.Sound.{isSound}

@@ -6,7 +6,7 @@ ghost use Prim.Native.Nat.{ℕ, _+_, _≤_, min};
 ghost use lib.Dec.{eqb};
 ghost use lib.ListN.{length};
 ghost use Rattle.draft.specs.Row.{putAt};
-ghost use Rattle.transcript.specs.Machine.{OVER, begun, isFit, starAfter, starOn, placeOn, placeEnd, opened, textEnd, beatOf, beatEnd, chunk, lineEnd, textOver, lastOver, finishedText, worked};
+ghost use Rattle.transcript.specs.Machine.{OVER, begun, isFit, starAfter, starOn, placeOn, placeEnd, opened, textEnd, beatOf, beatEnd, chunk, lineEnd, textOver, lastOver, finishedText, worked, keptSize};
 ghost use Rattle.printing.specs.Put.{IsPut};
 ghost use Rattle.transcript.specs.Held.{IsFed, IsWork, machineOf};
 ghost use Rattle.beat_lines.specs.Told.{lentIn};
@@ -34,9 +34,10 @@ use text::bytes::Kind;
 use text::bytes::LF;
 use text::bytes::run_end;
 use tokens::token::SIZE;
+use tokens::token::TEXT_SIZE;
 
 // The bytes of set text that are kept: one more than a text may have, so that a longer one is seen to be too long.
-pub const KEPT: usize = 4097;
+pub const KEPT: usize = TEXT_SIZE + 1;
 // The bytes that output is handed over in.
 pub const OUT: usize = 16384;
 
@@ -165,8 +166,8 @@ fn is_star(star: u8) -> bool
 
 // The bytes kept with n more.
 fn size_with(size: usize, n: usize) -> usize
-    requires { ⌜ size ≤ 4097 ⌝ }
-    ensures { λ x. ⌜ x ≡ min 4097 (size + n) ⌝ }
+    requires { ⌜ size ≤ keptSize ⌝ }
+    ensures { λ x. ⌜ x ≡ min keptSize (size + n) ⌝ }
 {
     if KEPT - size <= n {
         return KEPT;
@@ -176,7 +177,7 @@ fn size_with(size: usize, n: usize) -> usize
 
 // Bytes of a line, no LF among them, in set text.
 fn place_on(place: Place, part: &[u8]) -> Place
-    requires { ⌜ place .size ≤ 4097 ⌝ }
+    requires { ⌜ place .size ≤ keptSize ⌝ }
     ensures { λ x. ⌜ x ≡ placeOn place (now (part .entry)) ⌝ }
 {
     let size = size_with(place.size, part.len());
@@ -190,7 +191,7 @@ fn place_on(place: Place, part: &[u8]) -> Place
 
 // The LF of a line of set text.
 fn place_end(place: Place) -> Place
-    requires { ⌜ place .size ≤ 4097 ⌝ }
+    requires { ⌜ place .size ≤ keptSize ⌝ }
     ensures { λ x. ⌜ x ≡ placeEnd place ⌝ }
 {
     let size = size_with(place.size, 1);

@@ -3,6 +3,7 @@ use mathlib.Core.Bool.{Bool, true, false, not, _&&_, _||_}
 use mathlib.Core.List.{List, [], _∷_, _++_, map}
 use Prim.Native.Nat.{ℕ, zero, suc, _+_, _^_}
 use lib.ListN.{getD, set}
+use Rattle.tokens.specs.Token.{maxActions}
 use Rattle.tokens.specs.Reading.{Answer, good, _>>=_}
 use Rattle.working.specs.Working.{isYes, conditionValue}
 use Rattle.code.specs.declared.check.Line.{Line}
@@ -43,7 +44,7 @@ module _ (s numbers : List ℕ) (cancelled : List Bool) (automatic : Bool) where
   unfoldable pub doTurn : Line → ℕ → World → List Entry → Bool → Answer Turned
   doTurn l k x es false = good (record { world = x; entries = es })
   doTurn l k x es true =
-      actionsOf s numbers cancelled (l .number) 8 (counted x k) (l .actions) >>= λ d.
+      actionsOf s numbers cancelled (l .number) maxActions (counted x k) (l .actions) >>= λ d.
       good (record { world = d .world; entries = es ++ map lockEntry (d .notes) })
 
   -- the condition, worked; then the actions

@@ -10,7 +10,7 @@ use Rattle.actions.specs.declared.action.Done.{Done}
 use Rattle.actions.specs.declared.action.Flags.{Flags}
 use Rattle.state.specs.declared.state.State.{State}
 use Rattle.buffers.specs.Fifo.{unsound}
-use Rattle.set.specs.Set.{maxLines}
+use Rattle.tokens.specs.Token.{maxLines}
 use Rattle.turns.specs.Turn.{Turned}
 use Rattle.actions.specs.Held.{worldOf}
 

@@ -7,6 +7,7 @@ ghost use Rattle.turns.specs.Turn.{Entry, doTurn, tryTurn, turnOf, turns
 ghost use Rattle.state.specs.Keyword.{acts};
 ghost use Rattle.actions.specs.Held.{worldOf};
 ghost use Rattle.turns.specs.TurnHeld.{IsTurned, firstFlags, withLines};
+ghost use Rattle.tokens.specs.Token.{maxLines};
 use actions::action::Done;
 use actions::action::Flags;
 use actions::action::ORDERS;
@@ -15,12 +16,12 @@ use actions::action::alarm_of;
 use actions::action::did_all;
 use actions::action::not_done;
 use code::check::Line;
-use set::set::LINES;
 use set::set::Lines;
 use state::keyword::acts_now;
 use state::keyword::remembers_now;
 use state::keyword::tries_now;
 use state::state::State;
+use tokens::token::LINES;
 use tokens::token::SIZE;
 use values::arithmetic::is_equal;
 use working::variables::CELLS;
@@ -76,7 +77,7 @@ fn try_line(
     k: usize,
     bit: u64,
 ) -> Done
-    requires { ⌜ (k < 32) × ((bit ≡ 2 ^ k) × ((flags .count ≤ 8 * k) × (flags .acted < bit))) ⌝ }
+    requires { ⌜ (k < maxLines) × ((bit ≡ 2 ^ k) × ((flags .count ≤ 8 * k) × (flags .acted < bit))) ⌝ }
     ensures { λ x. ⌜ ((automatic : Bool) → IsTurned x (now (r .exit)) (now (cells .exit)) (now (out .exit)) (tryTurn (now (code .entry)) (now (numbers .entry)) (now (cancelled .entry)) automatic l k (worldOf (now (r .entry)) (now (cells .entry)) (now (out .entry)) flags))) × ((x .flags .count ≤ flags .count + 8) × (x .flags .acted ≤ flags .acted + bit)) ⌝ }
 {
     let memories = flags.memory;
@@ -113,7 +114,7 @@ fn turn(
     k: usize,
     bit: u64,
 ) -> Done
-    requires { ⌜ (k < 32) × ((bit ≡ 2 ^ k) × ((flags .count ≤ 8 * k) × (flags .acted < bit))) ⌝ }
+    requires { ⌜ (k < maxLines) × ((bit ≡ 2 ^ k) × ((flags .count ≤ 8 * k) × (flags .acted < bit))) ⌝ }
     ensures { λ x. ⌜ IsTurned x (now (r .exit)) (now (cells .exit)) (now (out .exit)) (turnOf (now (code .entry)) (now (numbers .entry)) (now (cancelled .entry)) automatic l k (worldOf (now (r .entry)) (now (cells .entry)) (now (out .entry)) flags)) × ((x .flags .count ≤ flags .count + 8) × (x .flags .acted ≤ flags .acted + bit)) ⌝ }
 {
     if cancelled[k] {
@@ -141,7 +142,7 @@ fn all_lines(
     out: &mut [u8; ORDERS],
     flags: Flags,
 ) -> Done
-    requires { ⌜ (lines .count ≤ 32) × ((flags .count ≡ 0) × (flags .acted ≡ 0)) ⌝ }
+    requires { ⌜ (lines .count ≤ maxLines) × ((flags .count ≡ 0) × (flags .acted ≡ 0)) ⌝ }
     ensures { λ x. ⌜ IsTurned x (now (r .exit)) (now (cells .exit)) (now (out .exit)) (turnsFrom (now (code .entry)) (lines .numbers) (now (cancelled .entry)) automatic (lines .items) (lines .count) 0 (worldOf (now (r .entry)) (now (cells .entry)) (now (out .entry)) flags)) × ((x .flags .count ≤ 256) × (x .flags .acted < 4294967296)) ⌝ }
 {
     let numbers = lines.numbers;

@@ -7,6 +7,7 @@ ghost use Rattle.tokens.specs.Token.{isFifo};
 ghost use Rattle.tokens.specs.Index.{isInside};
 ghost use Rattle.writing.specs.Write.{changeAnswer, changed, runAt, withRunAt, changeFifo, takeOldest, writeFifo, writeCell, writeTo};
 ghost use Rattle.writing.specs.WriteHeld.{varsOf, IsChanged, IsCelled, IsWritten};
+ghost use Rattle.buffers.specs.Fifo.{places};
 use buffers::fifo::Moved;
 use buffers::fifo::PLACES;
 use buffers::fifo::append;
@@ -58,7 +59,7 @@ fn change(part: &mut [i32], op: u8, count: u8, v: i32) -> Moved
 
 // The run of R from place `start` on is changed so.
 fn change_run(r: &mut [i32], start: usize, op: u8, count: u8, v: i32) -> Moved
-    requires { ⌜ start + 16 ≤ length (now r) ⌝ }
+    requires { ⌜ start + places ≤ length (now r) ⌝ }
     ensures { λ x. ⌜ x ≡ changeAnswer op (runAt start (now (r .entry))) count v ⌝ }
     ensures { λ x. ⌜ now (r .exit) ≡ withRunAt start (now (r .entry)) (changed op (runAt start (now (r .entry))) count v) ⌝ }
 {
