@@ -116,7 +116,7 @@ module _ (s : List ℕ) (kw k t n f p : ℕ) (l : 0 < t) (a : Look) (e : a ≡ s
     reaches : after (t - 1) (a .fault) (a .next) ≡ actionsAt s kw k t n f p
     reaches = behind a (actionAt s kw k p) e (after (t - 1)) g ∙ turn
 
-    pub acts-end : getD s (a .next) 0 ≡ 0 → _≡_ {A = Look} (record { good = true; truth = false; fault = lower (lower f (a .fault)) (countFault (n + 1)); next = a .next }) (shownFault (actionsAt s kw k t n f p))
+    pub acts-end : getD s (a .next) 0 ≡ 0 → _≡_ {A = Look} (record { good = true; fault = lower (lower f (a .fault)) (countFault (n + 1)); next = a .next }) (shownFault (actionsAt s kw k t n f p))
     unfolding after
     acts-end z =
         let h : after (t - 1) (a .fault) (a .next) ≡ read (lower (lower f (a .fault)) (countFault (n + 1))) (a .next) = rw (after, eq-eqb _ _ z) in

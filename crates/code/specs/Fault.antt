@@ -46,14 +46,6 @@ abbrev pub faultFor : Bool → Read Sight → Read ℕ
 faultFor t (read a q) = read (lower (wanting t a) (a .fault)) q
 faultFor t (ends k) = ends k
 
--- how the code answers, and what such an answer says
-abbrev pub shown : Read Sight → Look
-shown (read a q) = record { good = true; truth = a .truth; fault = a .fault; next = q }
-shown (ends k) = record { good = false; truth = false; fault = k; next = 0 }
-
-abbrev pub shownSight : Look → Read Sight
-shownSight l = elim (l .good) [ true ↦ read (record { truth = l .truth; fault = l .fault }) (l .next) | false ↦ ends (l .fault) ]
-
 abbrev pub signedSight : Bool → Sight → ℕ → Read Sight
 signedSight t a q = read (signed t a) q
 
@@ -62,9 +54,10 @@ unfoldable pub signsBehind : List ℕ → ℕ → ℕ → ℕ
 signsBehind s zero p = 0
 signsBehind s (suc k) p = elim (eqb (getD s (p + 1) 0) MINUS) [ true ↦ 1 + signsBehind s k (p + 1) | false ↦ 0 ]
 
+-- how the code answers, and what such an answer says
 abbrev pub shownFault : Read ℕ → Look
-shownFault (read f q) = record { good = true; truth = false; fault = f; next = q }
-shownFault (ends k) = record { good = false; truth = false; fault = k; next = 0 }
+shownFault (read f q) = record { good = true; fault = f; next = q }
+shownFault (ends k) = record { good = false; fault = k; next = 0 }
 
 abbrev pub shownRead : Look → Read ℕ
 shownRead l = elim (l .good) [ true ↦ read (l .fault) (l .next) | false ↦ ends (l .fault) ]

@@ -2,10 +2,18 @@
 //
 // The walk goes by recursive descent over the tokens; `left` is the count of tokens left. A fault is document 01's code, 0 for none.
 ghost use mathlib.Core.Path.{_≡_};
-ghost use mathlib.Core.Bool.{true, false};
+ghost use mathlib.Core.Bool.{true, false, _||_};
 ghost use Prim.Native.Nat.{_+_, _<_, _≤_};
-ghost use Rattle.tokens.specs.Reading.{read, ends, then, readOperand, readProduct, readSum, readExpression, readClose, readVariable, readTruth};
-ghost use Rattle.code.specs.Fault.{joinSights, sight, shown, shownSight, signedSight, signsBehind, shownFault, shownRead, faultFor, isRemoval, assignedAt, assignmentAt, commandAt, actionAt, countFault, actionsAt, numberOf, faultyLine, lineParts, bodyAt, restAt, lineAt};
+ghost use Rattle.tokens.specs.Token.{PLUS, OVER, between, isFactor, isTerm, isCompare, isLogic, setSize};
+ghost use Rattle.tokens.specs.Reading.{read, ends, then, isRow, more, readOperand, readProduct, readSum, readRest, readExpression, readClose, readVariable, readTruth};
+ghost use Rattle.code.specs.Seen.{sightOf, lowest, seen};
+ghost use Rattle.code.specs.Fault.{joinSights, sight, signedSight, signsBehind, shownFault, shownRead, faultFor, isRemoval, assignedAt, assignmentAt, commandAt, actionAt, countFault, actionsAt, numberOf, faultyLine, lineParts, bodyAt, restAt, lineAt};
+use crate::seen::NOTHING;
+use crate::seen::fault_of;
+use crate::seen::next_of;
+use crate::seen::number_seen;
+use crate::seen::truth_of;
+use crate::seen::truth_seen;
 use tokens::fault::NOT_IN_GRAMMAR;
 use tokens::fault::TOO_DEEP;
 use tokens::fault::TOO_MANY;
@@ -30,6 +38,8 @@ use tokens::token::MINUS;
 use tokens::token::NOT;
 use tokens::token::NUMBER;
 use tokens::token::OPEN;
+use tokens::token::OVER;
+use tokens::token::PLUS;
 use tokens::token::SETAL;
 use tokens::token::SIZE;
 use tokens::token::TRUE;
@@ -50,10 +60,9 @@ use tokens::token::is_whole;
 use tokens::token::token_at;
 use tokens::token::whole_of;
 
-// What the walk sees: a yes/no or a number, the lowest fault in it, and the place behind it; or, where it is not good, that it is not in the grammar.
+// What the walk sees of actions: the lowest fault in them and the place behind them; or, where it is not good, that they are not in the grammar.
 pub struct Look {
     pub good: bool,
-    pub truth: bool,
     pub fault: u8,
     pub next: usize,
 }
@@ -72,86 +81,69 @@ pub struct Line {
 
 // ---- what one step sees
 
-// The same, field by field: to copy whole what was just written in parts makes the processor wait for all of them.
-fn again(a: Look) -> Look
-    ensures { λ x. ⌜ x ≡ a ⌝ }
+// The lowest fault of two sights side by side, where yes/no (true) or numbers (false) are wanted.
+fn lowest_of(wanted: bool, a: u64, b: u64) -> u8
+    ensures { λ x. ⌜ x ≡ lowest wanted (sightOf a) (sightOf b) ⌝ }
 {
-    Look {
-        good: a.good,
-        truth: a.truth,
-        fault: a.fault,
-        next: a.next,
-    }
+    let kinds = lower_of(wanting(wanted, truth_of(a)), wanting(wanted, truth_of(b)));
+    lower_of(kinds, lower_of(fault_of(a), fault_of(b)))
 }
 
-fn stopped() -> Look
-    ensures { λ x. ⌜ x ≡ shown (ends 5) ⌝ }
+// A sight, the operator + - * or / behind it, and what is seen behind that.
+fn join_numbers(op: u32, a: u64, b: u64) -> u64
+    requires { ⌜ isFactor op || isTerm op ≡ true ⌝ }
+    ensures { λ x. ⌜ seen x ≡ then (seen b) (λ y q. read (joinSights op (sightOf a) y) q) ⌝ }
 {
-    Look {
-        good: false,
-        truth: false,
-        fault: NOT_IN_GRAMMAR,
-        next: 0,
-    }
-}
-
-// A sight, the operator behind it, and what is seen behind that.
-fn joined(op: u32, truth: bool, fault: u8, b: Look) -> Look
-    requires { ⌜ shown (shownSight b) ≡ b ⌝ }
-    ensures { λ x. ⌜ x ≡ shown (then (shownSight b) (λ y q. read (joinSights op (record { truth = truth; fault = fault }) y) q)) ⌝ }
-{
-    let good = b.good;
-    if !good {
+    let i = next_of(b);
+    if i == 0 {
         return b;
     }
-    let logic = is_logic(op);
-    let kinds = lower_of(wanting(logic, truth), wanting(logic, b.truth));
-    let low = lower_of(kinds, lower_of(fault, b.fault));
-    if is_factor(op) {
-        return Look {
-            good: true,
-            truth: false,
-            fault: low,
-            next: b.next,
-        };
+    number_seen(lowest_of(false, a, b), i)
+}
+
+// The same of a comparison.
+fn join_compare(op: u32, a: u64, b: u64) -> u64
+    requires { ⌜ isCompare op ≡ true ⌝ }
+    ensures { λ x. ⌜ seen x ≡ then (seen b) (λ y q. read (joinSights op (sightOf a) y) q) ⌝ }
+{
+    let i = next_of(b);
+    if i == 0 {
+        return b;
     }
-    if is_term(op) {
-        return Look {
-            good: true,
-            truth: false,
-            fault: low,
-            next: b.next,
-        };
+    truth_seen(lowest_of(false, a, b), i)
+}
+
+// The same of AND, OR, XOR.
+fn join_row(op: u32, a: u64, b: u64) -> u64
+    requires { ⌜ isLogic op ≡ true ⌝ }
+    ensures { λ x. ⌜ seen x ≡ then (seen b) (λ y q. read (joinSights op (sightOf a) y) q) ⌝ }
+{
+    let i = next_of(b);
+    if i == 0 {
+        return b;
     }
-    Look {
-        good: true,
-        truth: true,
-        fault: low,
-        next: b.next,
-    }
+    truth_seen(lowest_of(true, a, b), i)
 }
 
 // What stands behind a sign: a number behind -, a yes/no behind NOT.
-fn signed(truth: bool, a: Look) -> Look
-    requires { ⌜ shown (shownSight a) ≡ a ⌝ }
-    ensures { λ x. ⌜ x ≡ shown (then (shownSight a) (signedSight truth)) ⌝ }
+fn signed(truth: bool, a: u64) -> u64
+    ensures { λ x. ⌜ seen x ≡ then (seen a) (signedSight truth) ⌝ }
 {
-    let good = a.good;
-    if !good {
+    let i = next_of(a);
+    if i == 0 {
         return a;
     }
-    Look {
-        good: true,
-        truth: truth,
-        fault: lower_of(wanting(truth, a.truth), a.fault),
-        next: a.next,
+    let fault = lower_of(wanting(truth, truth_of(a)), fault_of(a));
+    if truth {
+        return truth_seen(fault, i);
     }
+    number_seen(fault, i)
 }
 
 // How many more minus signs stand directly behind the one at place `at`, at most `most`: behind one more the check sees the same.
 fn signs_behind(code: &[u32; SIZE], at: usize, most: usize) -> usize
-    requires { ⌜ at < 4130 ⌝ }
-    ensures { λ x. ⌜ (x ≡ signsBehind (now (code .entry)) most at) × ((x ≤ most) × (at + x < 4130)) ⌝ }
+    requires { ⌜ at < setSize ⌝ }
+    ensures { λ x. ⌜ (x ≡ signsBehind (now (code .entry)) most at) × ((x ≤ most) × (at + x < setSize)) ⌝ }
 {
     let mut n: usize = 0;
     while n < most {
@@ -163,81 +155,65 @@ fn signs_behind(code: &[u32; SIZE], at: usize, most: usize) -> usize
     n
 }
 
-fn closed(code: &[u32; SIZE], a: Look) -> Look
-    requires { ⌜ shown (shownSight a) ≡ a ⌝ }
-    ensures { λ x. ⌜ x ≡ shown (then (shownSight a) (readClose (now (code .entry)) sight)) ⌝ }
+// What was seen in brackets, if they are closed behind it.
+fn closed(code: &[u32; SIZE], a: u64) -> u64
+    ensures { λ x. ⌜ seen x ≡ then (seen a) (readClose (now (code .entry)) sight) ⌝ }
 {
-    let good = a.good;
-    if !good {
+    let i = next_of(a);
+    if i == 0 {
         return a;
     }
-    let i = a.next;
     if token_at(code, i) != CLOSE {
-        return stopped();
+        return NOTHING;
     }
-    Look {
-        good: true,
-        truth: a.truth,
-        fault: a.fault,
-        next: i + 1,
-    }
+    a + 1
 }
 
-fn variable(code: &[u32; SIZE], w: u32, at: usize) -> Look
-    requires { ⌜ at < 4130 ⌝ }
-    ensures { λ x. ⌜ x ≡ shown (readVariable (now (code .entry)) sight w at) ⌝ }
+fn variable(code: &[u32; SIZE], w: u32, at: usize) -> u64
+    requires { ⌜ at < setSize ⌝ }
+    ensures { λ x. ⌜ seen x ≡ readVariable (now (code .entry)) sight w at ⌝ }
 {
     if !is_indexed(code, w, at) {
-        return stopped();
+        return NOTHING;
     }
-    Look {
-        good: true,
-        truth: false,
-        fault: read_fault(w, index_at(code, w, at)),
-        next: at + 4,
-    }
+    number_seen(read_fault(w, index_at(code, w, at)), at + 4)
 }
 
 // TRUE, FALSE or nothing of the grammar.
-fn truth(code: &[u32; SIZE], t: u32, at: usize) -> Look
-    requires { ⌜ ((t ≡ 0 → ⊥) → at < 4130) ⌝ }
-    ensures { λ x. ⌜ x ≡ shown (readTruth (now (code .entry)) sight t at) ⌝ }
+fn truth(code: &[u32; SIZE], t: u32, at: usize) -> u64
+    requires { ⌜ ((t ≡ 0 → ⊥) → at < setSize) ⌝ }
+    ensures { λ x. ⌜ seen x ≡ readTruth (now (code .entry)) sight t at ⌝ }
 {
     if t == TRUE {
-        return Look {
-            good: true,
-            truth: true,
-            fault: 0,
-            next: at + 1,
-        };
+        return truth_seen(0, at + 1);
     }
     if t == FALSE {
-        return Look {
-            good: true,
-            truth: true,
-            fault: 0,
-            next: at + 1,
-        };
+        return truth_seen(0, at + 1);
     }
-    stopped()
+    NOTHING
 }
 
-// ---- the walk over an expression
+// Whether a token is + - * or /.
+fn is_arithmetic(t: u32) -> bool
+    ensures { λ x. ⌜ x ≡ between PLUS OVER t ⌝ }
+{
+    if t < PLUS {
+        return false;
+    }
+    t <= OVER
+}
 
-fn operand(code: &[u32; SIZE], at: usize, left: usize) -> Look
-    ensures { λ x. ⌜ x ≡ shown (readOperand (now (code .entry)) sight left at) ⌝ }
+// ---- the walk over an expression: an operand that no operator follows goes up in one step, and what joins stands apart, so that a bracket costs two calls
+
+fn operand(code: &[u32; SIZE], at: usize, left: usize) -> u64
+    ensures { λ x. ⌜ seen x ≡ readOperand (now (code .entry)) sight left at ⌝ }
 {
     if left == 0 {
-        return stopped();
+        return NOTHING;
     }
     let t = token_at(code, at);
     if NUMBER <= t {
-        return Look {
-            good: true,
-            truth: false,
-            fault: number_fault(t - NUMBER),
-            next: at + 1,
-        };
+        return number_seen(number_fault(t - NUMBER), at + 1);
     }
     if is_variable(t) {
         return variable(code, t, at);
@@ -255,75 +231,113 @@ fn operand(code: &[u32; SIZE], at: usize, left: usize) -> Look
     truth(code, t, at)
 }
 
-fn product(code: &[u32; SIZE], at: usize, left: usize) -> Look
-    ensures { λ x. ⌜ x ≡ shown (readProduct (now (code .entry)) sight (readOperand (now (code .entry)) sight left) left at) ⌝ }
+// What was seen, and as many factors as follow.
+fn factors(code: &[u32; SIZE], w: u64, left: usize) -> u64
+    ensures { λ x. ⌜ seen x ≡ then (seen w) (more (now (code .entry)) sight isFactor (readOperand (now (code .entry)) sight left) left) ⌝ }
 {
-    let mut a = operand(code, at, left);
+    let mut a = w;
     let mut turns = left;
     while 0 < turns {
-        let good = a.good;
-        if !good {
-            return again(a);
+        let i = next_of(a);
+        if i == 0 {
+            return a;
         }
-        let i = a.next;
         let t = token_at(code, i);
         if !is_factor(t) {
-            return again(a);
+            return a;
         }
-        a = joined(t, a.truth, a.fault, operand(code, i + 1, left));
+        a = join_numbers(t, a, operand(code, i + 1, left));
         turns -= 1;
     }
-    again(a)
+    a
 }
 
-fn sum(code: &[u32; SIZE], at: usize, left: usize) -> Look
-    ensures { λ x. ⌜ x ≡ shown (readSum (now (code .entry)) sight (readOperand (now (code .entry)) sight left) left at) ⌝ }
+// What was seen, and as many terms as follow.
+fn terms(code: &[u32; SIZE], w: u64, left: usize) -> u64
+    ensures { λ x. ⌜ seen x ≡ then (seen w) (more (now (code .entry)) sight isTerm (readProduct (now (code .entry)) sight (readOperand (now (code .entry)) sight left) left) left) ⌝ }
 {
-    let mut a = product(code, at, left);
+    let mut a = w;
     let mut turns = left;
     while 0 < turns {
-        let good = a.good;
-        if !good {
-            return again(a);
+        let i = next_of(a);
+        if i == 0 {
+            return a;
         }
-        let i = a.next;
         let t = token_at(code, i);
         if !is_term(t) {
-            return again(a);
+            return a;
         }
-        a = joined(t, a.truth, a.fault, product(code, i + 1, left));
+        a = join_numbers(t, a, factors(code, operand(code, i + 1, left), left));
         turns -= 1;
     }
-    again(a)
+    a
 }
 
-fn expression(code: &[u32; SIZE], at: usize, left: usize) -> Look
-    ensures { λ x. ⌜ x ≡ shown (readExpression (now (code .entry)) sight (readOperand (now (code .entry)) sight left) left at) ⌝ }
+fn sum(code: &[u32; SIZE], at: usize, left: usize) -> u64
+    ensures { λ x. ⌜ seen x ≡ readSum (now (code .entry)) sight (readOperand (now (code .entry)) sight left) left at ⌝ }
 {
-    let mut a = sum(code, at, left);
-    let good = a.good;
-    if !good {
-        return again(a);
+    let a = operand(code, at, left);
+    let i = next_of(a);
+    if i == 0 {
+        return a;
     }
-    let first = token_at(code, a.next);
-    if is_compare(first) {
-        return again(joined(first, a.truth, a.fault, sum(code, a.next + 1, left)));
+    if !is_arithmetic(token_at(code, i)) {
+        return a;
     }
+    terms(code, factors(code, a, left), left)
+}
+
+// What was seen, and the row of the operator `first` behind it.
+fn row(code: &[u32; SIZE], first: u32, w: u64, left: usize) -> u64
+    ensures { λ x. ⌜ seen x ≡ then (seen w) (more (now (code .entry)) sight (isRow first) (readSum (now (code .entry)) sight (readOperand (now (code .entry)) sight left) left) left) ⌝ }
+{
+    let mut a = w;
     let mut turns = left;
     while 0 < turns {
-        let good = a.good;
-        if !good {
-            return again(a);
+        let i = next_of(a);
+        if i == 0 {
+            return a;
         }
-        let i = a.next;
         let t = token_at(code, i);
         if !is_row(first, t) {
-            return again(a);
+            return a;
         }
-        a = joined(t, a.truth, a.fault, sum(code, i + 1, left));
+        a = join_row(t, a, sum(code, i + 1, left));
         turns -= 1;
     }
-    again(a)
+    a
+}
+
+// A sum that was seen, and the comparison or the row behind it.
+fn compared(code: &[u32; SIZE], a: u64, left: usize) -> u64
+    ensures { λ x. ⌜ seen x ≡ then (seen a) (readRest (now (code .entry)) sight (readOperand (now (code .entry)) sight left) left) ⌝ }
+{
+    let i = next_of(a);
+    if i == 0 {
+        return a;
+    }
+    let t = token_at(code, i);
+    if is_compare(t) {
+        return join_compare(t, a, sum(code, i + 1, left));
+    }
+    if !is_logic(t) {
+        return a;
+    }
+    row(code, t, a, left)
+}
+
+fn expression(code: &[u32; SIZE], at: usize, left: usize) -> u64
+    ensures { λ x. ⌜ seen x ≡ readExpression (now (code .entry)) sight (readOperand (now (code .entry)) sight left) left at ⌝ }
+{
+    let a = operand(code, at, left);
+    let i = next_of(a);
+    if i == 0 {
+        return a;
+    }
+    if !is_arithmetic(token_at(code, i)) {
+        return compared(code, a, left);
+    }
+    compared(code, terms(code, factors(code, a, left), left), left)
 }
 
 // ---- actions
@@ -349,32 +363,39 @@ pub fn is_removal(code: &[u32; SIZE], at: usize) -> bool
     !is_term(t)
 }
 
-// An expression where a yes/no (true) or a number (false) is wanted.
-fn fault_for(wanted: bool, a: Look) -> Look
-    requires { ⌜ shown (shownSight a) ≡ a ⌝ }
-    ensures { λ x. ⌜ x ≡ shownFault (faultFor wanted (shownSight a)) ⌝ }
+fn stopped() -> Look
+    ensures { λ x. ⌜ x ≡ shownFault (ends 5) ⌝ }
 {
-    let good = a.good;
-    if !good {
-        return a;
+    Look {
+        good: false,
+        fault: NOT_IN_GRAMMAR,
+        next: 0,
+    }
+}
+
+// An expression where a yes/no (true) or a number (false) is wanted.
+fn fault_for(wanted: bool, a: u64) -> Look
+    ensures { λ x. ⌜ x ≡ shownFault (faultFor wanted (seen a)) ⌝ }
+{
+    let i = next_of(a);
+    if i == 0 {
+        return stopped();
     }
     Look {
         good: true,
-        truth: false,
-        fault: lower_of(wanting(wanted, a.truth), a.fault),
-        next: a.next,
+        fault: lower_of(wanting(wanted, truth_of(a)), fault_of(a)),
+        next: i,
     }
 }
 
 // The right side of an assignment to a variable.
 fn assigned(code: &[u32; SIZE], at: usize) -> Look
     requires { ⌜ at < 4136 ⌝ }
-    ensures { λ x. ⌜ x ≡ shownFault (assignedAt (now (code .entry)) 4130 at) ⌝ }
+    ensures { λ x. ⌜ x ≡ shownFault (assignedAt (now (code .entry)) setSize at) ⌝ }
 {
     if is_removal(code, at) {
         return Look {
             good: true,
-            truth: false,
             fault: 0,
             next: at + 4,
         };
@@ -384,8 +405,8 @@ fn assigned(code: &[u32; SIZE], at: usize) -> Look
 
 // An action that begins with a word, its index and =.
 fn assignment(code: &[u32; SIZE], w: u32, at: usize) -> Look
-    requires { ⌜ at < 4130 ⌝ }
-    ensures { λ x. ⌜ x ≡ shownFault (assignmentAt (now (code .entry)) 4130 w at) ⌝ }
+    requires { ⌜ at < setSize ⌝ }
+    ensures { λ x. ⌜ x ≡ shownFault (assignmentAt (now (code .entry)) setSize w at) ⌝ }
 {
     if is_variable(w) {
         let a = assigned(code, at + 5);
@@ -396,7 +417,6 @@ fn assignment(code: &[u32; SIZE], w: u32, at: usize) -> Look
         let fault = lower_of(write_fault(w, index_at(code, w, at)), a.fault);
         return Look {
             good: true,
-            truth: false,
             fault: fault,
             next: a.next,
         };
@@ -409,7 +429,7 @@ fn assignment(code: &[u32; SIZE], w: u32, at: usize) -> Look
 
 // M= and a number; or SETAL, LOCK or UNLOCK and a number in brackets.
 fn command(code: &[u32; SIZE], keyword: u32, w: u32, at: usize) -> Look
-    requires { ⌜ at < 4130 ⌝ }
+    requires { ⌜ at < setSize ⌝ }
     ensures { λ x. ⌜ x ≡ shownFault (commandAt (now (code .entry)) keyword w at) ⌝ }
 {
     let n = token_at(code, at + 2);
@@ -423,7 +443,6 @@ fn command(code: &[u32; SIZE], keyword: u32, w: u32, at: usize) -> Look
         }
         return Look {
             good: true,
-            truth: false,
             fault: code_fault(keyword, whole_of(n)),
             next: at + 3,
         };
@@ -439,14 +458,13 @@ fn command(code: &[u32; SIZE], keyword: u32, w: u32, at: usize) -> Look
     }
     Look {
         good: true,
-        truth: false,
         fault: call_fault(w, whole_of(n)),
         next: at + 4,
     }
 }
 
 fn action(code: &[u32; SIZE], keyword: u32, at: usize) -> Look
-    ensures { λ x. ⌜ x ≡ shownFault (actionAt (now (code .entry)) keyword 4130 at) ⌝ }
+    ensures { λ x. ⌜ x ≡ shownFault (actionAt (now (code .entry)) keyword setSize at) ⌝ }
 {
     let w = token_at(code, at);
     if w == END {
@@ -470,7 +488,7 @@ fn count_fault(n: usize) -> u8
 
 // One or more actions, from place `at` to the line's end; `fault` is the lowest fault before them.
 fn actions(code: &[u32; SIZE], keyword: u32, fault: u8, at: usize) -> Look
-    ensures { λ x. ⌜ x ≡ shownFault (actionsAt (now (code .entry)) keyword 4130 4130 0 fault at) ⌝ }
+    ensures { λ x. ⌜ x ≡ shownFault (actionsAt (now (code .entry)) keyword setSize setSize 0 fault at) ⌝ }
 {
     let mut low = fault;
     let mut n: usize = 0;
@@ -488,7 +506,6 @@ fn actions(code: &[u32; SIZE], keyword: u32, fault: u8, at: usize) -> Look
         if token_at(code, i) == END {
             return Look {
                 good: true,
-                truth: false,
                 fault: lower_of(low, count_fault(n)),
                 next: i,
             };
@@ -530,7 +547,7 @@ fn parts(
     body: usize,
     a: Look,
 ) -> Line
-    requires { ⌜ at < 4130 ⌝ }
+    requires { ⌜ at < setSize ⌝ }
     ensures { λ x. ⌜ x ≡ lineParts (now (code .entry)) at keyword condition body (shownRead a) ⌝ }
 {
     let good = a.good;
@@ -554,7 +571,7 @@ fn parts(
 
 // DO at place i and the actions behind it; `fault` is the lowest fault before them.
 fn body(code: &[u32; SIZE], at: usize, keyword: u32, condition: usize, fault: u8, i: usize) -> Line
-    requires { ⌜ at < 4130 ⌝ }
+    requires { ⌜ at < setSize ⌝ }
     ensures { λ x. ⌜ x ≡ bodyAt (now (code .entry)) at keyword condition fault i ⌝ }
 {
     if token_at(code, i) != DO {
@@ -572,7 +589,7 @@ fn body(code: &[u32; SIZE], at: usize, keyword: u32, condition: usize, fault: u8
 
 // What follows a line's head: DO, or a keyword, an expression and DO.
 fn rest(code: &[u32; SIZE], at: usize, fault: u8) -> Line
-    requires { ⌜ at < 4130 ⌝ }
+    requires { ⌜ at < setSize ⌝ }
     ensures { λ x. ⌜ x ≡ restAt (now (code .entry)) at fault ⌝ }
 {
     let keyword = token_at(code, at + 3);
@@ -585,6 +602,21 @@ fn rest(code: &[u32; SIZE], at: usize, fault: u8) -> Line
         return faulty(a.fault);
     }
     body(code, at, keyword, at + 4, lower_of(fault, a.fault), a.next)
+}
+
+// The same, field by field: to copy whole what was just written in parts makes the processor wait for all of them.
+fn again(l: Line) -> Line
+    ensures { λ x. ⌜ x ≡ l ⌝ }
+{
+    Line {
+        fault: l.fault,
+        number: l.number,
+        ids: l.ids,
+        keyword: l.keyword,
+        condition: l.condition,
+        actions: l.actions,
+        end: l.end,
+    }
 }
 
 // The line that begins at place `at`: its lowest fault of 4 to 10, or its parts.
@@ -604,5 +636,5 @@ pub fn line_at(code: &[u32; SIZE], at: usize) -> Line
     if !is_whole(n) {
         return faulty(NOT_IN_GRAMMAR);
     }
-    rest(code, at, id_fault(whole_of(n)))
+    again(rest(code, at, id_fault(whole_of(n))))
 }

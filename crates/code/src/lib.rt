@@ -2,3 +2,4 @@
 //
 // No public call asks anything of its caller.
 pub mod check;
+mod seen;

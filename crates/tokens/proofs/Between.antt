@@ -1,12 +1,12 @@
 -- What a test says of the token that was tested, what the test of a range says of its bounds, and the other way round.
 use mathlib.Core.Path.{_≡_, refl, sym, ap, _∙_}
-use mathlib.Core.Bool.{Bool, true, false, _&&_, false≢true}
+use mathlib.Core.Bool.{Bool, true, false, not, _&&_, false≢true}
 use Prim.Native.Nat.{ℕ, _<_, _≤_}
 use native.Mathlib.Omega.{arith}
-use lib.Dec.{leb}
-use borrow.Author.Tests.{leb-true, lt-leb}
+use lib.Dec.{eqb, leb}
+use borrow.Author.Tests.{leb-true, lt-leb, not-true}
 use Rattle.values.specs.Choice.{both}
-use Rattle.tokens.specs.Token.{AND, XOR, between}
+use Rattle.tokens.specs.Token.{AND, XOR, between, isLogic}
 use Rattle.tokens.specs.Reading.{isRow}
 
 pub never : {X : Type 0} → false ≡ true → X
@@ -33,3 +33,7 @@ module _ (low high t : ℕ) where
 
 pub row-no-end : (first t : ℕ) {o : Bool} → o ≡ isRow first t → o ≡ true → t ≡ 0 → ⊥
 row-no-end first t e f z = let b = inside AND XOR t (both _ _ (sym e ∙ f) .0) in omega arith
+
+-- a token that is no AND, OR or XOR begins no row
+pub no-row : (t : ℕ) {o : Bool} → o ≡ isLogic t → not o ≡ true → false ≡ isRow t t
+no-row t {o} e h = sym (ap (λ (b : Bool). b && eqb t t) (sym e ∙ not-true o h))

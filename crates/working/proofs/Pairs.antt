@@ -1,19 +1,18 @@
 -- Laws on pairs: what a pair says by the test of the code, what was paired is said again, and the laws of Answers for what is said.
 use mathlib.Core.Path.{_≡_, refl, sym, ap, _∙_}
-use mathlib.Core.Bool.{Bool, true, false, not, _&&_}
+use mathlib.Core.Bool.{Bool, true, false}
 use Prim.Native.Nat.{ℕ, suc, _+_, _*_, _-_, _/_, _%_, _<_}
 use native.Mathlib.Omega.{arith}
-use lib.Dec.{eqb, ltb}
+use lib.Dec.{ltb}
 use lib.IntN.{ℤ, pos, negsuc}
 use mir.Syntax.{w32}
 use mir.Val.{SFits, toZ, ofZ}
-use borrow.Author.Tests.{eq-eqb, ne-eqb, not-true}
+use borrow.Author.Tests.{eq-eqb, ne-eqb}
 use Rattle.values.specs.declared.arithmetic.Worked.{Worked}
 use Rattle.values.proofs.Signed.{back}
 use Rattle.buffers.specs.Order.{twosComplement, signed}
 use Rattle.buffers.specs.OrderLaws.{signed-back}
-use Rattle.tokens.specs.Token.{isLogic}
-use Rattle.tokens.specs.Reading.{Answer, Read, read, ends, then, upTo, isRow}
+use Rattle.tokens.specs.Reading.{Answer, Read, read, ends, then, upTo}
 use Rattle.tokens.proofs.Answers as answers
 use Rattle.working.specs.Pair.{pairOf, alarmOf, nextOf, valueOf, alarmIn, said}
 use Rattle.working.specs.Working.{fromWorked}
@@ -28,10 +27,6 @@ again x = refl
 -- x is a step on y
 pub step : {x y z r : Read ℤ} (f : ℤ → ℕ → Read ℤ) → r ≡ y → x ≡ then r f → then y f ≡ z → x ≡ z
 step {y = y} f e g h = answers.step same same again f y e g h
-
--- a token that is no AND, OR or XOR begins no row
-pub no-row : (t : ℕ) {o : Bool} → o ≡ isLogic t → not o ≡ true → false ≡ isRow t t
-no-row t {o} e h = sym (ap (λ (b : Bool). b && eqb t t) (sym e ∙ not-true o h))
 
 -- the number that bits stand for
 pub bits-signed : (n : ℕ) → toZ w32 n ≡ signed n

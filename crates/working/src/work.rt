@@ -4,7 +4,7 @@
 ghost use mathlib.Core.Path.{_≡_};
 ghost use mathlib.Core.Bool.{true};
 ghost use Prim.Native.Nat.{_<_};
-ghost use Rattle.tokens.specs.Token.{isFactor, isTerm, isCompare, isLogic};
+ghost use Rattle.tokens.specs.Token.{isFactor, isTerm, isCompare, isLogic, setSize};
 ghost use Rattle.tokens.specs.Reading.{upTo, then, isRow, more, readOperand, readProduct, readSum, readExpression, readClose, readVariable, readTruth};
 ghost use Rattle.working.specs.Pair.{said};
 ghost use Rattle.working.specs.Working.{fromWorked, joinValues, valueOver, told, negated, inverted, conditionValue, rightValue};
@@ -151,7 +151,7 @@ fn closed(code: &[u32; SIZE], r: &[i32; RS], cells: &[i32; CELLS], a: u64) -> u6
 }
 
 fn variable(code: &[u32; SIZE], r: &[i32; RS], cells: &[i32; CELLS], w: u32, at: usize) -> u64
-    requires { ⌜ at < 4130 ⌝ }
+    requires { ⌜ at < setSize ⌝ }
     ensures { λ x. ⌜ said x ≡ readVariable (now (code .entry)) (valueOver (now (r .entry)) (now (cells .entry))) w at ⌝ }
 {
     if !is_indexed(code, w, at) {
@@ -162,7 +162,7 @@ fn variable(code: &[u32; SIZE], r: &[i32; RS], cells: &[i32; CELLS], w: u32, at:
 
 // TRUE, FALSE or nothing of the grammar.
 fn truth(code: &[u32; SIZE], r: &[i32; RS], cells: &[i32; CELLS], t: u32, at: usize) -> u64
-    requires { ⌜ ((t ≡ 0 → ⊥) → at < 4130) ⌝ }
+    requires { ⌜ ((t ≡ 0 → ⊥) → at < setSize) ⌝ }
     ensures { λ x. ⌜ said x ≡ readTruth (now (code .entry)) (valueOver (now (r .entry)) (now (cells .entry))) t at ⌝ }
 {
     if t == TRUE {

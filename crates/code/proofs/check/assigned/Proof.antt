@@ -4,7 +4,7 @@ use native.Mathlib.Omega.{arith}
 use mathlib.Core.Path.{sym, _∙_}
 use Rattle.tokens.specs.Reading.{sumAt, readSum}
 use Rattle.code.specs.Fault.{assignedAt}
-use Rattle.code.proofs.Shown.{answer, fault-of}
+use Rattle.code.proofs.SeenLaws.{fault-of}
 use Rattle.code.proofs.check.assigned.Statement.{statement}
 use Rattle.code.proofs.check.assigned.Tie as tie
 
@@ -17,5 +17,5 @@ assigned-spec =
     (λ c. omega arith)
     (λ c. simp (assignedAt, sym (c .before .is-removal .ensures) ∙ c .if1 .taken))
     (λ c κs. search needs)
-    (λ c κs. answer (readSum _ _ _ _ _) (c .sum .ensures))
-    (λ c. simp (assignedAt, sym (c .before .before .before .is-removal .ensures) ∙ c .before .before .if1 .left) (fault-of _ (readSum _ _ _ _ _) (c .before .sum .ensures) (c .fault-for .ensures))))
+    (λ c κs. search needs)
+    (λ c. simp (assignedAt, sym (c .before .before .before .is-removal .ensures) ∙ c .before .before .if1 .left) (fault-of _ _ (readSum _ _ _ _ _) (c .before .sum .ensures) (c .fault-for .ensures))))

@@ -4,7 +4,8 @@ use native.Mathlib.Omega.{arith}
 use mathlib.Core.Path.{sym, ap, _∙_}
 use Rattle.tokens.specs.Reading.{sumAt, readSum}
 use Rattle.code.specs.Fault.{shownFault, assignedAt, assignmentAt}
-use Rattle.code.proofs.Shown.{answer, stays, behind, fault-of}
+use Rattle.code.proofs.SeenLaws.{fault-of}
+use Rattle.code.proofs.Shown.{stays, behind}
 use Rattle.code.proofs.check.assignment.Statement.{statement}
 use Rattle.code.proofs.check.assignment.Tie as tie
 
@@ -27,11 +28,11 @@ assignment-spec =
     (λ c κs. search needs)
     (λ c. omega arith)
     (λ c κs. search needs)
-    (λ c κs. answer (readSum _ _ _ _ _) (c .sum .ensures))
+    (λ c κs. search needs)
     (λ c.
     let s = c .before .before .before in
     simp (assignmentAt, sym (s .before .before .is-variable .ensures) ∙ s .before .if1 .left, sym (s .is-drive .ensures) ∙ c .before .before .if3 .taken)
-    (fault-of _ (readSum _ _ _ _ _) (c .before .sum .ensures) (c .fault-for .ensures)))
+    (fault-of _ _ (readSum _ _ _ _ _) (c .before .sum .ensures) (c .fault-for .ensures)))
     (λ c κs. search needs)
     (λ c.
     let s = c .before .before .before in

@@ -56,9 +56,11 @@ line-at-spec =
     (λ c κs. search needs)
     (λ c κs. search needs)
     (λ c κs. omega (arith, starts (c .before .before .before .before .before .before .before .before .before)))
+    (λ c κs. search needs)
     (λ c.
-    let s = c .before .before .before in
+    let g = c .before in
+    let s = g .before .before .before in
     let r = s .before .before .before .before in
     let q = r .before .before .before in
     simp (lineAt, sym (q .before .before .before .before .before .opens-too-many .ensures) ∙ q .before .before .before .before .if1 .left, named q, eq-eqb _ _ (sym (r .before .token-at2 .ensures .0) ∙ r .if3 .left), tested isWhole (s .before .before .token-at3 .ensures .0) (s .before .is-whole .ensures) (not-false _ (s .if4 .left)))
-    (c .rest .ensures ∙ simp (c .before .id-fault .ensures, c .before .before .whole-of .ensures, s .before .before .token-at3 .ensures .0))))
+    (c .again .ensures ∙ g .rest .ensures ∙ simp (g .before .id-fault .ensures, g .before .before .whole-of .ensures, s .before .before .token-at3 .ensures .0))))

@@ -8,7 +8,7 @@ use Rattle.tokens.specs.Reading.{readExpression, expressionAt}
 use Rattle.code.specs.Fault.{restAt}
 use Rattle.tokens.proofs.Between.{tested}
 use Rattle.code.proofs.FaultLaws.{rest-end, rest-goes}
-use Rattle.code.proofs.Shown.{answer, fault-of}
+use Rattle.code.proofs.SeenLaws.{fault-of}
 use Rattle.code.proofs.check.rest.Statement.{statement}
 use Rattle.code.proofs.check.rest.Tie as tie
 
@@ -25,15 +25,15 @@ rest-spec =
     (λ c. simp (restAt, tested isKeyword (c .before .before .before .token-at .ensures .0) (c .before .before .is-keyword .ensures) (not-true _ (c .before .if1 .taken))) (c .body .ensures))
     (λ c. omega arith)
     (λ c κs. search needs)
-    (λ c κs. answer (readExpression _ _ _ _ _) (c .expression .ensures))
+    (λ c κs. search needs)
     (λ c κs. search needs)
     (λ c.
     let s = c .before .before .before in
-    rest-end _ _ _ _ (c .before .before .fault-for .result) (s .before .before .before .token-at .ensures .0) (s .before .before .is-keyword .ensures) (s .before .if1 .left) (fault-of true (readExpression _ _ _ _ _) (s .expression .ensures) (c .before .before .fault-for .ensures)) (c .before .if2 .taken) (c .faulty .ensures))
+    rest-end _ _ _ _ (c .before .before .fault-for .result) (s .before .before .before .token-at .ensures .0) (s .before .before .is-keyword .ensures) (s .before .if1 .left) (fault-of true _ (readExpression _ _ _ _ _) (s .expression .ensures) (c .before .before .fault-for .ensures)) (c .before .if2 .taken) (c .faulty .ensures))
     (λ c. omega arith)
     (λ c κs. search needs)
     (λ c κs. search needs)
     (λ c.
     let s = c .before .before .before in
     let r = s .before .before .before in
-    rest-goes _ _ _ _ (s .fault-for .result) (r .before .token-at .ensures .0) (r .is-keyword .ensures) (s .before .before .if1 .left) (fault-of true (readExpression _ _ _ _ _) (s .before .expression .ensures) (s .fault-for .ensures)) (c .before .before .if2 .left) (c .before .lower-of .ensures) (c .body2 .ensures)))
+    rest-goes _ _ _ _ (s .fault-for .result) (r .before .token-at .ensures .0) (r .is-keyword .ensures) (s .before .before .if1 .left) (fault-of true _ (readExpression _ _ _ _ _) (s .before .expression .ensures) (s .fault-for .ensures)) (c .before .before .if2 .left) (c .before .lower-of .ensures) (c .body2 .ensures)))

@@ -1,9 +1,10 @@
 -- `check::truth` meets its contract: each return by the tests that led to it.
 use borrow.Author.Needs.{needs}
-use mathlib.Core.Path.{sym, ap, _∙_}
+use mathlib.Core.Path.{refl, sym, _∙_}
 use native.Mathlib.Omega.{arith}
-use Rattle.code.specs.Fault.{sight, shown}
+use Rattle.code.specs.Fault.{sight}
 use Rattle.tokens.proofs.Arms.{yes-truth, no-truth, not-truth}
+use Rattle.code.proofs.SeenLaws.{nothing, seen-truth}
 use Rattle.code.proofs.check.truth.Statement.{statement}
 use Rattle.code.proofs.check.truth.Tie as tie
 
@@ -13,8 +14,9 @@ truth-spec =
     tie.close
     (tie.spec
     (λ c. omega (arith, c .before .pre (λ e. omega arith)))
-    (λ c. sym (ap shown (yes-truth _ _ _ _ (c .if1 .taken))))
-    (λ c. omega (arith, c .before .before .pre (λ e. omega arith)))
-    (λ c. sym (ap shown (no-truth _ _ _ _ (c .if2 .taken))))
     (λ c κs. search needs)
-    (λ c. c .stopped .ensures ∙ sym (ap shown (not-truth _ _ _ _ (c .before .before .if1 .left) (c .before .if2 .left)))))
+    (λ c. seen-truth _ (omega arith) (omega arith) (omega (arith, c .before .before .pre (λ e. omega arith))) (c .truth-seen .ensures) refl ∙ sym (yes-truth _ _ _ _ (c .before .if1 .taken)))
+    (λ c. omega (arith, c .before .before .pre (λ e. omega arith)))
+    (λ c κs. search needs)
+    (λ c. seen-truth _ (omega arith) (omega arith) (omega (arith, c .before .before .before .pre (λ e. omega arith))) (c .truth-seen2 .ensures) refl ∙ sym (no-truth _ _ _ _ (c .before .if2 .taken)))
+    (λ c. nothing ∙ sym (not-truth _ _ _ _ (c .before .if1 .left) (c .if2 .left))))

@@ -14,9 +14,9 @@ use Rattle.tokens.specs.Reading.{then, isRow, more, readClose, readProduct, rea
 use Rattle.working.specs.Pair.{pairOf, said}
 use Rattle.working.specs.Working.{valueOver, negated, inverted}
 use Rattle.tokens.proofs.Arms.{spent, number-arm, variable-arm, open-arm, minus-arm, not-arm, truth-arm}
-use Rattle.tokens.proofs.Between.{no-end, row-no-end}
+use Rattle.tokens.proofs.Between.{no-end, row-no-end, no-row}
 use Rattle.tokens.proofs.Rows.{Kept, row-stops, row-ends, row-spent, row-goes, product-begins, sum-begins, expression-stops, comparison, row-after}
-use Rattle.working.proofs.Pairs.{same, again, step, said-stop, said-value, pair-said, alarm-said, no-row}
+use Rattle.working.proofs.Pairs.{same, again, step, said-stop, said-value, pair-said, alarm-said}
 use Rattle.tokens.proofs.token.is_compare.Reads as is-compare
 use Rattle.tokens.proofs.token.is_factor.Reads as is-factor
 use Rattle.tokens.proofs.token.is_logic.Reads as is-logic
