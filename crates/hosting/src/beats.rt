@@ -1,14 +1,14 @@
 // Beats of a session: what a line lends, and the beat over it.
+use crate::fields::field;
+use crate::fields::letter_of;
+use crate::fields::signed;
+use crate::fields::unsigned;
 use beat_lines::beat_line::NUMBERS;
 use beat_lines::beat_line::no_reading;
 use beat_lines::beat_line::read_bytes;
 use beat_lines::beat_line::read_lent;
 use engine::beat::Beaten;
 use engine::beat::beat;
-use script::fields::field;
-use script::fields::letter_of;
-use script::fields::signed;
-use script::fields::unsigned;
 use state::state::State;
 use tokens::token::SIZE;
 

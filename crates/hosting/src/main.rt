@@ -1,18 +1,22 @@
 // hosting, a test: answers a host session on standard input, as tests/HOST-SESSIONS.md describes it, by the proved calls. It is proved safe and to end, no more.
+mod answers;
 mod beats;
+mod damage;
+mod fields;
+mod places;
 mod session;
 
 ghost use Prim.Native.Nat.{_≤_, _<_};
 ghost use lib.ListN.{length};
+use answers::OUT;
+use answers::end_answer;
+use answers::error_answer;
+use fields::byte_at;
+use fields::field;
+use fields::letter_of;
+use fields::part;
 use libc::STDIN_FILENO;
 use libc::STDOUT_FILENO;
-use script::answers::OUT;
-use script::answers::end_answer;
-use script::answers::error_answer;
-use script::fields::byte_at;
-use script::fields::field;
-use script::fields::letter_of;
-use script::fields::part;
 use session::Session;
 use session::begin;
 use session::gives_back;

@@ -2,8 +2,8 @@
 use borrow.Author.Needs.{needs}
 use Prim.Native.Nat.{_-_}
 use lib.ListN.{length}
-use Rattle.script.proofs.fields.unsigned.Statement.{statement}
-use Rattle.script.proofs.fields.unsigned.Tie as tie
+use Rattle.hosting.proofs.fields.unsigned.Statement.{statement}
+use Rattle.hosting.proofs.fields.unsigned.Tie as tie
 
 abbrev Inv-loop : tie.InvT-loop
 Inv-loop field value₀ i₀ value i = Unit {0}

@@ -1,8 +1,8 @@
 -- `places::dump_letter` ends: an index less is left at each turn.
 use borrow.Author.Needs.{needs}
 use Prim.Native.Nat.{_-_}
-use Rattle.script.proofs.places.dump_letter.Statement.{statement}
-use Rattle.script.proofs.places.dump_letter.Tie as tie
+use Rattle.hosting.proofs.places.dump_letter.Statement.{statement}
+use Rattle.hosting.proofs.places.dump_letter.Tie as tie
 
 abbrev Inv-loop : tie.InvT-loop
 Inv-loop state p out₀ at end to₀ i₀ out to i = Unit {0}

@@ -1,7 +1,7 @@
 -- `fields::field_start` ends: the fields left are counted down.
 use borrow.Author.Needs.{needs}
-use Rattle.script.proofs.fields.field_start.Statement.{statement}
-use Rattle.script.proofs.fields.field_start.Tie as tie
+use Rattle.hosting.proofs.fields.field_start.Statement.{statement}
+use Rattle.hosting.proofs.fields.field_start.Tie as tie
 
 abbrev Inv-loop : tie.InvT-loop
 Inv-loop line k at₀ left₀ at left = Unit {0}

@@ -13,8 +13,8 @@ use mir.Val.{SFits, toZ, ofZ}
 use mir.ValLaws.{toZ-pos}
 use Rattle.values.specs.Numbers.{clash, abs32}
 use Rattle.values.proofs.Signed.{back}
-use Rattle.script.proofs.answers.size_of.Statement.{statement}
-use Rattle.script.proofs.answers.size_of.Tie as tie
+use Rattle.hosting.proofs.answers.size_of.Statement.{statement}
+use Rattle.hosting.proofs.answers.size_of.Tie as tie
 
 flipped-bits : (z : ℤ) → SFits w32 z → ltZ z (pos 0) ≡ true → toZ w32 (4294967295 - ofZ w32 z) ≡ pos (mag z)
 flipped-bits (pos n) f h = absurd (omega (arith, ltb-true n 0 h))

@@ -1,8 +1,8 @@
 -- `answers::put_digits` ends: a digit less is left at each turn.
 use borrow.Author.Needs.{needs}
 use Prim.Native.Nat.{_-_}
-use Rattle.script.proofs.answers.put_digits.Statement.{statement}
-use Rattle.script.proofs.answers.put_digits.Tie as tie
+use Rattle.hosting.proofs.answers.put_digits.Statement.{statement}
+use Rattle.hosting.proofs.answers.put_digits.Tie as tie
 
 abbrev Inv-loop : tie.InvT-loop
 Inv-loop out₀ at digits count all to₀ i₀ out to i = Unit {0}

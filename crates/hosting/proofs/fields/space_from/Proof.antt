@@ -2,8 +2,8 @@
 use borrow.Author.Needs.{needs}
 use Prim.Native.Nat.{_-_}
 use lib.ListN.{length}
-use Rattle.script.proofs.fields.space_from.Statement.{statement}
-use Rattle.script.proofs.fields.space_from.Tie as tie
+use Rattle.hosting.proofs.fields.space_from.Statement.{statement}
+use Rattle.hosting.proofs.fields.space_from.Tie as tie
 
 abbrev Inv-loop : tie.InvT-loop
 Inv-loop line from i₀ i = Unit {0}

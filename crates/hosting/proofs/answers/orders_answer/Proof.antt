@@ -1,8 +1,8 @@
 -- `answers::orders_answer` ends: an order less is left at each turn.
 use borrow.Author.Needs.{needs}
 use Prim.Native.Nat.{_-_}
-use Rattle.script.proofs.answers.orders_answer.Statement.{statement}
-use Rattle.script.proofs.answers.orders_answer.Tie as tie
+use Rattle.hosting.proofs.answers.orders_answer.Statement.{statement}
+use Rattle.hosting.proofs.answers.orders_answer.Tie as tie
 
 abbrev Inv-loop : tie.InvT-loop
 Inv-loop out₀ at orders n to₀ k₀ from₀ out to k from = Unit {0}

@@ -2,8 +2,8 @@
 use borrow.Author.Needs.{needs}
 use Prim.Native.Nat.{_-_}
 use lib.ListN.{length}
-use Rattle.script.proofs.fields.count_fields.Statement.{statement}
-use Rattle.script.proofs.fields.count_fields.Tie as tie
+use Rattle.hosting.proofs.fields.count_fields.Statement.{statement}
+use Rattle.hosting.proofs.fields.count_fields.Tie as tie
 
 abbrev Inv-loop : tie.InvT-loop
 Inv-loop line n₀ i₀ n i = Unit {0}

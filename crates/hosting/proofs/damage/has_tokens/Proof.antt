@@ -1,7 +1,7 @@
 -- `damage::has_tokens` ends: the places left are counted down.
 use borrow.Author.Needs.{needs}
-use Rattle.script.proofs.damage.has_tokens.Statement.{statement}
-use Rattle.script.proofs.damage.has_tokens.Tie as tie
+use Rattle.hosting.proofs.damage.has_tokens.Statement.{statement}
+use Rattle.hosting.proofs.damage.has_tokens.Tie as tie
 
 abbrev Inv-loop : tie.InvT-loop
 Inv-loop set start n p₀ left₀ p left = Unit {0}
