@@ -3,9 +3,8 @@ ghost use mathlib.Core.Path.{_≡_};
 ghost use mathlib.Core.List.{[], _∷_, _++_};
 ghost use Prim.Native.Nat.{_+_, _*_, _≤_, _<_};
 ghost use lib.ListN.{getD, drop};
-ghost use Rattle.printing.specs.Output.{fourOf, signedText, loadLine, errorLine, codeLine, orderLine, orderLines, endLine};
+ghost use Rattle.printing.specs.Output.{digitsUp, decimal, fourOf, signedText, loadLine, errorLine, codeLine, orderLine, orderLines, endLine};
 ghost use Rattle.printing.specs.Put.{IsPut, inReach};
-use crate::digits::put_number;
 use crate::out::put;
 use buffers::order::ORDER_BYTES;
 use text::bytes::LF;
@@ -13,6 +12,8 @@ use text::bytes::SPACE;
 
 // The furthest place at which a line is put.
 pub const FURTHEST: usize = 65000;
+// The digits that a u32 may have.
+const DIGITS: usize = 10;
 
 // A letter and a space.
 fn put_letter(out: &mut [u8], at: usize, letter: u8) -> usize
@@ -23,6 +24,33 @@ fn put_letter(out: &mut [u8], at: usize, letter: u8) -> usize
     let next = at + 1;
     put(out, next, SPACE);
     next + 1
+}
+
+// The digits of a number, at most k.
+fn put_digits(out: &mut [u8], at: usize, n: u32, k: usize) -> usize
+    requires { ⌜ at + k ≤ 2000000000000 ⌝ }
+    ensures { λ x. ⌜ IsPut (now (out .entry)) at (digitsUp k n) (now (out .exit)) x × (x ≤ at + k) ⌝ }
+{
+    if k == 0 {
+        return at;
+    }
+    if n < 10 {
+        put(out, at, 48 + n as u8);
+        return at + 1;
+    }
+    let end = put_digits(out, at, n / 10, k - 1);
+    put(out, end, 48 + (n % 10) as u8);
+    end + 1
+}
+
+// A number, and a byte behind it.
+fn put_number(out: &mut [u8], at: usize, n: u32, behind: u8) -> usize
+    requires { ⌜ at ≤ 1000000000100 ⌝ }
+    ensures { λ x. ⌜ IsPut (now (out .entry)) at (decimal n ++ (behind ∷ [])) (now (out .exit)) x × (x ≤ at + 11) ⌝ }
+{
+    let end = put_digits(out, at, n, DIGITS);
+    put(out, end, behind);
+    end + 1
 }
 
 // L code line

@@ -1,9 +1,9 @@
--- `digits::put_number` meets its contract: the digits, and the byte behind them.
+-- `output::put_number` meets its contract: the digits, and the byte behind them.
 use borrow.Author.Needs.{needs}
 use native.Mathlib.Omega.{arith}
 use Rattle.printing.proofs.OutLaws.{put-byte, put-both}
-use Rattle.printing.proofs.digits.put_number.Statement.{statement}
-use Rattle.printing.proofs.digits.put_number.Tie as tie
+use Rattle.printing.proofs.output.put_number.Statement.{statement}
+use Rattle.printing.proofs.output.put_number.Tie as tie
 
 pub put-number-spec : {M : Type 1} → statement M
 put-number-spec =

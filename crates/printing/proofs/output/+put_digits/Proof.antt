@@ -1,4 +1,4 @@
--- `digits::put_digits` meets its contract: a number below 10 is one digit; of any other the digits before the last are put first. The measure is the digits left.
+-- `output::put_digits` meets its contract: a number below 10 is one digit; of any other the digits before the last are put first. The measure is the digits left.
 use borrow.Author.Needs.{needs}
 use native.Mathlib.Omega.{arith}
 use mathlib.Core.Path.{refl}
@@ -6,12 +6,12 @@ use Prim.Native.Nat.{ℕ, _<_}
 use borrow.Fn.Kinds.{In}
 use borrow.Fn.PlainCycle.{Measures, is, falls, and}
 use Rattle.printing.proofs.OutLaws.{put-byte, put-both, no-digits, one-digit, more-digits}
-use Rattle.printing.proofs.digits.put_digits.Reads as put-digits
-use Rattle.printing.proofs.digits.put_digits.Kinds as put-digits-kinds
-use Rattle.printing.proofs.digits.+put_digits.Lts-put_digits as put-digits-lts
+use Rattle.printing.proofs.output.put_digits.Reads as put-digits
+use Rattle.printing.proofs.output.put_digits.Kinds as put-digits-kinds
+use Rattle.printing.proofs.output.+put_digits.Lts-put_digits as put-digits-lts
 use Rattle.printing.proofs.out.put.Reads as put-reads
-use Rattle.printing.proofs.digits.+put_digits.{statement}
-use Rattle.printing.proofs.digits.+put_digits.Tie.{close}
+use Rattle.printing.proofs.output.+put_digits.{statement}
+use Rattle.printing.proofs.output.+put_digits.Tie.{close}
 
 abbrev μ-put-digits : Measures 1 put-digits-kinds.ps ℕ
 μ-put-digits κs a = a .1 .1 .1 .0
