@@ -32,3 +32,15 @@ module _ {A B : Type 0} (tell : Read A → B) (hear : B → Read A) where
       -- what is read goes into the step
       pub behind : {v : A} {p : ℕ} → hear a ≡ read v p → f v p ≡ then y f
       behind h = ap (λ (r : Read A). then r f) (sym h ∙ hears y e)
+
+-- a reading tells and hears itself
+module _ {A : Type 0} where
+  abbrev pub same : Read A → Read A
+  same x = x
+
+  pub same-again : (x : Read A) → same (same x) ≡ x
+  same-again x = refl
+
+  -- x is a step on r, which is y
+  pub stepped : {x z r : Read A} (f : A → ℕ → Read A) (y : Read A) → r ≡ y → x ≡ then r f → then y f ≡ z → x ≡ z
+  stepped f y e g h = step same same same-again f y e g h

@@ -17,17 +17,6 @@ use Rattle.tokens.proofs.Answers as answers
 use Rattle.working.specs.Pair.{pairOf, alarmOf, nextOf, valueOf, alarmIn, said}
 use Rattle.working.specs.Working.{fromWorked}
 
--- a reading tells and hears itself, in the laws of Answers and Rows
-abbrev pub same : Read ℤ → Read ℤ
-same x = x
-
-pub again : (x : Read ℤ) → same (same x) ≡ x
-again x = refl
-
--- x is a step on y
-pub step : {x y z r : Read ℤ} (f : ℤ → ℕ → Read ℤ) → r ≡ y → x ≡ then r f → then y f ≡ z → x ≡ z
-step {y = y} f e g h = answers.step same same again f y e g h
-
 -- the number that bits stand for
 pub bits-signed : (n : ℕ) → toZ w32 n ≡ signed n
 unfolding signed
@@ -62,7 +51,7 @@ module _ (w : ℕ) {i : ℕ} (e : i ≡ nextOf w) where
 
   -- an alarm passes through a step
   pub passes : (f : ℤ → ℕ → Read ℤ) → i ≡ 0 → said w ≡ then (said w) f
-  passes f h = answers.passes same same (said w) f refl (said-stop h)
+  passes f h = answers.passes answers.same answers.same (said w) f refl (said-stop h)
 
 -- what was paired is said again
 pub pair-said : {v : ℤ} (p : ℕ) → SFits w32 v → 0 < p → p < 8192 → said (pairOf v p) ≡ read v p

@@ -13,10 +13,11 @@ use Rattle.tokens.specs.Token.{SAME, ATLEAST, PLUS, MINUS, TIMES, OVER, IN, IM,
 use Rattle.tokens.specs.Reading.{then, isRow, more, readClose, readProduct, readSum, readOperand}
 use Rattle.working.specs.Pair.{pairOf, said}
 use Rattle.working.specs.Working.{valueOver, negated, inverted}
+use Rattle.tokens.proofs.Answers.{same, same-again, stepped}
 use Rattle.tokens.proofs.Arms.{spent, number-arm, variable-arm, open-arm, minus-arm, not-arm, truth-arm}
 use Rattle.tokens.proofs.Between.{no-end, row-no-end, no-row}
 use Rattle.tokens.proofs.Rows.{Kept, row-stops, row-ends, row-spent, row-goes, product-begins, sum-begins, expression-stops, comparison, row-after}
-use Rattle.working.proofs.Pairs.{same, again, step, said-stop, said-value, pair-said, alarm-said}
+use Rattle.working.proofs.Pairs.{said-stop, said-value, pair-said, alarm-said}
 use Rattle.tokens.proofs.token.is_compare.Reads as is-compare
 use Rattle.tokens.proofs.token.is_factor.Reads as is-factor
 use Rattle.tokens.proofs.token.is_logic.Reads as is-logic
@@ -84,7 +85,7 @@ unfolding valueOver
     (λ t. expression-lts.spec (_, sum.Post, _, next-of.Learnt, _, token-at.Learnt, _, is-compare.Learnt, _, value-of.Learnt, _, join-compare.Learnt, _, is-logic.Learnt, _, row.Post) _ expression.Post
     (λ c κs. omega arith)
     (λ c κs. search needs)
-    (λ c. expression-stops _ _ same same again _ _ _ (c .before .before .sum .ensures) (said-stop _ (c .before .next-of .ensures) (c .if1 .taken)))
+    (λ c. expression-stops _ _ same same same-again _ _ _ (c .before .before .sum .ensures) (said-stop _ (c .before .next-of .ensures) (c .if1 .taken)))
     (λ c κs. search needs)
     (λ c κs. search needs)
     (λ c κs. search needs)
@@ -95,7 +96,7 @@ unfolding valueOver
     let v = c .before .before in
     let d = v .before .before .before in
     let n = d .before .before .before in
-    comparison _ _ same same again _ _ _ (n .before .sum .ensures) (said-value _ (n .next-of .ensures) (back w32 (record { sfits = v .value-of .ok }) ∙ v .value-of .ensures) (d .before .before .if1 .left)) (d .token-at .ensures .0) (v .before .before .is-compare .ensures) (v .before .if2 .taken)
+    comparison _ _ same same same-again _ _ _ (n .before .sum .ensures) (said-value _ (n .next-of .ensures) (back w32 (record { sfits = v .value-of .ok }) ∙ v .value-of .ensures) (d .before .before .if1 .left)) (d .token-at .ensures .0) (v .before .before .is-compare .ensures) (v .before .if2 .taken)
     (c .before .sum2 .ensures) (c .join-compare .ensures))
     (λ c κs. search needs)
     (λ c.
@@ -103,14 +104,14 @@ unfolding valueOver
     let d = e .before .before in
     let n = d .before .before .before in
     let h = said-value _ (n .next-of .ensures) refl (d .before .before .if1 .left) in
-    row-ends (row-after _ _ same same again _ _ _ (n .before .sum .ensures) h (d .token-at .ensures .0) (e .before .is-compare .ensures) (e .if2 .left)) h (d .token-at .ensures .0) (no-row (d .token-at .result) (c .before .is-logic .ensures) (c .if3 .taken)) refl)
+    row-ends (row-after _ _ same same same-again _ _ _ (n .before .sum .ensures) h (d .token-at .ensures .0) (e .before .is-compare .ensures) (e .if2 .left)) h (d .token-at .ensures .0) (no-row (d .token-at .result) (c .before .is-logic .ensures) (c .if3 .taken)) refl)
     (λ c κs. omega arith)
     (λ c.
     let e = c .before .before .before in
     let d = e .before .before in
     let n = d .before .before .before in
     c .row .ensures ∙
-    row-after _ _ same same again _ _ _ (n .before .sum .ensures) (said-value _ (n .next-of .ensures) refl (d .before .before .if1 .left)) (d .token-at .ensures .0) (e .before .is-compare .ensures) (e .if2 .left) .is-whole))
+    row-after _ _ same same same-again _ _ _ (n .before .sum .ensures) (said-value _ (n .next-of .ensures) refl (d .before .before .if1 .left)) (d .token-at .ensures .0) (e .before .is-compare .ensures) (e .if2 .left) .is-whole))
     -- factors
     (λ t. factors-lts.spec (_, next-of.Learnt, _, token-at.Learnt, _, is-factor.Learnt, _, value-of.Learnt, _, operand.Post, _, join-factor.Learnt) _ factors.Post factors-Inv (λ code r cells w left a₀ turns₀ a turns. turns)
     (λ c. record { is-whole = refl; is-told = refl })
@@ -134,7 +135,7 @@ unfolding valueOver
     let d = v .before .before .before in
     let n = d .before .before .before in
     let i = n .before .before .loop in
-    row-goes (i .inv) again (said-value (i .a) (n .next-of .ensures) (back w32 (record { sfits = v .value-of .ok }) ∙ v .value-of .ensures) (d .before .before .if1 .left)) (d .token-at .ensures .0) (v .before .before .is-factor .ensures) (v .before .if2 .left) (omega arith) (c .before .operand .ensures) (c .join-factor .ensures))
+    row-goes (i .inv) same-again (said-value (i .a) (n .next-of .ensures) (back w32 (record { sfits = v .value-of .ok }) ∙ v .value-of .ensures) (d .before .before .if1 .left)) (d .token-at .ensures .0) (v .before .before .is-factor .ensures) (v .before .if2 .left) (omega arith) (c .before .operand .ensures) (c .join-factor .ensures))
     (λ c. row-spent (c .before .loop .inv) (omega arith)))
     -- operand
     (λ t. operand-lts.spec (_, alarm-of.Learnt, _, token-at.Learnt, _, pair-of.Learnt, _, is-variable.Learnt, _, variable.Learnt, _, expression.Post, _, closed.Learnt, _, operand.Post, _, negated-pair.Learnt, _, inverted-pair.Learnt, _, truth.Learnt) _ operand.Post
@@ -162,17 +163,17 @@ unfolding valueOver
     (λ c.
     let d = c .before .before .before .before .before .before in
     let a = d .before .before .before .args in
-    step (readClose (a .code .now) (valueOver (a .r .now) (a .cells .now))) (c .before .expression .ensures) (c .closed .ensures) (open-arm _ _ _ _ _ (d .before .before .if1 .left) (d .token-at .ensures .0) (c .before .before .if4 .taken)))
+    stepped (readClose (a .code .now) (valueOver (a .r .now) (a .cells .now))) _ (c .before .expression .ensures) (c .closed .ensures) (open-arm _ _ _ _ _ (d .before .before .if1 .left) (d .token-at .ensures .0) (c .before .before .if4 .taken)))
     (λ c. omega (arith, c .before .before .before .before .before .token-at .ensures .1 (λ e. omega arith)))
     (λ c. omega arith)
     (λ c κs. omega arith)
     (λ c κs. search needs)
-    (λ c. let d = c .before .before .before .before .before .before .before in step negated (c .before .operand .ensures) (c .negated-pair .ensures) (minus-arm _ _ _ _ _ (d .before .before .if1 .left) (d .token-at .ensures .0) (c .before .before .if5 .taken)))
+    (λ c. let d = c .before .before .before .before .before .before .before in stepped negated _ (c .before .operand .ensures) (c .negated-pair .ensures) (minus-arm _ _ _ _ _ (d .before .before .if1 .left) (d .token-at .ensures .0) (c .before .before .if5 .taken)))
     (λ c. omega (arith, c .before .before .before .before .before .before .token-at .ensures .1 (λ e. omega arith)))
     (λ c. omega arith)
     (λ c κs. omega arith)
     (λ c κs. search needs)
-    (λ c. let d = c .before .before .before .before .before .before .before .before in step inverted (c .before .operand2 .ensures) (c .inverted-pair .ensures) (not-arm _ _ _ _ _ (d .before .before .if1 .left) (d .token-at .ensures .0) (c .before .before .if6 .taken)))
+    (λ c. let d = c .before .before .before .before .before .before .before .before in stepped inverted _ (c .before .operand2 .ensures) (c .inverted-pair .ensures) (not-arm _ _ _ _ _ (d .before .before .if1 .left) (d .token-at .ensures .0) (c .before .before .if6 .taken)))
     (λ c κs ne. omega (arith, c .before .before .before .before .before .before .token-at .ensures .1 ne))
     (λ c.
     let i = c .before .before .before .before in
@@ -183,15 +184,15 @@ unfolding valueOver
     (λ t. product-lts.spec (_, operand.Post, _, next-of.Learnt, _, token-at.Learnt, _, is-factor.Learnt, _, factors.Post) _ product.Post
     (λ c κs. omega arith)
     (λ c κs. search needs)
-    (λ c. row-stops (product-begins _ _ same same again _ _ _ (c .before .before .operand .ensures)) (said-stop _ (c .before .next-of .ensures) (c .if1 .taken)))
+    (λ c. row-stops (product-begins _ _ same same same-again _ _ _ (c .before .before .operand .ensures)) (said-stop _ (c .before .next-of .ensures) (c .if1 .taken)))
     (λ c κs. search needs)
     (λ c κs. search needs)
     (λ c.
     let d = c .before .before in
     let n = d .before .before .before in
-    row-ends (product-begins _ _ same same again _ _ _ (n .before .operand .ensures)) (said-value _ (n .next-of .ensures) refl (d .before .before .if1 .left)) (d .token-at .ensures .0) (c .before .is-factor .ensures) (c .if2 .taken))
+    row-ends (product-begins _ _ same same same-again _ _ _ (n .before .operand .ensures)) (said-value _ (n .next-of .ensures) refl (d .before .before .if1 .left)) (d .token-at .ensures .0) (c .before .is-factor .ensures) (c .if2 .taken))
     (λ c κs. omega arith)
-    (λ c. c .factors .ensures ∙ product-begins _ _ same same again _ _ _ (c .before .before .before .before .before .before .before .operand .ensures) .is-whole))
+    (λ c. c .factors .ensures ∙ product-begins _ _ same same same-again _ _ _ (c .before .before .before .before .before .before .before .operand .ensures) .is-whole))
     -- row
     (λ t. row-lts.spec (_, next-of.Learnt, _, token-at.Learnt, _, is-row.Learnt, _, value-of.Learnt, _, sum.Post, _, join-row.Learnt) _ row.Post row-Inv (λ code r cells first w left a₀ turns₀ a turns. turns)
     (λ c. record { is-whole = refl; is-told = refl })
@@ -215,21 +216,21 @@ unfolding valueOver
     let d = v .before .before .before in
     let n = d .before .before .before in
     let i = n .before .before .loop in
-    row-goes (i .inv) again (said-value (i .a) (n .next-of .ensures) (back w32 (record { sfits = v .value-of .ok }) ∙ v .value-of .ensures) (d .before .before .if1 .left)) (d .token-at .ensures .0) (v .before .before .is-row .ensures) (v .before .if2 .left) (omega arith) (c .before .sum .ensures) (c .join-row .ensures))
+    row-goes (i .inv) same-again (said-value (i .a) (n .next-of .ensures) (back w32 (record { sfits = v .value-of .ok }) ∙ v .value-of .ensures) (d .before .before .if1 .left)) (d .token-at .ensures .0) (v .before .before .is-row .ensures) (v .before .if2 .left) (omega arith) (c .before .sum .ensures) (c .join-row .ensures))
     (λ c. row-spent (c .before .loop .inv) (omega arith)))
     -- sum
     (λ t. sum-lts.spec (_, product.Post, _, next-of.Learnt, _, token-at.Learnt, _, is-term.Learnt, _, terms.Post) _ sum.Post
     (λ c κs. omega arith)
     (λ c κs. search needs)
-    (λ c. row-stops (sum-begins _ _ same same again _ _ _ (c .before .before .product .ensures)) (said-stop _ (c .before .next-of .ensures) (c .if1 .taken)))
+    (λ c. row-stops (sum-begins _ _ same same same-again _ _ _ (c .before .before .product .ensures)) (said-stop _ (c .before .next-of .ensures) (c .if1 .taken)))
     (λ c κs. search needs)
     (λ c κs. search needs)
     (λ c.
     let d = c .before .before in
     let n = d .before .before .before in
-    row-ends (sum-begins _ _ same same again _ _ _ (n .before .product .ensures)) (said-value _ (n .next-of .ensures) refl (d .before .before .if1 .left)) (d .token-at .ensures .0) (c .before .is-term .ensures) (c .if2 .taken))
+    row-ends (sum-begins _ _ same same same-again _ _ _ (n .before .product .ensures)) (said-value _ (n .next-of .ensures) refl (d .before .before .if1 .left)) (d .token-at .ensures .0) (c .before .is-term .ensures) (c .if2 .taken))
     (λ c κs. omega arith)
-    (λ c. c .terms .ensures ∙ sum-begins _ _ same same again _ _ _ (c .before .before .before .before .before .before .before .product .ensures) .is-whole))
+    (λ c. c .terms .ensures ∙ sum-begins _ _ same same same-again _ _ _ (c .before .before .before .before .before .before .before .product .ensures) .is-whole))
     -- terms
     λ t. terms-lts.spec (_, next-of.Learnt, _, token-at.Learnt, _, is-term.Learnt, _, value-of.Learnt, _, product.Post, _, join-term.Learnt) _ terms.Post terms-Inv (λ code r cells w left a₀ turns₀ a turns. turns)
     (λ c. record { is-whole = refl; is-told = refl })
@@ -253,5 +254,5 @@ unfolding valueOver
     let d = v .before .before .before in
     let n = d .before .before .before in
     let i = n .before .before .loop in
-    row-goes (i .inv) again (said-value (i .a) (n .next-of .ensures) (back w32 (record { sfits = v .value-of .ok }) ∙ v .value-of .ensures) (d .before .before .if1 .left)) (d .token-at .ensures .0) (v .before .before .is-term .ensures) (v .before .if2 .left) (omega arith) (c .before .product .ensures) (c .join-term .ensures))
+    row-goes (i .inv) same-again (said-value (i .a) (n .next-of .ensures) (back w32 (record { sfits = v .value-of .ok }) ∙ v .value-of .ensures) (d .before .before .if1 .left)) (d .token-at .ensures .0) (v .before .before .is-term .ensures) (v .before .if2 .left) (omega arith) (c .before .product .ensures) (c .join-term .ensures))
     (λ c. row-spent (c .before .loop .inv) (omega arith))
