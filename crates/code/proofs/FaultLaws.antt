@@ -5,22 +5,32 @@ use mathlib.Core.List.{List}
 use Prim.Native.Nat.{ℕ, zero, suc, _+_, _-_, _<_, _≤_}
 use native.Mathlib.Omega.{arith}
 use lib.Dec.{eqb}
-use lib.ListN.{getD}
-use borrow.Author.Tests.{not-false, eq-eqb, ne-eqb}
-use Rattle.code.specs.declared.check.Look.{Look}
+use lib.ListN.{getD, drop}
+use borrow.Author.Tests.{not-true, not-false, eq-eqb, ne-eqb}
 use Rattle.code.specs.declared.check.Line.{Line}
-use Rattle.tokens.specs.Token.{END, EQUALS, OPEN, CLOSE, IDS, M, isFactor, isTerm, isFifo, isCall, isKeyword, isWhole, whole}
+use Rattle.tokens.specs.Token.{FIFO1, FIFO4, END, EQUALS, OPEN, CLOSE, IDS, DO, M, isFactor, isTerm, isFifo, isCall, isKeyword, isWhole, whole}
 use Rattle.tokens.specs.Reading.{Read, read, ends, then, isIndexed, indexAt, expressionAt}
-use Rattle.code.specs.Fault.{sight, shownFault, shownRead, faultFor, isRemoval, assignmentAt, commandAt, actionAt, countFault, actionsAt, numberOf, faultyLine, lineParts, bodyAt, restAt}
-use Rattle.tokens.specs.SingleFault.{lower, codeFault, callFault}
+use Rattle.code.specs.Fault.{sight, faultFor, isRemoval, assignmentAt, commandAt, actionAt, countFault, actionsAt, numberOf, faultyLine, judged, lineParts, bodyAt, bodyFrom, restAt}
+use Rattle.tokens.specs.SingleFault.{lower, codeFault, callFault, opensTooMany}
+use Rattle.values.specs.Choice.{both, chosen, refused}
 use Rattle.tokens.proofs.Between.{tested}
-use Rattle.code.proofs.Shown.{fault-ends, fault-read, is-end, is-read, stays, behind}
+use Rattle.code.specs.Seen.{nextOf, faultOf, faulted}
+use Rattle.code.specs.Brackets.{Plain, Good, Joined}
+use Rattle.code.proofs.SeenLaws.{Made, faulted-stop, faulted-read}
+use Rattle.code.proofs.PassLaws.{plain-high}
 
 -- ---- actions
 
 pub removal : (s : List ℕ) (p w t : ℕ) → w ≡ getD s p 0 → t ≡ getD s (p + 4) 0 → isFifo w && (isIndexed s w p && (eqb (indexAt s w p) 0 && not (isFactor t || isTerm t))) ≡ isRemoval s p
 unfolding isRemoval
 removal s p w t e f = rw (e, f)
+
+-- it stands there as FIFO and its index
+pub removal-tokens : (s : List ℕ) (p : ℕ) → isRemoval s p ≡ true → Plain (getD s p 0) × (isIndexed s (getD s p 0) p ≡ true)
+unfolding isRemoval
+removal-tokens s p h =
+    let a = both (isFifo (getD s p 0)) _ h in
+    (plain-high FIFO1 FIFO4 (getD s p 0) (omega arith) refl (a .0), both (isIndexed s (getD s p 0) p) _ (a .1) .0)
 
 -- M=, or SETAL, LOCK or UNLOCK: the word w at p, by the test that told
 module _ (s : List ℕ) (kw w p : ℕ) where
@@ -95,8 +105,8 @@ acts-none s kw k t n f p l =
     let z : t ≡ 0 = omega arith in
     rw z
 
--- one turn over the actions, where a is what the next of them gave
-module _ (s : List ℕ) (kw k t n f p : ℕ) (l : 0 < t) (a : Look) (e : a ≡ shownFault (actionAt s kw k p)) where
+-- one turn over the actions, where the next of them gives x
+module _ (s : List ℕ) (kw k t n f p : ℕ) (l : 0 < t) where
   -- what follows an action
   after : ℕ → ℕ → ℕ → Read ℕ
   after j g q = elim (eqb (getD s q 0) END) [ true ↦ read (lower (lower f g) (countFault (n + 1))) q | false ↦ actionsAt s kw k j (n + 1) (lower f g) q ]
@@ -109,22 +119,49 @@ module _ (s : List ℕ) (kw k t n f p : ℕ) (l : 0 < t) (a : Look) (e : a ≡ s
       go zero m = absurd (omega arith)
       go (suc j) m = let q : suc j - 1 ≡ j = omega arith in rw q
 
-  pub acts-stop : not (a .good) ≡ true → a ≡ shownFault (actionsAt s kw k t n f p)
-  acts-stop g = stays a (actionAt s kw k p) e (after (t - 1)) g ∙ ap shownFault turn
+  acts-stop : actionAt s kw k p ≡ ends 5 → ends 5 ≡ actionsAt s kw k t n f p
+  acts-stop e = ap (λ (x : Read ℕ). then x (after (t - 1))) (sym e) ∙ turn
 
-  module _ (g : not (a .good) ≡ false) where
-    reaches : after (t - 1) (a .fault) (a .next) ≡ actionsAt s kw k t n f p
-    reaches = behind a (actionAt s kw k p) e (after (t - 1)) g ∙ turn
+  module _ (g q : ℕ) (e : actionAt s kw k p ≡ read g q) where
+    reaches : after (t - 1) g q ≡ actionsAt s kw k t n f p
+    reaches = ap (λ (x : Read ℕ). then x (after (t - 1))) (sym e) ∙ turn
 
-    pub acts-end : getD s (a .next) 0 ≡ 0 → _≡_ {A = Look} (record { good = true; fault = lower (lower f (a .fault)) (countFault (n + 1)); next = a .next }) (shownFault (actionsAt s kw k t n f p))
+    acts-end : getD s q 0 ≡ 0 → read (lower (lower f g) (countFault (n + 1))) q ≡ actionsAt s kw k t n f p
     unfolding after
-    acts-end z =
-        let h : after (t - 1) (a .fault) (a .next) ≡ read (lower (lower f (a .fault)) (countFault (n + 1))) (a .next) = rw (after, eq-eqb _ _ z) in
-        ap shownFault (sym h ∙ reaches)
+    acts-end z = sym (rw (after, eq-eqb _ _ z)) ∙ reaches
 
-    pub acts-on : (getD s (a .next) 0 ≡ 0 → ⊥) → actionsAt s kw k (t - 1) (n + 1) (lower f (a .fault)) (a .next) ≡ actionsAt s kw k t n f p
+    acts-on : (getD s q 0 ≡ 0 → ⊥) → actionsAt s kw k (t - 1) (n + 1) (lower f g) q ≡ actionsAt s kw k t n f p
     unfolding after
     acts-on ne = sym (rw (after, ne-eqb _ _ ne)) ∙ reaches
+
+fault-in : Read ℕ → ℕ
+fault-in (read f q) = f
+fault-in (ends k) = k
+
+-- the same, where `low` tells of what was read before, up to p, a of the next action, and x of both, up to i
+module _ (s : List ℕ) (kw k t n low a x : ℕ) {p i : ℕ} {whole : Read ℕ} (l : 0 < t) (c : p ≡ nextOf low) (g : Good low) (b : then (faulted low) (actionsAt s kw k t n) ≡ whole) (e : faulted a ≡ actionAt s kw k p) (j : faulted x ≡ then (faulted a) (λ g q. read (lower (faultOf low) g) q)) (v : Joined low a x) (h : i ≡ nextOf x) where
+  begun : actionsAt s kw k t n (faultOf low) p ≡ whole
+  begun = ap (λ (r : Read ℕ). then r (actionsAt s kw k t n)) (sym (faulted-read low c (λ z. g (sym c ∙ z)))) ∙ b
+
+  pub turn-stops : i ≡ 0 → ends 5 ≡ whole
+  turn-stops z = acts-stop s kw k t n (faultOf low) p l (sym e ∙ faulted-stop a (h ∙ v .next) z) ∙ begun
+
+  module _ (o : i ≡ 0 → ⊥) where
+    next-action : faulted a ≡ read (faultOf a) i
+    next-action = faulted-read a (h ∙ v .next) o
+
+    all-so-far : faulted x ≡ read (lower (faultOf low) (faultOf a)) i
+    all-so-far = j ∙ ap (λ (r : Read ℕ). then r (λ g q. read (lower (faultOf low) g) q)) next-action
+
+    lowest-so-far : faultOf x ≡ lower (faultOf low) (faultOf a)
+    unfolding fault-in
+    lowest-so-far = ap fault-in (sym (faulted-read x h o) ∙ all-so-far)
+
+    pub turn-ends : getD s i 0 ≡ 0 → read (lower (faultOf x) (countFault (n + 1))) i ≡ whole
+    turn-ends z = ap (λ (f : ℕ). read (lower f (countFault (n + 1))) i) lowest-so-far ∙ acts-end s kw k t n (faultOf low) p l (faultOf a) i (sym e ∙ next-action) z ∙ begun
+
+    pub turn-goes : (getD s i 0 ≡ 0 → ⊥) → then (faulted x) (actionsAt s kw k (t - 1) (n + 1)) ≡ whole
+    turn-goes ne = ap (λ (r : Read ℕ). then r (actionsAt s kw k (t - 1) (n + 1))) all-so-far ∙ acts-on s kw k t n (faultOf low) p l (faultOf a) i (sym e ∙ next-action) ne ∙ begun
 
 -- ---- a line
 
@@ -137,24 +174,49 @@ module _ (s : List ℕ) (p kw cp b : ℕ) where
   unfolding lineParts
   good-parts e = refl
 
-  module _ (a : Look) where
-    pub parts-end : not (a .good) ≡ true → lineParts s p kw cp b (shownRead a) ≡ faultyLine (a .fault)
+  -- a tells of all that was read
+  module _ (a : ℕ) {q : ℕ} (h : q ≡ nextOf a) where
+    pub parts-end : q ≡ 0 → lineParts s p kw cp b (faulted a) ≡ faultyLine 5
     unfolding lineParts
-    parts-end g = ap (lineParts s p kw cp b) (fault-ends a g)
+    parts-end g = ap (lineParts s p kw cp b) (faulted-stop a h g)
 
-    module _ (g : not (a .good) ≡ false) where
-      pub parts-faulty : (a .fault ≡ 0 → ⊥) → lineParts s p kw cp b (shownRead a) ≡ faultyLine (a .fault)
-      parts-faulty ne = ap (lineParts s p kw cp b) (fault-read a g) ∙ faulty-parts _ _ ne
+    module _ (g : q ≡ 0 → ⊥) {f : ℕ} (m : f ≡ faultOf a) where
+      pub parts-faulty : (f ≡ 0 → ⊥) → lineParts s p kw cp b (faulted a) ≡ faultyLine f
+      parts-faulty ne = ap (lineParts s p kw cp b) (faulted-read a h g ∙ ap (λ (x : ℕ). read x q) (sym m)) ∙ faulty-parts _ _ ne
 
-      pub parts-good : {n : ℕ} {i : Bool} → a .fault ≡ 0 → n ≡ numberOf (whole (getD s (p + 2) 0)) → i ≡ eqb (getD s p 0) IDS → _≡_ {A = Line} (record { fault = 0; number = n; ids = i; keyword = kw; condition = cp; actions = b; end = a .next }) (lineParts s p kw cp b (shownRead a))
-      parts-good z e f = rw (e, f) (sym (ap (lineParts s p kw cp b) (fault-read a g) ∙ (ap (λ (x : ℕ). lineParts s p kw cp b (read x (a .next))) z ∙ good-parts (a .next))))
+      pub parts-good : {n : ℕ} {i : Bool} → f ≡ 0 → n ≡ numberOf (whole (getD s (p + 2) 0)) → i ≡ eqb (getD s p 0) IDS → _≡_ {A = Line} (record { fault = 0; number = n; ids = i; keyword = kw; condition = cp; actions = b; end = q }) (lineParts s p kw cp b (faulted a))
+      parts-good z e r = rw (e, r) (sym (ap (lineParts s p kw cp b) (faulted-read a h g ∙ ap (λ (x : ℕ). read x q) (sym m ∙ z)) ∙ good-parts q))
 
--- behind a keyword kw, where a is what its condition gave
-module _ (s : List ℕ) (p f kw : ℕ) (a : Look) {o : Bool} (k : kw ≡ getD s (p + 3) 0) (i : o ≡ isKeyword kw) (h : not o ≡ false) (e : a ≡ shownFault (faultFor true (expressionAt s sight 4130 (p + 4)))) where
-  pub rest-end : {r : Line} → not (a .good) ≡ true → r ≡ faultyLine (a .fault) → r ≡ restAt s p f
+-- 4 comes first
+module _ (s : List ℕ) (p : ℕ) (l : Line) {o : Bool} (e : o ≡ opensTooMany (drop p s) 0) where
+  pub judged-deep : o ≡ true → faultyLine 4 ≡ judged s p l
+  judged-deep h = sym (chosen _ _ _ (sym e ∙ h))
+
+  pub judged-not : o ≡ false → l ≡ judged s p l
+  judged-not h = sym (refused _ _ _ (sym e ∙ h))
+
+-- DO stands at q, or does not
+module _ (s : List ℕ) (p kw cp f q : ℕ) {t : ℕ} (e : t ≡ getD s q 0) where
+  pub body-none : (t ≡ DO → ⊥) → faultyLine 5 ≡ bodyAt s p kw cp f q
+  unfolding bodyAt
+  body-none h = sym (simp (bodyAt, ne-eqb (getD s q 0) DO (λ z. h (e ∙ z))))
+
+  -- w tells of what was read up to the place behind DO, x of the actions too
+  pub body-does : t ≡ DO → {d w : ℕ} (x : ℕ) → Made f d (q + 1) w → faulted x ≡ actionsAt s kw 4130 4130 0 (faultOf w) (nextOf w) → lineParts s p kw cp (q + 1) (faulted x) ≡ bodyAt s p kw cp f q
+  unfolding bodyAt
+  body-does h {w = w} x k j =
+      ap (lineParts s p kw cp (q + 1)) (j ∙ ap (λ (g : ℕ). actionsAt s kw 4130 4130 0 g (nextOf w)) (k .fault) ∙ ap (λ (r : ℕ). actionsAt s kw 4130 4130 0 f r) (k .next)) ∙ sym (simp (bodyAt, eq-eqb (getD s q 0) DO (sym e ∙ h)))
+
+-- behind the head: no keyword, or the keyword kw
+module _ (s : List ℕ) (p f kw : ℕ) {o : Bool} (k : kw ≡ getD s (p + 3) 0) (i : o ≡ isKeyword kw) where
+  pub rest-plain : not o ≡ true → bodyAt s p 0 0 f (p + 3) ≡ restAt s p f
   unfolding restAt
-  rest-end g j = simp (restAt, tested isKeyword k i (not-false o h), is-end a (faultFor true (expressionAt s sight 4130 (p + 4))) e g) j
+  rest-plain h = sym (simp (restAt, tested isKeyword k i (not-true o h)))
 
-  pub rest-goes : {n : ℕ} {r : Line} → not (a .good) ≡ false → n ≡ lower f (a .fault) → r ≡ bodyAt s p kw (p + 4) n (a .next) → r ≡ restAt s p f
+  pub rest-keyword : not o ≡ false → bodyFrom s p kw (p + 4) (then (faultFor true (expressionAt s sight 4130 (p + 4))) (λ g q. read (lower f g) q)) ≡ restAt s p f
   unfolding restAt
-  rest-goes g q j = simp (restAt, tested isKeyword k i (not-false o h), is-read a (faultFor true (expressionAt s sight 4130 (p + 4))) e g) (rw (q, k) at j)
+  rest-keyword h = go (faultFor true (expressionAt s sight 4130 (p + 4))) refl
+    where
+      go : (x : Read ℕ) → faultFor true (expressionAt s sight 4130 (p + 4)) ≡ x → bodyFrom s p kw (p + 4) (then x (λ g q. read (lower f g) q)) ≡ restAt s p f
+      go (read g q) e = sym (simp (restAt, tested isKeyword k i (not-false o h), e) (rw k refl))
+      go (ends n) e = sym (simp (restAt, tested isKeyword k i (not-false o h), e))

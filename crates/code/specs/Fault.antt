@@ -1,12 +1,11 @@
 -- Faults 4 to 10 of a line, from its tokens, and where its parts lie (document 01, "Lines of text" and "Codes"). Definitions only.
 use mathlib.Core.Bool.{Bool, true, false, cond, not, _&&_, _||_}
 use mathlib.Core.List.{List}
-use Prim.Native.Nat.{ℕ, zero, suc, _+_, _-_}
+use Prim.Native.Nat.{ℕ, zero, suc, _+_}
 use lib.Dec.{eqb, leb}
 use lib.ListN.{getD, drop}
-use Rattle.code.specs.declared.check.Look.{Look}
 use Rattle.code.specs.declared.check.Line.{Line}
-use Rattle.tokens.specs.Token.{setSize, END, EQUALS, MINUS, OPEN, CLOSE, IDS, DO, M, SETAL, isVariable, isFifo, isDrive, isCall, isKeyword, isId, isFactor, isTerm, isLogic, isWhole, whole, maxActions}
+use Rattle.tokens.specs.Token.{setSize, END, EQUALS, MINUS, OPEN, CLOSE, IDS, DO, M, isVariable, isFifo, isDrive, isCall, isKeyword, isId, isFactor, isTerm, isLogic, isWhole, whole, maxActions}
 use Rattle.tokens.specs.Reading.{good, Read, read, ends, then, Meaning, isIndexed, indexAt, sumAt, expressionAt}
 use Rattle.tokens.specs.SingleFault.{callFault, codeFault, idFault, lower, notInGrammar, numberFault, opensTooMany, readFault, tooDeep, tooMany, unless, wantingFault, writeFault}
 
@@ -53,14 +52,6 @@ signedSight t a q = read (signed t a) q
 unfoldable pub signsBehind : List ℕ → ℕ → ℕ → ℕ
 signsBehind s zero p = 0
 signsBehind s (suc k) p = elim (eqb (getD s (p + 1) 0) MINUS) [ true ↦ 1 + signsBehind s k (p + 1) | false ↦ 0 ]
-
--- how the code answers, and what such an answer says
-abbrev pub shownFault : Read ℕ → Look
-shownFault (read f q) = record { good = true; fault = f; next = q }
-shownFault (ends k) = record { good = false; fault = k; next = 0 }
-
-abbrev pub shownRead : Look → Read ℕ
-shownRead l = elim (l .good) [ true ↦ read (l .fault) (l .next) | false ↦ ends (l .fault) ]
 
 -- ---- 5 to 9 in an action
 
@@ -150,6 +141,11 @@ module _ (s : List ℕ) where
         | false ↦ faultyLine notInGrammar
       ]
 
+  -- the same behind what was read, if that is in the grammar
+  abbrev pub bodyFrom : ℕ → ℕ → ℕ → Read ℕ → Line
+  bodyFrom p kw cp (read f q) = bodyAt p kw cp f q
+  bodyFrom p kw cp (ends k) = faultyLine k
+
   -- behind the head: DO, or a keyword, an expression that is a yes/no, and DO
   unfoldable pub restAt : ℕ → ℕ → Line
   restAt p f =
@@ -162,14 +158,14 @@ module _ (s : List ℕ) where
         | false ↦ bodyAt p 0 0 f (p + 3)
       ]
 
+  -- the line that begins at p, of which 5 to 10 tell l: 4 comes first
+  abbrev pub judged : ℕ → Line → Line
+  judged p l = elim (opensTooMany (drop p s) 0) [ true ↦ faultyLine tooDeep | false ↦ l ]
+
   -- the line that begins at p: its lowest fault of 4 to 10, or its parts
   unfoldable pub lineAt : ℕ → Line
   lineAt p =
-      elim (opensTooMany (drop p s) 0) [
-        | true ↦ faultyLine tooDeep
-        | false ↦
-            elim (isId (token p) && (eqb (token (p + 1)) EQUALS && isWhole (token (p + 2)))) [
-              | true ↦ restAt p (idFault (whole (token (p + 2))))
-              | false ↦ faultyLine notInGrammar
-            ]
-      ]
+      judged p (elim (isId (token p) && (eqb (token (p + 1)) EQUALS && isWhole (token (p + 2)))) [
+        | true ↦ restAt p (idFault (whole (token (p + 2))))
+        | false ↦ faultyLine notInGrammar
+      ])

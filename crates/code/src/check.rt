@@ -2,18 +2,26 @@
 //
 // The walk goes by recursive descent over the tokens; `left` is the count of tokens left. A fault is document 01's code, 0 for none.
 ghost use mathlib.Core.Path.{_≡_};
-ghost use mathlib.Core.Bool.{true, false, _||_};
+ghost use mathlib.Core.Bool.{true, false};
 ghost use Prim.Native.Nat.{_+_, _<_, _≤_};
-ghost use Rattle.tokens.specs.Token.{PLUS, OVER, between, isFactor, isTerm, isCompare, isLogic, setSize};
-ghost use Rattle.tokens.specs.Reading.{read, ends, then, isRow, more, readOperand, readProduct, readSum, readRest, readExpression, readClose, readVariable, readTruth};
-ghost use Rattle.code.specs.Seen.{sightOf, lowest, seen};
-ghost use Rattle.code.specs.Fault.{joinSights, sight, signedSight, signsBehind, shownFault, shownRead, faultFor, isRemoval, assignedAt, assignmentAt, commandAt, actionAt, countFault, actionsAt, numberOf, faultyLine, lineParts, bodyAt, restAt, lineAt};
+ghost use lib.ListN.{drop};
+ghost use Rattle.tokens.specs.Token.{PLUS, OVER, between, isFactor, isTerm, setSize};
+ghost use Rattle.tokens.specs.Reading.{read, then, isRow, more, readOperand, readProduct, readSum, readRest, readExpression, readClose, readVariable, readTruth};
+ghost use Rattle.tokens.specs.SingleFault.{lower, notInGrammar, opensTooMany};
+ghost use Rattle.code.specs.Seen.{nextOf, faultOf, sightOf, lowest, seen, faulted};
+ghost use Rattle.code.specs.Brackets.{Plain, Passes, Good, Passed, Onward, InBrackets, Level, Joined};
+ghost use Rattle.code.specs.Fault.{sight, signedSight, signsBehind, isRemoval, assignedAt, assignmentAt, commandAt, actionAt, countFault, actionsAt, numberOf, faultyLine, judged, lineParts, bodyFrom, restAt, lineAt};
+use crate::seen::LEVEL;
 use crate::seen::NOTHING;
+use crate::seen::deeper_of;
+use crate::seen::depth_of;
 use crate::seen::fault_of;
+use crate::seen::is_faultless;
 use crate::seen::next_of;
 use crate::seen::number_seen;
 use crate::seen::truth_of;
 use crate::seen::truth_seen;
+use tokens::fault::BRACKETS;
 use tokens::fault::NOT_IN_GRAMMAR;
 use tokens::fault::TOO_DEEP;
 use tokens::fault::TOO_MANY;
@@ -60,12 +68,8 @@ use tokens::token::is_whole;
 use tokens::token::token_at;
 use tokens::token::whole_of;
 
-// What the walk sees of actions: the lowest fault in them and the place behind them; or, where it is not good, that they are not in the grammar.
-pub struct Look {
-    pub good: bool,
-    pub fault: u8,
-    pub next: usize,
-}
+// As many brackets as may stand open.
+const DEEPEST: u8 = BRACKETS as u8;
 
 // The parts of a line: its number, whether it is IDS, its keyword (0: none), where its condition and its actions begin and where it ends. A line with a
 // fault has none.
@@ -85,59 +89,57 @@ pub struct Line {
 fn lowest_of(wanted: bool, a: u64, b: u64) -> u8
     ensures { λ x. ⌜ x ≡ lowest wanted (sightOf a) (sightOf b) ⌝ }
 {
+    if is_faultless(wanted, a) {
+        if is_faultless(wanted, b) {
+            return 0;
+        }
+    }
     let kinds = lower_of(wanting(wanted, truth_of(a)), wanting(wanted, truth_of(b)));
     lower_of(kinds, lower_of(fault_of(a), fault_of(b)))
 }
 
-// A sight, the operator + - * or / behind it, and what is seen behind that.
-fn join_numbers(op: u32, a: u64, b: u64) -> u64
-    requires { ⌜ isFactor op || isTerm op ≡ true ⌝ }
-    ensures { λ x. ⌜ seen x ≡ then (seen b) (λ y q. read (joinSights op (sightOf a) y) q) ⌝ }
+// Two sights and an operator between them that wants yes/no (true) or numbers (false), and gives the one or the other.
+fn join(wanted: bool, gives: bool, a: u64, b: u64) -> u64
+    ensures { λ x. ⌜ (seen x ≡ then (seen b) (λ y q. read (record { truth = gives; fault = lowest wanted (sightOf a) y }) q)) × Joined a b x ⌝ }
 {
     let i = next_of(b);
     if i == 0 {
         return b;
     }
-    number_seen(lowest_of(false, a, b), i)
+    let fault = lowest_of(wanted, a, b);
+    if gives {
+        return truth_seen(fault, deeper_of(a, b), i);
+    }
+    number_seen(fault, deeper_of(a, b), i)
 }
 
-// The same of a comparison.
-fn join_compare(op: u32, a: u64, b: u64) -> u64
-    requires { ⌜ isCompare op ≡ true ⌝ }
-    ensures { λ x. ⌜ seen x ≡ then (seen b) (λ y q. read (joinSights op (sightOf a) y) q) ⌝ }
+// The lower fault of two sights, where their kinds do not count.
+fn join_faults(a: u64, b: u64) -> u64
+    ensures { λ x. ⌜ (faulted x ≡ then (faulted b) (λ g q. read (lower (faultOf a) g) q)) × Joined a b x ⌝ }
 {
     let i = next_of(b);
     if i == 0 {
         return b;
     }
-    truth_seen(lowest_of(false, a, b), i)
+    number_seen(lower_of(fault_of(a), fault_of(b)), deeper_of(a, b), i)
 }
 
-// The same of AND, OR, XOR.
-fn join_row(op: u32, a: u64, b: u64) -> u64
-    requires { ⌜ isLogic op ≡ true ⌝ }
-    ensures { λ x. ⌜ seen x ≡ then (seen b) (λ y q. read (joinSights op (sightOf a) y) q) ⌝ }
+// What was seen where a yes/no (true) or a number (false) is wanted, as NOT and - want it, which give what they want.
+fn as_wanted(truth: bool, a: u64) -> u64
+    ensures { λ x. ⌜ (seen x ≡ then (seen a) (signedSight truth)) × Level a x ⌝ }
 {
-    let i = next_of(b);
-    if i == 0 {
-        return b;
+    if is_faultless(truth, a) {
+        return a;
     }
-    truth_seen(lowest_of(true, a, b), i)
-}
-
-// What stands behind a sign: a number behind -, a yes/no behind NOT.
-fn signed(truth: bool, a: u64) -> u64
-    ensures { λ x. ⌜ seen x ≡ then (seen a) (signedSight truth) ⌝ }
-{
     let i = next_of(a);
     if i == 0 {
         return a;
     }
     let fault = lower_of(wanting(truth, truth_of(a)), fault_of(a));
     if truth {
-        return truth_seen(fault, i);
+        return truth_seen(fault, depth_of(a), i);
     }
-    number_seen(fault, i)
+    number_seen(fault, depth_of(a), i)
 }
 
 // How many more minus signs stand directly behind the one at place `at`, at most `most`: behind one more the check sees the same.
@@ -155,9 +157,9 @@ fn signs_behind(code: &[u32; SIZE], at: usize, most: usize) -> usize
     n
 }
 
-// What was seen in brackets, if they are closed behind it.
+// What was seen in brackets, if they are closed behind it: one bracket deeper, where that is not too deep already.
 fn closed(code: &[u32; SIZE], a: u64) -> u64
-    ensures { λ x. ⌜ seen x ≡ then (seen a) (readClose (now (code .entry)) sight) ⌝ }
+    ensures { λ x. ⌜ (seen x ≡ then (seen a) (readClose (now (code .entry)) sight)) × InBrackets (now (code .entry)) a x ⌝ }
 {
     let i = next_of(a);
     if i == 0 {
@@ -166,29 +168,32 @@ fn closed(code: &[u32; SIZE], a: u64) -> u64
     if token_at(code, i) != CLOSE {
         return NOTHING;
     }
-    a + 1
+    if DEEPEST < depth_of(a) {
+        return a + 1;
+    }
+    a + LEVEL + 1
 }
 
 fn variable(code: &[u32; SIZE], w: u32, at: usize) -> u64
     requires { ⌜ at < setSize ⌝ }
-    ensures { λ x. ⌜ seen x ≡ readVariable (now (code .entry)) sight w at ⌝ }
+    ensures { λ x. ⌜ (seen x ≡ readVariable (now (code .entry)) sight w at) × Passed (now (code .entry)) (at + 1) x ⌝ }
 {
     if !is_indexed(code, w, at) {
         return NOTHING;
     }
-    number_seen(read_fault(w, index_at(code, w, at)), at + 4)
+    number_seen(read_fault(w, index_at(code, w, at)), 0, at + 4)
 }
 
 // TRUE, FALSE or nothing of the grammar.
 fn truth(code: &[u32; SIZE], t: u32, at: usize) -> u64
     requires { ⌜ ((t ≡ 0 → ⊥) → at < setSize) ⌝ }
-    ensures { λ x. ⌜ seen x ≡ readTruth (now (code .entry)) sight t at ⌝ }
+    ensures { λ x. ⌜ (seen x ≡ readTruth (now (code .entry)) sight t at) × ((Good x → Plain t) × Passed (now (code .entry)) (at + 1) x) ⌝ }
 {
     if t == TRUE {
-        return truth_seen(0, at + 1);
+        return truth_seen(0, 0, at + 1);
     }
     if t == FALSE {
-        return truth_seen(0, at + 1);
+        return truth_seen(0, 0, at + 1);
     }
     NOTHING
 }
@@ -203,17 +208,18 @@ fn is_arithmetic(t: u32) -> bool
     t <= OVER
 }
 
-// ---- the walk over an expression: an operand that no operator follows goes up in one step, and what joins stands apart, so that a bracket costs two calls
+// ---- the walk over an expression: an operand that no operator follows goes up in one step, first of all before a ), and what joins stands apart, so that a bracket
+// costs two calls
 
 fn operand(code: &[u32; SIZE], at: usize, left: usize) -> u64
-    ensures { λ x. ⌜ seen x ≡ readOperand (now (code .entry)) sight left at ⌝ }
+    ensures { λ x. ⌜ (seen x ≡ readOperand (now (code .entry)) sight left at) × Passed (now (code .entry)) at x ⌝ }
 {
     if left == 0 {
         return NOTHING;
     }
     let t = token_at(code, at);
     if NUMBER <= t {
-        return number_seen(number_fault(t - NUMBER), at + 1);
+        return number_seen(number_fault(t - NUMBER), 0, at + 1);
     }
     if is_variable(t) {
         return variable(code, t, at);
@@ -223,17 +229,17 @@ fn operand(code: &[u32; SIZE], at: usize, left: usize) -> u64
     }
     if t == MINUS {
         let n = signs_behind(code, at, left - 1);
-        return signed(false, operand(code, at + n + 1, left - 1 - n));
+        return as_wanted(false, operand(code, at + n + 1, left - 1 - n));
     }
     if t == NOT {
-        return signed(true, operand(code, at + 1, left - 1));
+        return as_wanted(true, operand(code, at + 1, left - 1));
     }
     truth(code, t, at)
 }
 
 // What was seen, and as many factors as follow.
 fn factors(code: &[u32; SIZE], w: u64, left: usize) -> u64
-    ensures { λ x. ⌜ seen x ≡ then (seen w) (more (now (code .entry)) sight isFactor (readOperand (now (code .entry)) sight left) left) ⌝ }
+    ensures { λ x. ⌜ (seen x ≡ then (seen w) (more (now (code .entry)) sight isFactor (readOperand (now (code .entry)) sight left) left)) × Onward (now (code .entry)) w x ⌝ }
 {
     let mut a = w;
     let mut turns = left;
@@ -246,7 +252,7 @@ fn factors(code: &[u32; SIZE], w: u64, left: usize) -> u64
         if !is_factor(t) {
             return a;
         }
-        a = join_numbers(t, a, operand(code, i + 1, left));
+        a = join(false, false, a, operand(code, i + 1, left));
         turns -= 1;
     }
     a
@@ -254,7 +260,7 @@ fn factors(code: &[u32; SIZE], w: u64, left: usize) -> u64
 
 // What was seen, and as many terms as follow.
 fn terms(code: &[u32; SIZE], w: u64, left: usize) -> u64
-    ensures { λ x. ⌜ seen x ≡ then (seen w) (more (now (code .entry)) sight isTerm (readProduct (now (code .entry)) sight (readOperand (now (code .entry)) sight left) left) left) ⌝ }
+    ensures { λ x. ⌜ (seen x ≡ then (seen w) (more (now (code .entry)) sight isTerm (readProduct (now (code .entry)) sight (readOperand (now (code .entry)) sight left) left) left)) × Onward (now (code .entry)) w x ⌝ }
 {
     let mut a = w;
     let mut turns = left;
@@ -267,14 +273,19 @@ fn terms(code: &[u32; SIZE], w: u64, left: usize) -> u64
         if !is_term(t) {
             return a;
         }
-        a = join_numbers(t, a, factors(code, operand(code, i + 1, left), left));
+        a = join(
+            false,
+            false,
+            a,
+            factors(code, operand(code, i + 1, left), left),
+        );
         turns -= 1;
     }
     a
 }
 
 fn sum(code: &[u32; SIZE], at: usize, left: usize) -> u64
-    ensures { λ x. ⌜ seen x ≡ readSum (now (code .entry)) sight (readOperand (now (code .entry)) sight left) left at ⌝ }
+    ensures { λ x. ⌜ (seen x ≡ readSum (now (code .entry)) sight (readOperand (now (code .entry)) sight left) left at) × Passed (now (code .entry)) at x ⌝ }
 {
     let a = operand(code, at, left);
     let i = next_of(a);
@@ -289,7 +300,7 @@ fn sum(code: &[u32; SIZE], at: usize, left: usize) -> u64
 
 // What was seen, and the row of the operator `first` behind it.
 fn row(code: &[u32; SIZE], first: u32, w: u64, left: usize) -> u64
-    ensures { λ x. ⌜ seen x ≡ then (seen w) (more (now (code .entry)) sight (isRow first) (readSum (now (code .entry)) sight (readOperand (now (code .entry)) sight left) left) left) ⌝ }
+    ensures { λ x. ⌜ (seen x ≡ then (seen w) (more (now (code .entry)) sight (isRow first) (readSum (now (code .entry)) sight (readOperand (now (code .entry)) sight left) left) left)) × Onward (now (code .entry)) w x ⌝ }
 {
     let mut a = w;
     let mut turns = left;
@@ -302,7 +313,7 @@ fn row(code: &[u32; SIZE], first: u32, w: u64, left: usize) -> u64
         if !is_row(first, t) {
             return a;
         }
-        a = join_row(t, a, sum(code, i + 1, left));
+        a = join(true, true, a, sum(code, i + 1, left));
         turns -= 1;
     }
     a
@@ -310,7 +321,7 @@ fn row(code: &[u32; SIZE], first: u32, w: u64, left: usize) -> u64
 
 // A sum that was seen, and the comparison or the row behind it.
 fn compared(code: &[u32; SIZE], a: u64, left: usize) -> u64
-    ensures { λ x. ⌜ seen x ≡ then (seen a) (readRest (now (code .entry)) sight (readOperand (now (code .entry)) sight left) left) ⌝ }
+    ensures { λ x. ⌜ (seen x ≡ then (seen a) (readRest (now (code .entry)) sight (readOperand (now (code .entry)) sight left) left)) × Onward (now (code .entry)) a x ⌝ }
 {
     let i = next_of(a);
     if i == 0 {
@@ -318,7 +329,7 @@ fn compared(code: &[u32; SIZE], a: u64, left: usize) -> u64
     }
     let t = token_at(code, i);
     if is_compare(t) {
-        return join_compare(t, a, sum(code, i + 1, left));
+        return join(false, true, a, sum(code, i + 1, left));
     }
     if !is_logic(t) {
         return a;
@@ -327,14 +338,18 @@ fn compared(code: &[u32; SIZE], a: u64, left: usize) -> u64
 }
 
 fn expression(code: &[u32; SIZE], at: usize, left: usize) -> u64
-    ensures { λ x. ⌜ seen x ≡ readExpression (now (code .entry)) sight (readOperand (now (code .entry)) sight left) left at ⌝ }
+    ensures { λ x. ⌜ (seen x ≡ readExpression (now (code .entry)) sight (readOperand (now (code .entry)) sight left) left at) × Passed (now (code .entry)) at x ⌝ }
 {
     let a = operand(code, at, left);
     let i = next_of(a);
     if i == 0 {
         return a;
     }
-    if !is_arithmetic(token_at(code, i)) {
+    let t = token_at(code, i);
+    if t == CLOSE {
+        return a;
+    }
+    if !is_arithmetic(t) {
         return compared(code, a, left);
     }
     compared(code, terms(code, factors(code, a, left), left), left)
@@ -363,118 +378,72 @@ pub fn is_removal(code: &[u32; SIZE], at: usize) -> bool
     !is_term(t)
 }
 
-fn stopped() -> Look
-    ensures { λ x. ⌜ x ≡ shownFault (ends 5) ⌝ }
-{
-    Look {
-        good: false,
-        fault: NOT_IN_GRAMMAR,
-        next: 0,
-    }
-}
-
-// An expression where a yes/no (true) or a number (false) is wanted.
-fn fault_for(wanted: bool, a: u64) -> Look
-    ensures { λ x. ⌜ x ≡ shownFault (faultFor wanted (seen a)) ⌝ }
-{
-    let i = next_of(a);
-    if i == 0 {
-        return stopped();
-    }
-    Look {
-        good: true,
-        fault: lower_of(wanting(wanted, truth_of(a)), fault_of(a)),
-        next: i,
-    }
-}
-
 // The right side of an assignment to a variable.
-fn assigned(code: &[u32; SIZE], at: usize) -> Look
+fn assigned(code: &[u32; SIZE], at: usize) -> u64
     requires { ⌜ at < 4136 ⌝ }
-    ensures { λ x. ⌜ x ≡ shownFault (assignedAt (now (code .entry)) setSize at) ⌝ }
+    ensures { λ x. ⌜ (faulted x ≡ assignedAt (now (code .entry)) setSize at) × Passed (now (code .entry)) at x ⌝ }
 {
     if is_removal(code, at) {
-        return Look {
-            good: true,
-            fault: 0,
-            next: at + 4,
-        };
+        return number_seen(0, 0, at + 4);
     }
-    fault_for(false, sum(code, at, SIZE))
+    as_wanted(false, sum(code, at, SIZE))
 }
 
 // An action that begins with a word, its index and =.
-fn assignment(code: &[u32; SIZE], w: u32, at: usize) -> Look
+fn assignment(code: &[u32; SIZE], w: u32, at: usize) -> u64
     requires { ⌜ at < setSize ⌝ }
-    ensures { λ x. ⌜ x ≡ shownFault (assignmentAt (now (code .entry)) setSize w at) ⌝ }
+    ensures { λ x. ⌜ (faulted x ≡ assignmentAt (now (code .entry)) setSize w at) × ((Good x → Plain w) × Passed (now (code .entry)) (at + 5) x) ⌝ }
 {
     if is_variable(w) {
-        let a = assigned(code, at + 5);
-        let good = a.good;
-        if !good {
-            return a;
-        }
-        let fault = lower_of(write_fault(w, index_at(code, w, at)), a.fault);
-        return Look {
-            good: true,
-            fault: fault,
-            next: a.next,
-        };
+        let a = number_seen(write_fault(w, index_at(code, w, at)), 0, at);
+        return join_faults(a, assigned(code, at + 5));
     }
     if is_drive(w) {
-        return fault_for(false, sum(code, at + 5, SIZE));
+        return as_wanted(false, sum(code, at + 5, SIZE));
     }
-    stopped()
+    NOTHING
 }
 
 // M= and a number; or SETAL, LOCK or UNLOCK and a number in brackets.
-fn command(code: &[u32; SIZE], keyword: u32, w: u32, at: usize) -> Look
+fn command(code: &[u32; SIZE], keyword: u32, w: u32, at: usize) -> u64
     requires { ⌜ at < setSize ⌝ }
-    ensures { λ x. ⌜ x ≡ shownFault (commandAt (now (code .entry)) keyword w at) ⌝ }
+    ensures { λ x. ⌜ (faulted x ≡ commandAt (now (code .entry)) keyword w at) × ((Good x → Plain w) × Passed (now (code .entry)) (at + 1) x) ⌝ }
 {
     let n = token_at(code, at + 2);
     if !is_whole(n) {
-        return stopped();
+        return NOTHING;
     }
     let sign = token_at(code, at + 1);
     if w == M {
         if sign != EQUALS {
-            return stopped();
+            return NOTHING;
         }
-        return Look {
-            good: true,
-            fault: code_fault(keyword, whole_of(n)),
-            next: at + 3,
-        };
+        return number_seen(code_fault(keyword, whole_of(n)), 0, at + 3);
     }
     if !is_call(w) {
-        return stopped();
+        return NOTHING;
     }
     if sign != OPEN {
-        return stopped();
+        return NOTHING;
     }
     if token_at(code, at + 3) != CLOSE {
-        return stopped();
+        return NOTHING;
     }
-    Look {
-        good: true,
-        fault: call_fault(w, whole_of(n)),
-        next: at + 4,
-    }
+    number_seen(call_fault(w, whole_of(n)), 1, at + 4)
 }
 
-fn action(code: &[u32; SIZE], keyword: u32, at: usize) -> Look
-    ensures { λ x. ⌜ x ≡ shownFault (actionAt (now (code .entry)) keyword setSize at) ⌝ }
+fn action(code: &[u32; SIZE], keyword: u32, at: usize) -> u64
+    ensures { λ x. ⌜ (faulted x ≡ actionAt (now (code .entry)) keyword setSize at) × Passed (now (code .entry)) at x ⌝ }
 {
     let w = token_at(code, at);
     if w == END {
-        return stopped();
+        return NOTHING;
     }
     if !is_indexed(code, w, at) {
         return command(code, keyword, w, at);
     }
     if token_at(code, at + 4) != EQUALS {
-        return stopped();
+        return NOTHING;
     }
     assignment(code, w, at)
 }
@@ -486,33 +455,27 @@ fn count_fault(n: usize) -> u8
     if n <= ACTIONS { 0 } else { TOO_MANY }
 }
 
-// One or more actions, from place `at` to the line's end; `fault` is the lowest fault before them.
-fn actions(code: &[u32; SIZE], keyword: u32, fault: u8, at: usize) -> Look
-    ensures { λ x. ⌜ x ≡ shownFault (actionsAt (now (code .entry)) keyword setSize setSize 0 fault at) ⌝ }
+// What was seen, and one or more actions behind it up to the line's end: the lowest fault of all.
+fn actions(code: &[u32; SIZE], keyword: u32, w: u64) -> u64
+    requires { ⌜ Good w ⌝ }
+    ensures { λ x. ⌜ (faulted x ≡ actionsAt (now (code .entry)) keyword setSize setSize 0 (faultOf w) (nextOf w)) × Onward (now (code .entry)) w x ⌝ }
 {
-    let mut low = fault;
+    let mut low = w;
     let mut n: usize = 0;
-    let mut i = at;
     let mut turns: usize = SIZE;
     while 0 < turns {
-        let a = action(code, keyword, i);
-        let good = a.good;
-        if !good {
-            return a;
+        low = join_faults(low, action(code, keyword, next_of(low)));
+        let i = next_of(low);
+        if i == 0 {
+            return NOTHING;
         }
-        low = lower_of(low, a.fault);
         n += 1;
-        i = a.next;
         if token_at(code, i) == END {
-            return Look {
-                good: true,
-                fault: lower_of(low, count_fault(n)),
-                next: i,
-            };
+            return join_faults(low, number_seen(count_fault(n), 0, i));
         }
         turns -= 1;
     }
-    stopped()
+    NOTHING
 }
 
 // ---- a line
@@ -538,23 +501,44 @@ fn number_of(n: u32) -> u8
     if n <= 255 { n as u8 } else { 0 }
 }
 
-// The parts of the line at `at`, if nothing is wrong with it.
-fn parts(
-    code: &[u32; SIZE],
-    at: usize,
-    keyword: u32,
-    condition: usize,
-    body: usize,
-    a: Look,
-) -> Line
-    requires { ⌜ at < setSize ⌝ }
-    ensures { λ x. ⌜ x ≡ lineParts (now (code .entry)) at keyword condition body (shownRead a) ⌝ }
+// Whether the line at `at` opens too many brackets, where `a` was read of it: from what it read, unless that is too deep or nothing.
+fn is_too_deep(code: &[u32; SIZE], at: usize, a: u64) -> bool
+    requires { ⌜ Passed (now code) at a ⌝ }
+    ensures { λ x. ⌜ x ≡ opensTooMany (drop at (now (code .entry))) 0 ⌝ }
 {
-    let good = a.good;
-    let fault = a.fault;
-    if !good {
-        return faulty(fault);
+    let i = next_of(a);
+    if i == 0 {
+        return opens_too_many(code, at);
     }
+    if DEEPEST < depth_of(a) {
+        return opens_too_many(code, at);
+    }
+    opens_too_many(code, i)
+}
+
+// A line that is not in the grammar.
+fn refused(code: &[u32; SIZE], at: usize) -> Line
+    ensures { λ x. ⌜ x ≡ judged (now (code .entry)) at (faultyLine notInGrammar) ⌝ }
+{
+    if opens_too_many(code, at) {
+        return faulty(TOO_DEEP);
+    }
+    faulty(NOT_IN_GRAMMAR)
+}
+
+// The parts of the line at `at`, if nothing is wrong with it; `a` is all that was read of it.
+fn parts(code: &[u32; SIZE], at: usize, keyword: u32, condition: usize, body: usize, a: u64) -> Line
+    requires { ⌜ (at < setSize) × Passed (now code) at a ⌝ }
+    ensures { λ x. ⌜ x ≡ judged (now (code .entry)) at (lineParts (now (code .entry)) at keyword condition body (faulted a)) ⌝ }
+{
+    if is_too_deep(code, at, a) {
+        return faulty(TOO_DEEP);
+    }
+    let end = next_of(a);
+    if end == 0 {
+        return faulty(NOT_IN_GRAMMAR);
+    }
+    let fault = fault_of(a);
     if fault != 0 {
         return faulty(fault);
     }
@@ -565,17 +549,21 @@ fn parts(
         keyword: keyword,
         condition: condition,
         actions: body,
-        end: a.next,
+        end: end,
     }
 }
 
-// DO at place i and the actions behind it; `fault` is the lowest fault before them.
-fn body(code: &[u32; SIZE], at: usize, keyword: u32, condition: usize, fault: u8, i: usize) -> Line
-    requires { ⌜ at < setSize ⌝ }
-    ensures { λ x. ⌜ x ≡ bodyAt (now (code .entry)) at keyword condition fault i ⌝ }
+// DO and the actions behind it; `a` is all that was read before them.
+fn body(code: &[u32; SIZE], at: usize, keyword: u32, condition: usize, a: u64) -> Line
+    requires { ⌜ (at < setSize) × Passed (now code) at a ⌝ }
+    ensures { λ x. ⌜ x ≡ judged (now (code .entry)) at (bodyFrom (now (code .entry)) at keyword condition (faulted a)) ⌝ }
 {
+    let i = next_of(a);
+    if i == 0 {
+        return refused(code, at);
+    }
     if token_at(code, i) != DO {
-        return faulty(NOT_IN_GRAMMAR);
+        return refused(code, at);
     }
     parts(
         code,
@@ -583,25 +571,22 @@ fn body(code: &[u32; SIZE], at: usize, keyword: u32, condition: usize, fault: u8
         keyword,
         condition,
         i + 1,
-        actions(code, keyword, fault, i + 1),
+        actions(code, keyword, a + 1),
     )
 }
 
-// What follows a line's head: DO, or a keyword, an expression and DO.
+// What follows a line's head: DO, or a keyword, an expression and DO; `fault` is the fault of the head.
 fn rest(code: &[u32; SIZE], at: usize, fault: u8) -> Line
-    requires { ⌜ at < setSize ⌝ }
-    ensures { λ x. ⌜ x ≡ restAt (now (code .entry)) at fault ⌝ }
+    requires { ⌜ (at < setSize) × Passes (now code) at 0 (at + 3) ⌝ }
+    ensures { λ x. ⌜ x ≡ judged (now (code .entry)) at (restAt (now (code .entry)) at fault) ⌝ }
 {
+    let head = number_seen(fault, 0, at + 3);
     let keyword = token_at(code, at + 3);
     if !is_keyword(keyword) {
-        return body(code, at, 0, 0, fault, at + 3);
+        return body(code, at, 0, 0, head);
     }
-    let a = fault_for(true, expression(code, at + 4, SIZE));
-    let good = a.good;
-    if !good {
-        return faulty(a.fault);
-    }
-    body(code, at, keyword, at + 4, lower_of(fault, a.fault), a.next)
+    let a = as_wanted(true, expression(code, at + 4, SIZE));
+    body(code, at, keyword, at + 4, join_faults(head, a))
 }
 
 // The same, field by field: to copy whole what was just written in parts makes the processor wait for all of them.
@@ -623,18 +608,15 @@ fn again(l: Line) -> Line
 pub fn line_at(code: &[u32; SIZE], at: usize) -> Line
     ensures { λ x. ⌜ x ≡ lineAt (now (code .entry)) at ⌝ }
 {
-    if opens_too_many(code, at) {
-        return faulty(TOO_DEEP);
-    }
     if !is_id(token_at(code, at)) {
-        return faulty(NOT_IN_GRAMMAR);
+        return refused(code, at);
     }
     if token_at(code, at + 1) != EQUALS {
-        return faulty(NOT_IN_GRAMMAR);
+        return refused(code, at);
     }
     let n = token_at(code, at + 2);
     if !is_whole(n) {
-        return faulty(NOT_IN_GRAMMAR);
+        return refused(code, at);
     }
     again(rest(code, at, id_fault(whole_of(n))))
 }

@@ -2,9 +2,11 @@
 use borrow.Author.Needs.{needs}
 use native.Mathlib.Omega.{arith}
 use borrow.Author.Tests.{not-true, not-false}
-use mathlib.Core.Path.{sym, ap, _∙_}
-use Rattle.code.specs.Fault.{shownFault}
+use mathlib.Core.Path.{refl, sym, _∙_}
+use Prim.Native.Nat.{_+_}
 use Rattle.code.proofs.FaultLaws.{no-action, action-command, action-wrong, action-assigns}
+use Rattle.code.proofs.SeenLaws.{no-fault}
+use Rattle.code.proofs.PassLaws.{pass-assigned, passed-nothing, passed-behind, passed-token}
 use Rattle.code.proofs.check.action.Statement.{statement}
 use Rattle.code.proofs.check.action.Tie as tie
 
@@ -13,24 +15,38 @@ action-spec =
     tie.close
     (tie.spec
     (λ c κs. search needs)
-    (λ c κs. search needs)
-    (λ c. c .stopped .ensures ∙ ap shownFault (sym (no-action _ _ _ _ (sym (c .before .before .token-at .ensures .0) ∙ c .before .if1 .taken))))
+    (λ c. (no-fault ∙ sym (no-action _ _ _ _ (sym (c .before .token-at .ensures .0) ∙ c .if1 .taken)), passed-nothing _ _ refl))
     (λ c κs. search needs)
     (λ c κs.
     let s = c .before .before .before in
     omega (arith, s .before .token-at .ensures .1 (s .if1 .left)))
-    (λ c. c .command .ensures ∙ ap shownFault (action-command _ _ _ _ _ (c .before .before .before .before .before .token-at .ensures .0) (sym (c .before .before .is-indexed .ensures) ∙ not-true _ (c .before .if2 .taken))))
+    (λ c.
+    let i = c .before .before in
+    let t = i .before .before .before .token-at .ensures .0 in (
+      c .command .ensures .0 ∙ action-command _ _ _ _ _ t (sym (i .is-indexed .ensures) ∙ not-true _ (c .before .if2 .taken)),
+      passed-token _ _ t (c .command .ensures .1 .0) (c .command .ensures .1 .1),
+    ))
     (λ c.
     let s = c .before .before .before .before in
     omega (arith, s .before .token-at .ensures .1 (s .if1 .left)))
     (λ c κs. search needs)
-    (λ c κs. search needs)
     (λ c.
-    let s = c .before .before .before .before in
-    c .stopped2 .ensures ∙ ap shownFault (action-wrong _ _ _ _ _ (s .before .before .before .before .token-at .ensures .0) (sym (s .before .is-indexed .ensures) ∙ not-false _ (s .if2 .left)) (λ e. c .before .if3 .taken (c .before .before .token-at2 .ensures .0 ∙ e))))
+    let f = c .before .before .before in
+    let i = f .before in (
+      no-fault ∙ action-wrong _ _ _ _ _ (i .before .before .before .token-at .ensures .0) (sym (i .is-indexed .ensures) ∙ not-false _ (f .if2 .left)) (λ e. c .if3 .taken (c .before .token-at2 .ensures .0 ∙ e)),
+      passed-nothing _ _ refl,
+    ))
     (λ c κs.
     let s = c .before .before .before .before .before .before in
     omega (arith, s .before .token-at .ensures .1 (s .if1 .left)))
     (λ c.
-    let s = c .before .before .before .before in
-    c .assignment .ensures ∙ ap shownFault (action-assigns _ _ _ _ _ (s .before .before .before .before .token-at .ensures .0) (sym (s .before .is-indexed .ensures) ∙ not-false _ (s .if2 .left)) (sym (c .before .before .token-at2 .ensures .0) ∙ c .before .if3 .left))))
+    let u = c .before .before in
+    let f = u .before .before in
+    let i = f .before in
+    let t = i .before .before .before .token-at .ensures .0 in
+    let h = sym (i .is-indexed .ensures) ∙ not-false _ (f .if2 .left) in
+    let e = sym (u .token-at2 .ensures .0) ∙ c .before .if3 .left in
+    let at = i .before .before .before .before .before .args .at in (
+      c .assignment .ensures .0 ∙ action-assigns _ _ _ _ _ t h e,
+      passed-token _ _ t (c .assignment .ensures .1 .0) (passed-behind _ (at + 1) (at + 5) (pass-assigned _ _ _ h e) (c .assignment .ensures .1 .1)),
+    )))

@@ -1,10 +1,13 @@
 -- `check::assigned` meets its contract: each return by the tests that led to it.
 use borrow.Author.Needs.{needs}
 use native.Mathlib.Omega.{arith}
-use mathlib.Core.Path.{sym, _∙_}
+use mathlib.Core.Path.{refl, sym, _∙_}
+use Prim.Native.Nat.{_+_, _<_}
 use Rattle.tokens.specs.Reading.{sumAt, readSum}
 use Rattle.code.specs.Fault.{assignedAt}
-use Rattle.code.proofs.SeenLaws.{fault-of}
+use Rattle.code.proofs.FaultLaws.{removal-tokens}
+use Rattle.code.proofs.SeenLaws.{number-made, faulted-made, faulted-wanted}
+use Rattle.code.proofs.PassLaws.{pass-index, passed-none, passed-behind, passed-token, level-on}
 use Rattle.code.proofs.check.assigned.Statement.{statement}
 use Rattle.code.proofs.check.assigned.Tie as tie
 
@@ -15,7 +18,21 @@ assigned-spec =
     (tie.spec
     (λ c κs. search needs)
     (λ c. omega arith)
-    (λ c. simp (assignedAt, sym (c .before .is-removal .ensures) ∙ c .if1 .taken))
+    (λ c κs. search needs)
+    (λ c.
+    let r = c .before .before in
+    let a = r .before .args in
+    let h = sym (r .is-removal .ensures) ∙ c .before .if1 .taken in
+    let m : a .at + 4 < 8192 = omega (arith, r .before .pre) in
+    let k = number-made {f = 0} {d = 0} _ (omega arith) (omega arith) m (c .number-seen .ensures) in
+    let t = removal-tokens _ _ h in (
+      simp (assignedAt, h) (faulted-made k (omega arith)),
+      passed-token _ _ refl (λ g. t .0) (passed-behind _ _ (a .at + 4) (pass-index _ _ _ (t .1)) (passed-none _ _ _ (k .next))),
+    ))
     (λ c κs. search needs)
     (λ c κs. search needs)
-    (λ c. simp (assignedAt, sym (c .before .before .before .is-removal .ensures) ∙ c .before .before .if1 .left) (fault-of _ _ (readSum _ _ _ _ _) (c .before .sum .ensures) (c .fault-for .ensures))))
+    (λ c.
+    let s = c .before in (
+      simp (assignedAt, sym (s .before .before .is-removal .ensures) ∙ s .before .if1 .left) (faulted-wanted _ _ _ (readSum _ _ _ _ _) (s .sum .ensures .0) (c .as-wanted .ensures .0)),
+      level-on _ (c .as-wanted .ensures .1) .goes _ (s .sum .ensures .1),
+    )))

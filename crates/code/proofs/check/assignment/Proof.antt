@@ -1,11 +1,15 @@
 -- `check::assignment` meets its contract: each return by the tests that led to it.
 use borrow.Author.Needs.{needs}
 use native.Mathlib.Omega.{arith}
-use mathlib.Core.Path.{sym, ap, _∙_}
-use Rattle.tokens.specs.Reading.{sumAt, readSum}
-use Rattle.code.specs.Fault.{shownFault, assignedAt, assignmentAt}
-use Rattle.code.proofs.SeenLaws.{fault-of}
-use Rattle.code.proofs.Shown.{stays, behind}
+use mathlib.Core.Path.{_≡_, refl, sym, ap, _∙_}
+use Prim.Native.Nat.{ℕ, _+_, _<_}
+use Rattle.tokens.specs.Token.{IN, IM, POS, MOV}
+use Rattle.tokens.specs.Reading.{Read, read, then, indexAt, sumAt, readSum}
+use Rattle.tokens.specs.SingleFault.{lower, writeFault}
+use Rattle.code.specs.Fault.{assignedAt, assignmentAt}
+use Rattle.code.specs.Seen.{faultOf}
+use Rattle.code.proofs.SeenLaws.{no-fault, number-made, faulted-wanted}
+use Rattle.code.proofs.PassLaws.{plain-high, passed-nothing, joined-passed, level-on}
 use Rattle.code.proofs.check.assignment.Statement.{statement}
 use Rattle.code.proofs.check.assignment.Tie as tie
 
@@ -15,26 +19,37 @@ assignment-spec =
     tie.close
     (tie.spec
     (λ c κs. search needs)
-    (λ c. omega arith)
-    (λ c κs. search needs)
-    (λ c. simp (assignmentAt, sym (c .before .before .before .is-variable .ensures) ∙ c .before .before .if1 .taken) (stays (c .before .assigned .result) (assignedAt _ _ _) (c .before .assigned .ensures) _ (c .if2 .taken)))
     (λ c κs. search needs)
     (λ c κs. search needs)
-    (λ c κs. search needs)
-    (λ c.
-    let s = c .before .before .before .before in
-    simp (assignmentAt, sym (s .before .before .before .is-variable .ensures) ∙ s .before .before .if1 .taken)
-    (simp (c .lower-of .ensures, c .before .write-fault .ensures, c .before .before .index-at .ensures) (ap shownFault (behind (s .before .assigned .result) (assignedAt _ _ _) (s .before .assigned .ensures) _ (s .if2 .left)))))
     (λ c κs. search needs)
     (λ c. omega arith)
     (λ c κs. search needs)
     (λ c κs. search needs)
     (λ c.
-    let s = c .before .before .before in
-    simp (assignmentAt, sym (s .before .before .is-variable .ensures) ∙ s .before .if1 .left, sym (s .is-drive .ensures) ∙ c .before .before .if3 .taken)
-    (fault-of _ _ (readSum _ _ _ _ _) (c .before .sum .ensures) (c .fault-for .ensures)))
+    let n = c .before .before in
+    let i = n .before .before in
+    let v = i .before .before .before in
+    let a = v .before .args in
+    let e : n .before .write-fault .result ≡ writeFault (a .w) (indexAt (a .code .now) (a .w) (a .at)) = n .before .write-fault .ensures ∙ ap (writeFault (a .w)) (i .index-at .ensures) in
+    let m : a .at < 8192 = omega (arith, v .before .pre) in
+    let k = number-made {d = 0} (a .at) (omega arith) (omega arith) m (n .number-seen .ensures) .fault ∙ e in (
+      simp (assignmentAt, sym (v .is-variable .ensures) ∙ i .before .before .if1 .taken)
+          (c .join-faults .ensures .0 ∙ ap (λ (x : Read ℕ). then x (λ g q. read (lower (faultOf (n .number-seen .result)) g) q)) (c .before .assigned .ensures .0) ∙ ap (λ (f : ℕ). then (assignedAt (a .code .now) 4130 (a .at + 5)) (λ g q. read (lower f g) q)) k),
+      (λ g. plain-high IN IM _ (omega arith) (v .is-variable .ensures) (i .before .before .if1 .taken), joined-passed _ _ (c .before .assigned .ensures .1) (c .join-faults .ensures .1)),
+    ))
+    (λ c κs. search needs)
+    (λ c. omega arith)
+    (λ c κs. search needs)
     (λ c κs. search needs)
     (λ c.
-    let s = c .before .before .before in
-    simp (assignmentAt, sym (s .before .is-variable .ensures) ∙ s .if1 .left, sym (c .before .before .is-drive .ensures) ∙ c .before .if3 .left)
-    (c .stopped .ensures)))
+    let s = c .before in
+    let d = s .before .before in (
+      simp (assignmentAt, sym (d .before .before .is-variable .ensures) ∙ d .before .if1 .left, sym (d .is-drive .ensures) ∙ s .before .if2 .taken)
+          (faulted-wanted _ _ _ (readSum _ _ _ _ _) (s .sum .ensures .0) (c .as-wanted .ensures .0)),
+      (λ g. plain-high POS MOV _ (omega arith) (d .is-drive .ensures) (s .before .if2 .taken), level-on _ (c .as-wanted .ensures .1) .goes _ (s .sum .ensures .1)),
+    ))
+    (λ c.
+    let d = c .before in (
+      simp (assignmentAt, sym (d .before .before .is-variable .ensures) ∙ d .before .if1 .left, sym (d .is-drive .ensures) ∙ c .if2 .left) no-fault,
+      (λ g. absurd (g refl), passed-nothing _ _ refl),
+    )))

@@ -1,24 +1,49 @@
 -- `check::body` meets its contract: each return by the tests that led to it.
 use borrow.Author.Needs.{needs}
 use native.Mathlib.Omega.{arith}
-use borrow.Author.Tests.{eq-eqb, ne-eqb}
 use mathlib.Core.Path.{sym, ap, _∙_}
-use Rattle.code.specs.Fault.{actionsAt, bodyAt, lineParts, shownFault, shownRead}
-use Rattle.tokens.proofs.Answers.{hears}
-use Rattle.code.proofs.Shown.{fault-shown}
+use Prim.Native.Nat.{ℕ, _<_}
+use Rattle.tokens.specs.Reading.{Read}
+use Rattle.code.specs.Fault.{bodyFrom, judged}
+use Rattle.code.proofs.FaultLaws.{body-none, body-does}
+use Rattle.code.proofs.SeenLaws.{faulted-stop, faulted-read, next-made}
+use Rattle.code.proofs.PassLaws.{plain-above, next-on}
 use Rattle.code.proofs.check.body.Statement.{statement}
 use Rattle.code.proofs.check.body.Tie as tie
 
 pub body-spec : {M : Type 1} → statement M
-unfolding bodyAt
 body-spec =
     tie.close
     (tie.spec
     (λ c κs. search needs)
     (λ c κs. search needs)
-    (λ c. simp (bodyAt, ne-eqb _ _ (λ e. c .before .if1 .taken (c .before .before .token-at .ensures .0 ∙ e))) (c .faulty .ensures))
-    (λ c. omega (arith, c .before .token-at .ensures .1 (λ z. omega arith)))
-    (λ c. omega (arith, c .before .token-at .ensures .1 (λ z. omega arith)))
+    (λ c.
+    let n = c .before .before in
+    let a = n .before .args in
+    c .refused .ensures ∙ ap (λ (r : Read ℕ). judged (a .code .now) (a .at) (bodyFrom (a .code .now) (a .at) (a .keyword) (a .condition) r)) (sym (faulted-stop (a .a) (n .next-of .ensures) (c .before .if1 .taken))))
     (λ c κs. search needs)
     (λ c κs. search needs)
-    (λ c. simp (bodyAt, eq-eqb _ _ (sym (c .before .before .before .token-at .ensures .0) ∙ c .before .before .if1 .left)) (c .parts .ensures ∙ ap (lineParts _ _ _ _ _) (hears shownFault shownRead fault-shown (actionsAt _ _ _ _ _ _ _) (c .before .actions .ensures)))))
+    (λ c.
+    let t = c .before .before in
+    let n = t .before .before .before in
+    let a = n .before .args in
+    c .refused2 .ensures ∙ ap (judged (a .code .now) (a .at)) (body-none _ _ _ _ _ _ (t .token-at .ensures .0) (c .before .if2 .taken) ∙ ap (bodyFrom (a .code .now) (a .at) (a .keyword) (a .condition)) (sym (faulted-read (a .a) (n .next-of .ensures) (t .before .before .if1 .left)))))
+    (λ c. omega (arith, c .before .token-at .ensures .1 (λ z. omega arith)))
+    (λ c. let t = c .before in omega (arith, t .before .before .before .next-of .ensures, t .token-at .ensures .1 (λ z. omega arith)))
+    (λ c κs. λ z. omega (arith, c .before .before .before .before .next-of .ensures, c .before .token-at .ensures .1 (λ z. omega arith)))
+    (λ c κs.
+    let t = c .before .before in
+    let n = t .before .before .before in
+    let l : n .next-of .result < 4130 = omega (arith, t .token-at .ensures .1 (λ z. omega arith)) in
+    let k = next-made (n .before .args .a) (n .next-of .ensures) l in
+    (n .before .pre .0, c .actions .ensures .1 .goes _ (next-on _ _ _ (n .next-of .ensures) (t .before .before .if1 .left) (t .token-at .ensures .0) (plain-above _ (omega (arith, c .before .if2 .left))) (k .next) (k .depth) .goes _ (n .before .pre .1))))
+    (λ c.
+    let x = c .before in
+    let t = x .before .before in
+    let n = t .before .before .before in
+    let a = n .before .args in
+    let l : n .next-of .result < 4130 = omega (arith, t .token-at .ensures .1 (λ z. omega arith)) in
+    let k = next-made (a .a) (n .next-of .ensures) l in
+    c .parts .ensures ∙
+    ap (judged (a .code .now) (a .at)) (body-does _ _ _ _ _ _ (t .token-at .ensures .0) (x .before .if2 .left) _ k (x .actions .ensures .0) ∙
+    ap (bodyFrom (a .code .now) (a .at) (a .keyword) (a .condition)) (sym (faulted-read (a .a) (n .next-of .ensures) (t .before .before .if1 .left))))))

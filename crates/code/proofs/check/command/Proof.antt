@@ -2,22 +2,30 @@
 use borrow.Author.Needs.{needs}
 use native.Mathlib.Omega.{arith}
 use borrow.Author.Tests.{not-true, not-false}
-use mathlib.Core.Path.{_≡_, sym, ap, _∙_}
+use mathlib.Core.Path.{_≡_, refl, sym, ap, _∙_}
 use mathlib.Core.Bool.{true}
-use Prim.Native.Nat.{ℕ, _+_}
+use Prim.Native.Nat.{ℕ, _+_, _<_}
 use lib.ListN.{getD}
-use Rattle.tokens.specs.Token.{isWhole, whole}
-use Rattle.tokens.specs.Reading.{read}
-use Rattle.code.specs.Fault.{shownFault}
+use Rattle.tokens.specs.Token.{SETAL, UNLOCK, isWhole, whole}
+use Rattle.tokens.specs.Reading.{ends, read}
+use Rattle.code.specs.Fault.{commandAt}
+use Rattle.code.specs.Seen.{faulted}
+use Rattle.code.specs.Brackets.{Plain, Good, Passed}
 use Rattle.tokens.specs.SingleFault.{codeFault, callFault}
 use Rattle.tokens.proofs.Between.{tested}
 use Rattle.code.proofs.FaultLaws.{no-command, no-code, a-code, no-call, no-open, no-close, a-call}
+use Rattle.code.proofs.SeenLaws.{no-fault, number-made, faulted-made}
+use Rattle.code.proofs.PassLaws.{plain-above, plain-high, pass-code, pass-call, passed-nothing, passed-to}
 use Rattle.code.proofs.check.command.Statement.{statement}
 use Rattle.code.proofs.check.command.Tie as tie
 
 -- behind the first test the token after the next is a whole number
 numbered : (c : tie.Else1) → let a = c .before .before .before .before .args in isWhole (getD (a .code .now) (a .at + 2) 0) ≡ true
 numbered c = tested isWhole (c .before .before .token-at .ensures .0) (c .before .is-whole .ensures) (not-false _ (c .if1 .left))
+
+-- what is no command
+none : (a : tie.Start) → ends 5 ≡ commandAt (a .args .code .now) (a .args .keyword) (a .args .w) (a .args .at) → (faulted 0 ≡ commandAt (a .args .code .now) (a .args .keyword) (a .args .w) (a .args .at)) × ((Good 0 → Plain (a .args .w)) × Passed (a .args .code .now) (a .args .at + 1) 0)
+none a e = (no-fault ∙ e, (λ g. absurd (g refl), passed-nothing _ _ refl))
 
 pub command-spec : {M : Type 1} → statement M
 command-spec =
@@ -26,51 +34,68 @@ command-spec =
     (λ c. omega arith)
     (λ c κs. search needs)
     (λ c κs. search needs)
-    (λ c κs. search needs)
-    (λ c. c .stopped .ensures ∙ ap shownFault (no-command _ _ _ _ (tested isWhole (c .before .before .before .token-at .ensures .0) (c .before .before .is-whole .ensures) (not-true _ (c .before .if1 .taken)))))
+    (λ c. none (c .before .before .before .before) (no-command _ _ _ _ (tested isWhole (c .before .before .token-at .ensures .0) (c .before .is-whole .ensures) (not-true _ (c .if1 .taken)))))
     (λ c. omega arith)
     (λ c κs. search needs)
-    (λ c κs. search needs)
     (λ c.
-    let s = c .before .before .before in
-    c .stopped2 .ensures ∙ ap shownFault (no-code _ _ _ _ (numbered (s .before .before)) (c .before .before .if2 .taken) (λ e. c .before .if3 .taken (s .token-at2 .ensures .0 ∙ e))))
+    let s = c .before .before in
+    let r = s .before .before in
+    none (r .before .before .before .before) (no-code _ _ _ _ (numbered r) (c .before .if2 .taken) (λ e. c .if3 .taken (s .token-at2 .ensures .0 ∙ e))))
     (λ c κs. search needs)
     (λ c κs. search needs)
     (λ c. omega arith)
+    (λ c κs. search needs)
     (λ c.
-    let s = c .before .before .before in
-    let r = s .before .before .before in
+    let f = c .before in
+    let g = f .before .before in
+    let s = g .before .before in
+    let r = s .before .before in
     let a = r .before .before .before .before .args in
-    let n : c .code-fault .result ≡ codeFault (a .keyword) (whole (getD (a .code .now) (a .at + 2) 0)) = c .code-fault .ensures ∙ ap (codeFault (a .keyword)) (c .before .whole-of .ensures ∙ ap (λ (t : ℕ). whole t) (r .before .before .token-at .ensures .0)) in
-    ap (λ (f : ℕ). shownFault (read f (a .at + 3))) n ∙ ap shownFault (a-code _ _ _ _ (numbered r) (s .if2 .taken) (sym (s .before .token-at2 .ensures .0) ∙ c .before .before .if3 .left)))
-    (λ c κs. search needs)
+    let n : f .code-fault .result ≡ codeFault (a .keyword) (whole (getD (a .code .now) (a .at + 2) 0)) = f .code-fault .ensures ∙ ap (codeFault (a .keyword)) (f .before .whole-of .ensures ∙ ap (λ (t : ℕ). whole t) (r .before .before .token-at .ensures .0)) in
+    let m : a .at + 3 < 8192 = omega (arith, r .before .before .before .before .pre) in
+    let k = number-made {d = 0} _ (omega arith) (omega arith) m (c .number-seen .ensures) in
+    let q = sym (s .token-at2 .ensures .0) ∙ g .if3 .left in (
+      faulted-made k (omega arith) ∙ ap (λ (f : ℕ). read f (a .at + 3)) n ∙ a-code _ _ _ _ (numbered r) (g .before .if2 .taken) q,
+      (λ h. plain-above _ (omega (arith, g .before .if2 .taken)), passed-to _ _ _ (k .next) (k .depth) (pass-code (a .code .now) (a .at) q (numbered r))),
+    ))
     (λ c κs. search needs)
     (λ c.
     let s = c .before .before .before in
-    let r = s .before .before .before in
-    c .stopped3 .ensures ∙ ap shownFault (no-call _ _ _ _ (numbered r) (s .if2 .left) (sym (c .before .before .is-call .ensures) ∙ not-true _ (c .before .if4 .taken))))
-    (λ c κs. search needs)
+    let r = s .before .before in
+    none (r .before .before .before .before) (no-call _ _ _ _ (numbered r) (c .before .before .if2 .left) (sym (c .before .is-call .ensures) ∙ not-true _ (c .if4 .taken))))
     (λ c.
-    let s = c .before .before .before in
-    let r = s .before .before .before .before in
-    c .stopped4 .ensures ∙ ap shownFault (no-open _ _ _ _ (numbered r) (s .before .if2 .left) (sym (s .is-call .ensures) ∙ not-false _ (c .before .before .if4 .left)) (λ e. c .before .if5 .taken (s .before .before .token-at2 .ensures .0 ∙ e))))
+    let f = c .before in
+    let s = f .before .before .before in
+    let r = s .before .before in
+    none (r .before .before .before .before) (no-open _ _ _ _ (numbered r) (f .before .before .if2 .left) (sym (f .before .is-call .ensures) ∙ not-false _ (f .if4 .left)) (λ e. c .if5 .taken (s .token-at2 .ensures .0 ∙ e))))
     (λ c. omega arith)
     (λ c κs. search needs)
-    (λ c κs. search needs)
     (λ c.
-    let s = c .before .before .before .before in
-    let r = s .before .before .before in
-    let q = r .before .before .before in
-    c .stopped5 .ensures ∙ ap shownFault (no-close _ _ _ _ (numbered q) (r .if2 .left) (sym (s .before .before .is-call .ensures) ∙ not-false _ (s .before .if4 .left)) (sym (r .before .token-at2 .ensures .0) ∙ s .if5 .left) (λ e. c .before .if6 .taken (c .before .before .token-at3 .ensures .0 ∙ e))))
+    let t = c .before in
+    let o = t .before .before in
+    let f = o .before in
+    let s = f .before .before .before in
+    let r = s .before .before in
+    none (r .before .before .before .before) (no-close _ _ _ _ (numbered r) (f .before .before .if2 .left) (sym (f .before .is-call .ensures) ∙ not-false _ (f .if4 .left)) (sym (s .token-at2 .ensures .0) ∙ o .if5 .left) (λ e. c .if6 .taken (t .token-at3 .ensures .0 ∙ e))))
     (λ c κs. search needs)
     (λ c κs. search needs)
     (λ c. omega arith)
+    (λ c κs. search needs)
     (λ c.
-    let s = c .before .before .before in
-    let r = s .before .before .before in
-    let q = r .before .before .before in
-    let o = q .before .before in
-    let a = o .before .before .before .before .args in
-    let n : c .call-fault .result ≡ callFault (a .w) (whole (getD (a .code .now) (a .at + 2) 0)) = c .call-fault .ensures ∙ ap (callFault (a .w)) (c .before .whole-of2 .ensures ∙ ap (λ (t : ℕ). whole t) (o .before .before .token-at .ensures .0)) in
-    ap (λ (f : ℕ). shownFault (read f (a .at + 4))) n ∙
-    ap shownFault (a-call _ _ _ _ (numbered o) (r .before .before .if2 .left) (sym (r .before .is-call .ensures) ∙ not-false _ (r .if4 .left)) (sym (q .token-at2 .ensures .0) ∙ s .before .before .if5 .left) (sym (s .token-at3 .ensures .0) ∙ c .before .before .if6 .left))))
+    let l = c .before in
+    let i = l .before .before in
+    let t = i .before in
+    let o = t .before .before in
+    let f = o .before in
+    let s = f .before .before .before in
+    let r = s .before .before in
+    let a = r .before .before .before .before .args in
+    let n : l .call-fault .result ≡ callFault (a .w) (whole (getD (a .code .now) (a .at + 2) 0)) = l .call-fault .ensures ∙ ap (callFault (a .w)) (l .before .whole-of2 .ensures ∙ ap (λ (t : ℕ). whole t) (r .before .before .token-at .ensures .0)) in
+    let m : a .at + 4 < 8192 = omega (arith, r .before .before .before .before .pre) in
+    let k = number-made {d = 1} _ (omega arith) (omega arith) m (c .number-seen2 .ensures) in
+    let b = sym (s .token-at2 .ensures .0) ∙ o .if5 .left in
+    let e = sym (t .token-at3 .ensures .0) ∙ i .if6 .left in
+    let w = not-false _ (f .if4 .left) in (
+      faulted-made k (omega arith) ∙ ap (λ (f : ℕ). read f (a .at + 4)) n ∙ a-call _ _ _ _ (numbered r) (f .before .before .if2 .left) (sym (f .before .is-call .ensures) ∙ w) b e,
+      (λ h. plain-high SETAL UNLOCK _ (omega arith) (f .before .is-call .ensures) w, passed-to _ _ _ (k .next) (k .depth) (pass-call (a .code .now) (a .at) b (numbered r) e)),
+    )))

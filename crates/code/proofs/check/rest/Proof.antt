@@ -1,39 +1,73 @@
 -- `check::rest` meets its contract: each return by the tests that led to it.
 use borrow.Author.Needs.{needs}
 use native.Mathlib.Omega.{arith}
-use borrow.Author.Tests.{not-true}
+use mathlib.Core.Path.{sym, ap, _∙_}
 use mathlib.Core.Bool.{true}
-use Rattle.tokens.specs.Token.{isKeyword}
-use Rattle.tokens.specs.Reading.{readExpression, expressionAt}
-use Rattle.code.specs.Fault.{restAt}
-use Rattle.tokens.proofs.Between.{tested}
-use Rattle.code.proofs.FaultLaws.{rest-end, rest-goes}
-use Rattle.code.proofs.SeenLaws.{fault-of}
+use Prim.Native.Nat.{ℕ, _+_, _<_}
+use Rattle.tokens.specs.Token.{WHEN, EVERY}
+use borrow.Author.Tests.{not-false}
+use Rattle.tokens.specs.Reading.{Read, read, then, expressionAt}
+use Rattle.tokens.specs.SingleFault.{lower}
+use Rattle.code.specs.Fault.{sight, faultFor, bodyFrom, judged}
+use Rattle.code.specs.Seen.{faultOf}
+use Rattle.code.proofs.FaultLaws.{rest-plain, rest-keyword}
+use Rattle.code.proofs.SeenLaws.{number-made, faulted-made, faulted-wanted}
+use Rattle.code.proofs.PassLaws.{plain-high, pass-token, passed-to, passed-behind, level-on, joined-next}
 use Rattle.code.proofs.check.rest.Statement.{statement}
 use Rattle.code.proofs.check.rest.Tie as tie
 
 pub rest-spec : {M : Type 1} → statement M
-unfolding restAt expressionAt
+unfolding expressionAt
 rest-spec =
     tie.close
     (tie.spec
     (λ c. omega arith)
     (λ c κs. search needs)
-    (λ c κs. search needs)
-    (λ c. omega arith)
-    (λ c κs. search needs)
-    (λ c. simp (restAt, tested isKeyword (c .before .before .before .token-at .ensures .0) (c .before .before .is-keyword .ensures) (not-true _ (c .before .if1 .taken))) (c .body .ensures))
     (λ c. omega arith)
     (λ c κs. search needs)
     (λ c κs. search needs)
-    (λ c κs. search needs)
+    (λ c κs.
+    let h = c .before .before .before .before in
+    let m : h .before .args .at + 3 < 8192 = omega (arith, h .before .pre .0) in
+    let k = number-made {d = 0} _ (omega arith) (omega arith) m (h .number-seen .ensures) in
+    (h .before .pre .0, passed-to _ _ _ (k .next) (k .depth) (h .before .pre .1)))
     (λ c.
-    let s = c .before .before .before in
-    rest-end _ _ _ _ (c .before .before .fault-for .result) (s .before .before .before .token-at .ensures .0) (s .before .before .is-keyword .ensures) (s .before .if1 .left) (fault-of true _ (readExpression _ _ _ _ _) (s .expression .ensures) (c .before .before .fault-for .ensures)) (c .before .if2 .taken) (c .faulty .ensures))
+    let w = c .before .before in
+    let t = w .before in
+    let h = t .before .before in
+    let a = h .before .args in
+    let m : a .at + 3 < 8192 = omega (arith, h .before .pre .0) in
+    let k = number-made {d = 0} _ (omega arith) (omega arith) m (h .number-seen .ensures) in
+    c .body .ensures ∙ ap (judged (a .code .now) (a .at)) (ap (bodyFrom (a .code .now) (a .at) 0 0) (faulted-made k (omega arith)) ∙ rest-plain _ _ _ _ (t .token-at .ensures .0) (w .is-keyword .ensures) (c .before .if1 .taken)))
     (λ c. omega arith)
     (λ c κs. search needs)
     (λ c κs. search needs)
+    (λ c. omega arith)
+    (λ c κs. search needs)
+    (λ c κs.
+    let x = c .before in
+    let e = x .before in
+    let w = e .before .before in
+    let t = w .before in
+    let h = t .before .before in
+    let a = h .before .args in
+    let m : a .at + 3 < 8192 = omega (arith, h .before .pre .0) in
+    let k = number-made {d = 0} _ (omega arith) (omega arith) m (h .number-seen .ensures) in
+    let word = pass-token _ (a .at + 3) (a .at + 4) (t .token-at .ensures .0) (plain-high WHEN EVERY _ (omega arith) (w .is-keyword .ensures) (not-false _ (e .before .if1 .left))) (omega arith) in
+    let condition = level-on _ (x .as-wanted .ensures .1) .goes _ (e .expression .ensures .1) in
+    (h .before .pre .0, joined-next _ (sym (k .next)) (λ z. omega arith) (passed-behind _ (a .at + 3) (a .at + 4) word condition) (c .join-faults .ensures .1) .goes _ (passed-to _ _ _ (k .next) (k .depth) (h .before .pre .1))))
     (λ c.
-    let s = c .before .before .before in
-    let r = s .before .before .before in
-    rest-goes _ _ _ _ (s .fault-for .result) (r .before .token-at .ensures .0) (r .is-keyword .ensures) (s .before .before .if1 .left) (fault-of true _ (readExpression _ _ _ _ _) (s .before .expression .ensures) (s .fault-for .ensures)) (c .before .before .if2 .left) (c .before .lower-of .ensures) (c .body2 .ensures)))
+    let j = c .before in
+    let x = j .before in
+    let e = x .before in
+    let w = e .before .before in
+    let t = w .before in
+    let h = t .before .before in
+    let a = h .before .args in
+    let m : a .at + 3 < 8192 = omega (arith, h .before .pre .0) in
+    let k = number-made {d = 0} _ (omega arith) (omega arith) m (h .number-seen .ensures) in
+    c .body2 .ensures ∙
+    ap (judged (a .code .now) (a .at)) (ap (bodyFrom (a .code .now) (a .at) (t .token-at .result) (a .at + 4)) (j .join-faults .ensures .0 ∙
+    ap (λ (r : Read ℕ). then r (λ g q. read (lower (faultOf (h .number-seen .result)) g) q)) (faulted-wanted true _ _ (expressionAt (a .code .now) sight 4130 (a .at + 4)) (e .expression .ensures .0) (x .as-wanted .ensures .0)) ∙
+    ap (λ (f : ℕ). then (faultFor true (expressionAt (a .code .now) sight 4130 (a .at + 4))) (λ g q. read (lower f g) q)) (k .fault)) ∙
+    rest-keyword _ _ _ _ (t .token-at .ensures .0) (w .is-keyword .ensures) (e .before .if1 .left))))

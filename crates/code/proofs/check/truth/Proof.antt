@@ -1,10 +1,12 @@
 -- `check::truth` meets its contract: each return by the tests that led to it.
 use borrow.Author.Needs.{needs}
 use mathlib.Core.Path.{refl, sym, _∙_}
+use Prim.Native.Nat.{_+_, _<_}
 use native.Mathlib.Omega.{arith}
 use Rattle.code.specs.Fault.{sight}
 use Rattle.tokens.proofs.Arms.{yes-truth, no-truth, not-truth}
-use Rattle.code.proofs.SeenLaws.{nothing, seen-truth}
+use Rattle.code.proofs.SeenLaws.{nothing, truth-made, seen-truth}
+use Rattle.code.proofs.PassLaws.{plain-above, passed-none, passed-nothing}
 use Rattle.code.proofs.check.truth.Statement.{statement}
 use Rattle.code.proofs.check.truth.Tie as tie
 
@@ -15,8 +17,16 @@ truth-spec =
     (tie.spec
     (λ c. omega (arith, c .before .pre (λ e. omega arith)))
     (λ c κs. search needs)
-    (λ c. seen-truth _ (omega arith) (omega arith) (omega (arith, c .before .before .pre (λ e. omega arith))) (c .truth-seen .ensures) refl ∙ sym (yes-truth _ _ _ _ (c .before .if1 .taken)))
+    (λ c.
+    let m : c .before .before .args .at + 1 < 8192 = omega (arith, c .before .before .pre (λ e. omega arith)) in (
+      seen-truth {f = 0} {d = 0} _ (omega arith) (omega arith) m (omega arith) (c .truth-seen .ensures) refl ∙ sym (yes-truth _ _ _ _ (c .before .if1 .taken)),
+      (λ g. plain-above _ (omega (arith, c .before .if1 .taken)), passed-none _ _ _ (truth-made {f = 0} {d = 0} _ (omega arith) (omega arith) m (c .truth-seen .ensures) .next)),
+    ))
     (λ c. omega (arith, c .before .before .pre (λ e. omega arith)))
     (λ c κs. search needs)
-    (λ c. seen-truth _ (omega arith) (omega arith) (omega (arith, c .before .before .before .pre (λ e. omega arith))) (c .truth-seen2 .ensures) refl ∙ sym (no-truth _ _ _ _ (c .before .if2 .taken)))
-    (λ c. nothing ∙ sym (not-truth _ _ _ _ (c .before .if1 .left) (c .if2 .left))))
+    (λ c.
+    let m : c .before .before .before .args .at + 1 < 8192 = omega (arith, c .before .before .before .pre (λ e. omega arith)) in (
+      seen-truth {f = 0} {d = 0} _ (omega arith) (omega arith) m (omega arith) (c .truth-seen2 .ensures) refl ∙ sym (no-truth _ _ _ _ (c .before .if2 .taken)),
+      (λ g. plain-above _ (omega (arith, c .before .if2 .taken)), passed-none _ _ _ (truth-made {f = 0} {d = 0} _ (omega arith) (omega arith) m (c .truth-seen2 .ensures) .next)),
+    ))
+    (λ c. (nothing ∙ sym (not-truth _ _ _ _ (c .before .if1 .left) (c .if2 .left)), (λ g. absurd (g refl), passed-nothing _ _ refl))))
