@@ -5,13 +5,13 @@ use mathlib.Core.List.{List, [], _∷_, _++_}
 use Prim.Native.Nat.{ℕ, zero, suc, _+_, _-_, _*_}
 use lib.Dec.{eqb, ltb}
 use lib.IntN.{ℤ, pos, natAbs}
-use lib.ListN.{getD, set, take}
+use lib.ListN.{getD, set}
 use Rattle.values.specs.Value.{lessThan}
 use Rattle.buffers.specs.Fifo.{unsound}
 use Rattle.buffers.specs.Order.{orderBytes}
 use Rattle.buffers.specs.declared.order.Order.{Order}
 use Rattle.buffers.specs.declared.order.Kind.the-variants as K
-use Rattle.tokens.specs.Token.{END, POS, FA, M, SETAL, LOCK, isVariable, isDrive, whole, maxLines, maxActions}
+use Rattle.tokens.specs.Token.{END, M, SETAL, LOCK, isVariable, isDrive, whole, maxLines, maxActions}
 use Rattle.tokens.specs.Reading.{Answer, good, stop, _>>=_, indexAt}
 use Rattle.code.specs.Fault.{isRemoval}
 use Rattle.working.specs.Working.{rightValue}

@@ -2,7 +2,7 @@
 ghost use mathlib.Core.Path.{_≡_};
 ghost use Prim.Native.Nat.{_≤_};
 ghost use lib.ListN.{length};
-ghost use Rattle.calls.specs.Calls.{lockCall, unlockCall, cancelCall, resetCancelled, resetState, resetCall, found, lockedCall, zeroed};
+ghost use Rattle.calls.specs.Calls.{lockCall, unlockCall, cancelCall, resetCancelled, resetCall, found, lockedCall, zeroed};
 ghost use Rattle.tokens.specs.Token.{maxLines};
 use set::set::Lines;
 use set::set::rank_in;

@@ -1,9 +1,9 @@
 -- The proved table of document 01 ("On both sides of each edge"): every case marked P, from the set text on, each from power-on. One list of cases, one statement, computed over the
 -- definitions of loading, of a beat and of the host's calls. Assumes nothing.
 use mathlib.Core.Path.{_≡_, refl}
-use mathlib.Core.Bool.{true, false}
+use mathlib.Core.Bool.{true}
 use mathlib.Core.List.{List, [], _∷_, _++_, map, reverse}
-use Prim.Native.Nat.{ℕ, zero, suc, _*_}
+use Prim.Native.Nat.{ℕ, _*_}
 use Prim.Native.String.{String}
 use lib.IntN.{ℤ, pos, negsuc}
 use lib.ListN.{take, replicate}

@@ -12,7 +12,7 @@ use Rattle.set.specs.Set.{soundLines}
 use Rattle.engine.specs.Cells.{inputCount, beatCells}
 use Rattle.state.specs.Sound.{unsoundCode, isSound, allRanged}
 use Rattle.actions.specs.Action.{World}
-use Rattle.turns.specs.Turn.{Entry, beatIn, Turned, turnsFrom}
+use Rattle.turns.specs.Turn.{beatIn, Turned, turnsFrom}
 
 abbrev pub shortBuffer : ℕ
 shortBuffer = 20

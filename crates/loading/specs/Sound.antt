@@ -17,7 +17,7 @@ use Rattle.soundness.specs.Call.{Call, doBeat, doLock, doUnlock, doCancel, doRe
 use Rattle.soundness.specs.SoundLaws.{Whole, call-keeps, call-not22, power-on-whole, always-sound, never-22}
 use Rattle.demands.specs.Run.{Now, Reply, step, runFrom, run}
 use Rattle.draft.specs.Row.{byNumber}
-use Rattle.reader.specs.Load.{refused, loadAnswer, loadSet}
+use Rattle.reader.specs.Load.{loadAnswer, loadSet}
 use Rattle.loading.specs.Answers.{taken-answer, refused-empty, by-outcome, load-power-on}
 use Rattle.loading.specs.PlacedLaws.{set-length, empty-length}
 use Rattle.loading.specs.LoadedLaws.{taken-read}

@@ -1,10 +1,8 @@
 -- Worked lines of document 01 that are about loading, computed. Assumes nothing.
 use mathlib.Core.Path.{_≡_, refl}
-use mathlib.Core.Bool.{true, false}
-use mathlib.Core.List.{List, [], _∷_, map}
+use mathlib.Core.List.{[], _∷_, map}
 use Prim.Native.Nat.{ℕ}
 use Prim.Native.String.{String}
-use lib.ListN.{take}
 use Rattle.tokens.specs.Reading.{isIndex, indexOf, isIndexed, indexAt, joined, more, readProduct, readSum, readRest, readExpression, readVariable, operandFrom, readOperand, readClose, readTruth, sumAt, expressionAt}
 use Rattle.tokens.specs.Index.{isInside}
 use Rattle.tokens.specs.SingleFault.{lower, opensTooMany, wantingFault, numberFault, readFault, isWritable, writeFault, codeFault, idFault, callFault}

@@ -3,7 +3,7 @@ use mathlib.Core.Path.{_≡_, refl, sym, ap, _∙_}
 use mathlib.Core.Bool.{Bool, true, false, _&&_, _||_, and-false}
 use mathlib.Core.List.{List, [], _∷_, _++_, append-assoc, append-nil}
 use mathlib.Core.Option.{none, some}
-use Prim.Native.Nat.{ℕ, zero, suc, _+_, _*_, min, _≤_, _<_}
+use Prim.Native.Nat.{ℕ, zero, suc, _+_, min, _≤_, _<_}
 use native.Mathlib.Omega.{arith}
 use lib.Dec.{eqb, leb, ltb}
 use lib.ListN.{length, take, set, length-append, length-set, length-take}
@@ -28,7 +28,7 @@ use Rattle.tally.specs.declared.tally.Totals.{Totals}
 use Rattle.tally.specs.Tally.{maxBeats, noTotals, ended, counted, answerOf, beatText}
 use Rattle.transcript.specs.Run.{beatsText, loadedText, synrun}
 use Rattle.beat_lines.specs.Reading.{noReading, readOn, withoutCR, isUntouched, readLent}
-use Rattle.transcript.specs.Machine.{TEXT, BEATS, OVER, keptSize, Machine, Fed, begun, withPhase, withTotals, starAfter, starOn, placeOn, placeEnd, opened, textEnd, beatOf, beatEnd, chunk, lineEnd, behind, fedLines, textOver, lastOver, finished}
+use Rattle.transcript.specs.Machine.{TEXT, BEATS, OVER, keptSize, Machine, Fed, begun, withPhase, withTotals, starAfter, starOn, placeOn, placeEnd, opened, textEnd, beatOf, beatEnd, chunk, lineEnd, fedLines, textOver, lastOver, finished}
 use Rattle.transcript.specs.RoomLaws.{byCode, byLent, over-chunk, over-line}
 use Rattle.sessions.specs.ReadingLaws.{byOption, lent-last, lent-ended, untouched}
 use Rattle.sessions.specs.MachineLaws.{put-out, text-append}

@@ -1,7 +1,7 @@
 // A set in its array: how many lines, where each begins, their tokens. The lines are read once a call, by rising number.
 ghost use mathlib.Core.Path.{_≡_};
 ghost use Prim.Native.Nat.{_≤_};
-ghost use Rattle.set.specs.Set.{noLine, noLines, linesRead, rankIn, isLock, namesKnown, allKnown, namedLines, soundLines, emptySet};
+ghost use Rattle.set.specs.Set.{noLine, noLines, linesRead, rankIn, isLock, namesKnown, allKnown, soundLines, emptySet};
 ghost use Rattle.tokens.specs.Token.{setSize, maxLines};
 use code::check::Line;
 use code::check::line_at;

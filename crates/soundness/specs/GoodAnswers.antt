@@ -1,6 +1,5 @@
 -- What a good answer is said to hold: whatever its code is otherwise, and where none stops with 22. Laws; nothing is assumed.
 use mathlib.Core.Path.{_≡_, refl}
-use mathlib.Core.Bool.{Bool, true, false, cond, _&&_}
 use Prim.Native.Nat.{ℕ}
 use Rattle.buffers.specs.Fifo.{unsound}
 use Rattle.values.specs.Numbers.{clash}

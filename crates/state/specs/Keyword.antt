@@ -1,5 +1,5 @@
 -- What a keyword makes of a line's memory m and of what its condition gives, v (document 01, "A beat"). Definitions only.
-use mathlib.Core.Bool.{Bool, true, false, cond, not, _&&_, _||_}
+use mathlib.Core.Bool.{Bool, true, cond, not, _&&_, _||_}
 use Prim.Native.Nat.{ℕ}
 use lib.Dec.{eqb}
 use Rattle.tokens.specs.Token.{WHEN, WHENEVER, FROM, EVERY}

@@ -8,7 +8,6 @@ use lib.ListN.{getD, take, drop}
 use Rattle.values.specs.Value.{inRange, lessThan, equalTo, wholeUnits, outputOf, codeOf}
 use Rattle.buffers.specs.Fifo.{places}
 use Rattle.working.specs.Variables.{asCount}
-use Rattle.set.specs.declared.set.Lines.{Lines}
 use Rattle.state.specs.declared.state.State.{State}
 use Rattle.set.specs.Set.{soundLines}
 

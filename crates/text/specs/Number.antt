@@ -1,7 +1,7 @@
 -- The token of a number: digits, or digits, point, digits (document 01, "Lines of text"). Definitions only.
 use mathlib.Core.Bool.{Bool, true, false, _&&_}
 use mathlib.Core.List.{List, [], _∷_}
-use Prim.Native.Nat.{ℕ, zero, suc, _+_, _-_, _*_, _^_}
+use Prim.Native.Nat.{ℕ, _+_, _-_, _*_, _^_}
 use lib.Dec.{leb}
 use lib.ListN.{length}
 use Rattle.values.specs.Value.{unit, top}

@@ -4,8 +4,7 @@ use mathlib.Core.List.{List, [], _∷_}
 use Prim.Native.Nat.{ℕ, _+_, _-_, min}
 use lib.Dec.{eqb, leb, ltb}
 use Rattle.values.specs.Value.{top}
-use Rattle.tokens.specs.Token.{END, OPEN, CLOSE, WHEN, EVERY, OUT, TIMER, R, M, SETAL, between, isFifo, thousandths}
-use Rattle.tokens.specs.Reading.{read}
+use Rattle.tokens.specs.Token.{END, OPEN, CLOSE, WHEN, EVERY, OUT, TIMER, R, SETAL, between, isFifo, thousandths}
 use Rattle.tokens.specs.Index.{isInside}
 
 abbrev pub tooDeep : ℕ

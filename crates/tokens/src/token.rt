@@ -2,7 +2,7 @@
 ghost use mathlib.Core.Path.{_≡_};
 ghost use Prim.Native.Nat.{_<_};
 ghost use lib.ListN.{length, getD};
-ghost use Rattle.tokens.specs.Token.{between, isNumber, isVariable, isNumbered, isFifo, isAxis, isDrive, isCall, isKeyword, isId, isBracket, isFactor, isTerm, isCompare, isLogic, isWhole, whole};
+ghost use Rattle.tokens.specs.Token.{between, isNumber, isVariable, isFifo, isAxis, isDrive, isCall, isKeyword, isId, isBracket, isFactor, isTerm, isCompare, isLogic, isWhole, whole};
 ghost use Rattle.tokens.specs.Reading.{isRow, isIndex, indexOf, isIndexed, indexAt};
 
 // The lines that a set may have, the actions of each, and the bytes of its text.

@@ -1,7 +1,7 @@
 -- A session of synrun as the code works it: line by line, whatever the pieces of its input. That this comes to what Run says is shown in the crate `sessions`. Definitions only.
 use mathlib.Core.Bool.{Bool, true, false, _&&_, _||_}
 use mathlib.Core.List.{List, [], _∷_, _++_}
-use mathlib.Core.Option.{Option, none, some}
+use mathlib.Core.Option.{none, some}
 use Prim.Native.Nat.{ℕ, zero, suc, _+_, min}
 use lib.Dec.{eqb, leb, ltb}
 use lib.ListN.{length, set, take, drop}
@@ -11,7 +11,6 @@ use Rattle.draft.specs.Row.{putAt}
 use Rattle.reader.specs.Load.{loadAnswer, loadSet}
 use Rattle.transcript.specs.declared.session.Place.{Place}
 use Rattle.transcript.specs.declared.session.Session.{Session}
-use Rattle.transcript.specs.declared.session.Stepped.{Stepped}
 use Rattle.beat_lines.specs.declared.beat_line.Reading.{Reading}
 use Rattle.beat_lines.specs.BeatLine.{Lent}
 use Rattle.printing.specs.Output.{loadLine, errorLine}

@@ -1,10 +1,10 @@
 -- How much a line of input may print, and that a fit session stays fit while its input goes on. Assumes nothing.
 use mathlib.Core.Path.{_≡_, refl}
-use mathlib.Core.Bool.{Bool, true, false, _&&_, _||_}
-use mathlib.Core.List.{List, [], _∷_, _++_}
+use mathlib.Core.Bool.{true, false, _&&_, _||_}
+use mathlib.Core.List.{List, [], _∷_}
 use mathlib.Core.Logic.{_⊎_, inl, inr}
 use mathlib.Core.Option.{Option, none, some}
-use Prim.Native.Nat.{ℕ, zero, suc, _+_, _*_, _-_, _/_, _%_, min, _≤_}
+use Prim.Native.Nat.{ℕ, zero, suc, _+_, _*_, _-_, _/_, _≤_}
 use native.Mathlib.Omega.{arith}
 use lib.Dec.{eqb, leb, ltb}
 use lib.ListN.{length, take, drop, getD, replicate, length-append}
@@ -22,7 +22,7 @@ use Rattle.tally.specs.declared.tally.Totals.{Totals}
 use Rattle.tally.specs.Tally.{maxBeats, counted, answerOf, bufferOf, beatText}
 use Rattle.tally.specs.Taken.{areFit}
 use Rattle.tally.specs.TallyLaws.{FitTotals, fit-totals, totals-fit, counted-fit}
-use Rattle.beat_lines.specs.Reading.{illFormed, withField, closed, spaceAfter, modeByte, minusByte, digitByte, fieldByte, readByte, readOn, greatest, readLent, withoutCR, isUntouched}
+use Rattle.beat_lines.specs.Reading.{withField, closed, spaceAfter, modeByte, minusByte, digitByte, fieldByte, readByte, readOn, greatest, readLent, withoutCR, isUntouched}
 use Rattle.transcript.specs.Machine.{TEXT, BEATS, OVER, keptSize, Machine, Fed, isFit, placeOn, placeEnd, opened, textEnd, beatOf, beatEnd, chunk, lineEnd, textOver, lastOver, finished, finishedText, lineRoom}
 use Rattle.transcript.specs.OrdersLaws.{orders-within}
 

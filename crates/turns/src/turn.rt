@@ -4,7 +4,6 @@ ghost use mathlib.Core.Bool.{Bool};
 ghost use mathlib.Core.List.{List};
 ghost use Prim.Native.Nat.{ℕ, _+_, _*_, _^_, _≤_, _<_};
 ghost use Rattle.turns.specs.Turn.{Entry, doTurn, tryTurn, turnOf, turnsFrom};
-ghost use Rattle.state.specs.Keyword.{acts};
 ghost use Rattle.actions.specs.Held.{worldOf};
 ghost use Rattle.turns.specs.TurnHeld.{IsTurned, firstFlags, withLines};
 ghost use Rattle.tokens.specs.Token.{maxLines};

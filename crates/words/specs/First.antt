@@ -1,5 +1,5 @@
 -- The first token of some bytes, longest first: a word, a number or a sign (document 01, "Lines of text"). Definitions only.
-use mathlib.Core.Bool.{Bool, true, false}
+use mathlib.Core.Bool.{true, false}
 use mathlib.Core.List.{List, [], _∷_}
 use Prim.Native.Nat.{ℕ, zero, suc, _+_}
 use lib.Dec.{eqb}

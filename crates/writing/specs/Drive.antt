@@ -1,6 +1,6 @@
 -- The orders of POS, FA and MOV (document 01, "A beat"). Definitions only.
 use mathlib.Core.Bool.{true, false}
-use Prim.Native.Nat.{ℕ, _-_}
+use Prim.Native.Nat.{ℕ}
 use lib.Dec.{eqb}
 use lib.IntN.{ℤ}
 use Rattle.values.specs.Value.{feedOf, signOf}

@@ -10,7 +10,7 @@ use Rattle.values.specs.Time.{timer, writtenTimer}
 use Rattle.buffers.specs.Fifo.{places, unsound, appendAnswer, appended, removeAnswer, removed, emptyAnswer, emptied}
 use Rattle.buffers.specs.declared.fifo.Moved.{Moved}
 use Rattle.buffers.specs.declared.fifo.Moved.the-variants as M
-use Rattle.tokens.specs.Token.{OUT, MARKER, PARAM, R, TIMER, FIFO1, M, isFifo, whole}
+use Rattle.tokens.specs.Token.{OUT, MARKER, PARAM, R, TIMER, FIFO1, M, isFifo}
 use Rattle.tokens.specs.Reading.{Answer, good, stop, _>>=_}
 use Rattle.tokens.specs.Index.{isInside}
 use Rattle.working.specs.Variables.{cellOf, counts, countAt, runStart, run}

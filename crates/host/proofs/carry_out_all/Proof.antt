@@ -1,7 +1,6 @@
 -- `carry_out_all` ends: it comes to n.
 use borrow.Author.Needs.{needs}
 use Prim.Native.Nat.{_-_}
-use native.Mathlib.Omega.{arith}
 use Rattle.host.proofs.carry_out_all.Statement.{statement}
 use Rattle.host.proofs.carry_out_all.Tie as tie
 

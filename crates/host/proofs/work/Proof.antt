@@ -1,7 +1,6 @@
 -- `work` ends: it comes to the last beat.
 use borrow.Author.Needs.{needs}
 use Prim.Native.Nat.{_-_}
-use native.Mathlib.Omega.{arith}
 use Rattle.host.proofs.work.Statement.{statement}
 use Rattle.host.proofs.work.Tie as tie
 

@@ -1,6 +1,6 @@
 -- `hand_over` ends: of a piece that is not used up something is taken, and no more than there is; and what was printed fits in the buffer.
 use borrow.Author.Needs.{needs}
-use mathlib.Core.Path.{_≡_, sym}
+use mathlib.Core.Path.{sym}
 use Prim.Native.Nat.{ℕ, _-_, _≤_, _<_}
 use native.Mathlib.Omega.{arith}
 use lib.ListN.{length, take, drop, length-replicate}

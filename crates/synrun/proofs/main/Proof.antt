@@ -1,9 +1,8 @@
 -- `main` ends, since its turns count down, and what it writes last fits in the buffer.
 use borrow.Author.Needs.{needs}
-use mathlib.Core.Path.{_≡_, sym}
+use mathlib.Core.Path.{sym}
 use Prim.Native.Nat.{ℕ}
-use native.Mathlib.Omega.{arith}
-use lib.ListN.{length, length-replicate}
+use lib.ListN.{length-replicate}
 use lib.Seq.{length-take-le}
 use Rattle.synrun.proofs.StepLaws.{end-room}
 use Rattle.synrun.proofs.main.Statement.{statement}

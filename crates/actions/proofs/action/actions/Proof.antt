@@ -1,8 +1,7 @@
 -- `action::actions` meets its contract: with room for eight more orders the actions are taken, without it the alarm says so.
 use borrow.Author.Needs.{needs}
-use mathlib.Core.Path.{_≡_, refl}
+use mathlib.Core.Path.{refl}
 use native.Mathlib.Omega.{arith}
-use denote.Ref.{now}
 use Rattle.actions.proofs.HeldLaws.{same-flags}
 use Rattle.actions.proofs.ActionLaws.{no-room, with-room}
 use Rattle.actions.proofs.action.actions.Statement.{statement}

@@ -1,7 +1,6 @@
 -- `draft::read_text` meets its contract, by its two tests; DraftLaws has what a text comes to.
 use borrow.Author.Needs.{needs}
-use native.Mathlib.Omega.{arith}
-use mathlib.Core.Path.{_≡_, sym, _∙_}
+use mathlib.Core.Path.{sym, _∙_}
 use denote.Ref.{now}
 use Rattle.draft.proofs.DraftLaws.{text-long, text-many, text-lines}
 use Rattle.draft.proofs.draft.read_text.Statement.{statement}

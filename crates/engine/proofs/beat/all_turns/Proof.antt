@@ -1,7 +1,6 @@
 -- `beat::all_turns` meets its contract: what the turns came to, stopped or done.
 use borrow.Author.Needs.{needs}
 use borrow.Author.Tests.{not-true, not-false}
-use mathlib.Core.Path.{refl}
 use native.Mathlib.Omega.{arith}
 use denote.Ref.{now}
 use Rattle.tokens.specs.Reading.{Answer}

@@ -1,6 +1,6 @@
 -- `turn::turns` meets its contract: the turns of as many lines as a set may have, or none.
 use borrow.Author.Needs.{needs}
-use mathlib.Core.Path.{_≡_, refl}
+use mathlib.Core.Path.{refl}
 use native.Mathlib.Omega.{arith}
 use Rattle.turns.proofs.TurnLaws.{few-lines, many-lines}
 use Rattle.turns.proofs.turn.turns.Statement.{statement}

@@ -1,7 +1,7 @@
 -- `write::take_oldest` meets its contract: a FIFO is changed, any other word is an alarm.
 use borrow.Author.Needs.{needs}
 use borrow.Author.Tests.{not-true, not-false}
-use mathlib.Core.Path.{_≡_, refl, sym, _∙_}
+use mathlib.Core.Path.{refl, sym, _∙_}
 use denote.Ref.{now}
 use Rattle.writing.proofs.WriteLaws.{oldest-taken, none-taken}
 use Rattle.writing.proofs.write.take_oldest.Statement.{statement}
