@@ -12,7 +12,7 @@ use Rattle.buffers.specs.Order.{orderBytes}
 use Rattle.buffers.specs.declared.order.Order.{Order}
 use Rattle.buffers.specs.declared.order.Kind.the-variants as K
 use Rattle.tokens.specs.Token.{END, M, SETAL, LOCK, isVariable, isDrive, whole, maxLines, maxActions}
-use Rattle.tokens.specs.Reading.{Answer, good, stop, _>>=_, indexAt}
+use Rattle.tokens.specs.Reading.{token, Answer, good, stop, _>>=_, indexAt}
 use Rattle.code.specs.Fault.{isRemoval}
 use Rattle.working.specs.Working.{rightValue}
 use Rattle.working.specs.declared.work.Got.{Got}
@@ -106,30 +106,27 @@ driveOf s number x w p =
     ]
 
 module _ (s numbers : List ℕ) (cancelled : List Bool) (number : ℕ) where
-  abbrev token : ℕ → ℕ
-  token p = getD s p 0
-
   -- M= and a number; SETAL, LOCK, UNLOCK and a number in brackets
   unfoldable pub commandOf : World → ℕ → ℕ → Answer Did
   commandOf x w p =
       elim (eqb w M) [
-        | true ↦ did (p + 3) (ordered x (orderOf number K.M 0 (pos (whole (token (p + 2))))))
+        | true ↦ did (p + 3) (ordered x (orderOf number K.M 0 (pos (whole (token s (p + 2))))))
         | false ↦
             elim (eqb w SETAL) [
-              | true ↦ did (p + 4) (ordered x (orderOf number K.Setal 0 (pos (whole (token (p + 2))))))
-              | false ↦ lockOf cancelled x (eqb w LOCK) (rankIn numbers (whole (token (p + 2))) 0) (p + 4)
+              | true ↦ did (p + 4) (ordered x (orderOf number K.Setal 0 (pos (whole (token s (p + 2))))))
+              | false ↦ lockOf cancelled x (eqb w LOCK) (rankIn numbers (whole (token s (p + 2))) 0) (p + 4)
             ]
       ]
 
   -- the action at p
   unfoldable pub actionOf : World → ℕ → Answer Did
   actionOf x p =
-      elim (eqb (token p) END) [
+      elim (eqb (token s p) END) [
         | true ↦ stop unsound
         | false ↦
-            elim (isVariable (token p)) [
-              | true ↦ assignmentOf s x (token p) p
-              | false ↦ elim (isDrive (token p)) [ true ↦ driveOf s number x (token p) p | false ↦ commandOf x (token p) p ]
+            elim (isVariable (token s p)) [
+              | true ↦ assignmentOf s x (token s p) p
+              | false ↦ elim (isDrive (token s p)) [ true ↦ driveOf s number x (token s p) p | false ↦ commandOf x (token s p) p ]
             ]
       ]
 
@@ -138,7 +135,7 @@ module _ (s numbers : List ℕ) (cancelled : List Bool) (number : ℕ) where
   actionsOf zero x p = stop unsound
   actionsOf (suc j) x p =
       actionOf x p >>= λ d.
-      elim (eqb (token (d .next)) END) [
+      elim (eqb (token s (d .next)) END) [
         | true ↦ good d
         | false ↦ actionsOf j (d .world) (d .next) >>= λ e. good (record { world = e .world; next = e .next; notes = d .notes ++ e .notes })
       ]

@@ -7,10 +7,10 @@ ghost use Prim.Native.Nat.{ℕ, _+_, _≤_, _<_};
 ghost use mathlib.Core.List.{List};
 ghost use lib.IntN.{ℤ, pos};
 ghost use Rattle.working.specs.Working.{rightValue};
-ghost use Rattle.actions.specs.Action.{fromGot, alarmOf, did, ordered, takenAt, assignmentOf, driveOf, lockOf, commandOf, actionOf, actionsOf, withRoom};
+ghost use Rattle.actions.specs.Action.{fromGot, alarmOf, did, ordered, takenAt, assignmentOf, driveOf, lockOf, commandOf, actionOf, actionsOf, withRoom, maxOrders};
 ghost use Rattle.writing.specs.WriteHeld.{varsOf};
 ghost use Rattle.actions.specs.Held.{worldOf, IsWorked, IsTaken, IsDone, Within};
-ghost use Rattle.tokens.specs.Token.{setSize};
+ghost use Rattle.tokens.specs.Token.{maxActions, setSize};
 use buffers::order::Kind;
 use buffers::order::ORDER_BYTES;
 use buffers::order::Order;
@@ -127,7 +127,7 @@ fn take(
     runs: [bool; TIMERS],
     p: usize,
 ) -> Took
-    requires { ⌜ p < 4136 ⌝ }
+    requires { ⌜ p < setSize + 5 ⌝ }
     ensures { λ x. ⌜ IsTaken x (now (r .exit)) (now (cells .exit)) runs (takenAt (now (code .entry)) (varsOf (now (r .entry)) (now (cells .entry)) runs) p) ⌝ }
 {
     if !is_removal(code, p) {
@@ -199,10 +199,10 @@ fn assign(
 
 // An order goes behind those of the beat so far.
 fn add_order(out: &mut [u8; ORDERS], flags: Flags, o: Order, next: usize) -> Done
-    requires { ⌜ flags .count < 256 ⌝ }
+    requires { ⌜ flags .count < maxOrders ⌝ }
     ensures { λ x. ⌜ ((r c : List ℤ) → IsDone x r c (now (out .exit)) (did next (ordered (worldOf r c (now (out .entry)) flags) o))) × Within 1 x flags ⌝ }
 {
-    let at = flags.count * 8;
+    let at = flags.count * ORDER_BYTES;
     put(out, at, o);
     let mut f = flags;
     f.count = flags.count + 1;
@@ -220,7 +220,7 @@ fn drive(
     w: u32,
     p: usize,
 ) -> Done
-    requires { ⌜ (p < setSize) × (flags .count < 256) ⌝ }
+    requires { ⌜ (p < setSize) × (flags .count < maxOrders) ⌝ }
     ensures { λ x. ⌜ IsDone x (now (r .entry)) (now (cells .entry)) (now (out .exit)) (driveOf (now (code .entry)) number (worldOf (now (r .entry)) (now (cells .entry)) (now (out .entry)) flags) w p) × Within 1 x flags ⌝ }
 {
     let axis = index_at(code, w, p);
@@ -267,7 +267,7 @@ fn command(
     w: u32,
     p: usize,
 ) -> Done
-    requires { ⌜ (p < setSize) × (flags .count < 256) ⌝ }
+    requires { ⌜ (p < setSize) × (flags .count < maxOrders) ⌝ }
     ensures { λ x. ⌜ ((r c : List ℤ) → IsDone x r c (now (out .exit)) (commandOf (now (code .entry)) (now (numbers .entry)) (now (cancelled .entry)) number (worldOf r c (now (out .entry)) flags) w p)) × Within 1 x flags ⌝ }
 {
     let n = whole_of(token_at(code, p + 2));
@@ -312,7 +312,7 @@ fn action(
     number: u8,
     p: usize,
 ) -> Done
-    requires { ⌜ flags .count < 256 ⌝ }
+    requires { ⌜ flags .count < maxOrders ⌝ }
     ensures { λ x. ⌜ IsDone x (now (r .exit)) (now (cells .exit)) (now (out .exit)) (actionOf (now (code .entry)) (now (numbers .entry)) (now (cancelled .entry)) number (worldOf (now (r .entry)) (now (cells .entry)) (now (out .entry)) flags) p) × Within 1 x flags ⌝ }
 {
     let w = token_at(code, p);
@@ -340,8 +340,8 @@ fn all_actions(
     number: u8,
     p: usize,
 ) -> Done
-    requires { ⌜ flags .count ≤ 248 ⌝ }
-    ensures { λ x. ⌜ IsDone x (now (r .exit)) (now (cells .exit)) (now (out .exit)) (actionsOf (now (code .entry)) (now (numbers .entry)) (now (cancelled .entry)) number 8 (worldOf (now (r .entry)) (now (cells .entry)) (now (out .entry)) flags) p) × Within 8 x flags ⌝ }
+    requires { ⌜ flags .count + maxActions ≤ maxOrders ⌝ }
+    ensures { λ x. ⌜ IsDone x (now (r .exit)) (now (cells .exit)) (now (out .exit)) (actionsOf (now (code .entry)) (now (numbers .entry)) (now (cancelled .entry)) number maxActions (worldOf (now (r .entry)) (now (cells .entry)) (now (out .entry)) flags) p) × Within maxActions x flags ⌝ }
 {
     let mut f = flags;
     let mut i = p;
@@ -376,7 +376,7 @@ pub fn actions(
     number: u8,
     p: usize,
 ) -> Done
-    ensures { λ x. ⌜ IsDone x (now (r .exit)) (now (cells .exit)) (now (out .exit)) (withRoom (flags .count) (actionsOf (now (code .entry)) (now (numbers .entry)) (now (cancelled .entry)) number 8 (worldOf (now (r .entry)) (now (cells .entry)) (now (out .entry)) flags) p)) × Within 8 x flags ⌝ }
+    ensures { λ x. ⌜ IsDone x (now (r .exit)) (now (cells .exit)) (now (out .exit)) (withRoom (flags .count) (actionsOf (now (code .entry)) (now (numbers .entry)) (now (cancelled .entry)) number maxActions (worldOf (now (r .entry)) (now (cells .entry)) (now (out .entry)) flags) p)) × Within maxActions x flags ⌝ }
 {
     if ROOM < flags.count {
         return not_done(UNSOUND, flags);

@@ -1,25 +1,25 @@
--- Laws on what the check sees as one number: what it says by the test of the code, and what was made into a number is seen again; what the operators of each level join.
+-- Laws on what the check sees as one number: what it says by the test of the code, and what was made into a number is seen again; its end and depth; what has no fault; faults alone; what the operators of each level join.
 use mathlib.Core.Path.{_≡_, refl, sym, ap, _∙_}
 use mathlib.Core.Bool.{Bool, true, false, cond, not, _||_}
 use Prim.Native.Nat.{ℕ, _+_, _/_, _%_, _<_, _≤_}
 use native.Mathlib.Omega.{arith}
 use lib.Dec.{eqb}
 use borrow.Author.Tests.{eqb-true, eq-eqb, ne-eqb}
-use Rattle.tokens.specs.Token.{SAME, ATLEAST, PLUS, MINUS, TIMES, OVER, AND, XOR, isFactor, isTerm, isCompare, isLogic}
+use Rattle.tokens.specs.Token.{setSize, SAME, ATLEAST, PLUS, MINUS, TIMES, OVER, AND, XOR, isFactor, isTerm, isCompare, isLogic}
 use Rattle.tokens.specs.Reading.{Read, read, ends, then}
-use Rattle.tokens.specs.SingleFault.{lower, wantingFault}
+use Rattle.tokens.specs.SingleFault.{notInGrammar, lower, wantingFault}
 use Rattle.tokens.proofs.Answers as answers
 use Rattle.tokens.proofs.Between.{inside, outside}
-use Rattle.code.specs.Fault.{Sight, joinSights, faultFor, signedSight}
-use Rattle.code.specs.Seen.{numberSeen, truthSeen, nextOf, truthOf, faultOf, depthOf, isFaultless, sightOf, seen, faulted, lowest}
-use Rattle.code.specs.Brackets.{Level, Joined}
+use Rattle.code.specs.Fault.{Sight, joinSights, faultFor, lowest}
+use Rattle.code.specs.Seen.{numberSeen, truthSeen, nextOf, truthOf, faultOf, depthOf, deeperOf, isFaultless, sightOf, seen, faulted, signedSight}
+use Rattle.code.specs.Brackets.{SameEnd, Joined}
 
 -- the number w, whose next place is i
 module _ (w : ℕ) {i : ℕ} (e : i ≡ nextOf w) where
   pub room : i < 8192
   room = omega arith
 
-  pub seen-stop : i ≡ 0 → seen w ≡ ends 5
+  pub seen-stop : i ≡ 0 → seen w ≡ ends notInGrammar
   unfolding seen
   seen-stop h = simp (seen, eq-eqb (nextOf w) 0 (sym e ∙ h))
 
@@ -29,16 +29,16 @@ module _ (w : ℕ) {i : ℕ} (e : i ≡ nextOf w) where
 
   -- what ends the reading passes through a step
   pub passes : (f : Sight → ℕ → Read Sight) → i ≡ 0 → seen w ≡ then (seen w) f
-  passes f h = answers.passes answers.same answers.same (seen w) f refl (seen-stop h)
+  passes f h = answers.passes f (seen-stop h)
 
   -- what is seen goes into a step
   pub enters : (f : Sight → ℕ → Read Sight) {x : Read Sight} → (i ≡ 0 → ⊥) → x ≡ f (sightOf w) i → x ≡ then (seen w) f
-  enters f h k = k ∙ ap (λ (r : Read Sight). then r f) (sym (seen-read h))
+  enters f h k = answers.enters f (seen-read h) k
 
 -- not in the grammar
-pub nothing : seen 0 ≡ ends 5
+pub seen-nothing : seen 0 ≡ ends notInGrammar
 unfolding seen
-nothing = refl
+seen-nothing = refl
 
 seen-as : (w p f : ℕ) {t : Bool} → p ≡ nextOf w → 0 < p → truthOf w ≡ t → faultOf w ≡ f → seen w ≡ read (record { truth = t; fault = f }) p
 seen-as w p f e l g h = rw (sym g, sym h) (seen-read w e (λ z. omega arith))
@@ -65,7 +65,7 @@ module _ {f d : ℕ} (p : ℕ) {x : ℕ} (b : f < 256) (c : d < 256) (m : p < 81
     seen-truth e h = let k = truth-made e in seen-as x p g (sym (k .next)) l (eq-eqb (x / 8192 % 2) 1 (omega arith)) (k .fault ∙ h)
 
 -- one more is the next place; and one bracket more goes deeper
-module _ (w : ℕ) {i : ℕ} (e : i ≡ nextOf w) (l : i < 4130) where
+module _ (w : ℕ) {i : ℕ} (e : i ≡ nextOf w) (l : i < setSize) where
   pub seen-next : seen (w + 1) ≡ read (sightOf w) (i + 1)
   seen-next =
       let b : (w + 1) / 8192 ≡ w / 8192 = omega arith in
@@ -85,29 +85,29 @@ module _ (w : ℕ) {i : ℕ} (e : i ≡ nextOf w) (l : i < 4130) where
 
 -- ---- what the numbers say of the brackets
 
-pub level-same : (w : ℕ) → Level w w
-level-same w = record { next = refl; depth = refl }
+pub same-end : (w : ℕ) → SameEnd w w
+same-end w = record { next = refl; depth = refl }
 
-pub level-made : (w : ℕ) {f d p x : ℕ} → Made f d p x → p ≡ nextOf w → d ≡ depthOf w → Level w x
-level-made w k e h = record { next = k .next ∙ e; depth = k .depth ∙ h }
+pub same-end-made : (w : ℕ) {f d p x : ℕ} → Made f d p x → p ≡ nextOf w → d ≡ depthOf w → SameEnd w x
+same-end-made w k e h = record { next = k .next ∙ e; depth = k .depth ∙ h }
 
 pub joined-nothing : (a b : ℕ) → nextOf b ≡ 0 → Joined a b b
 joined-nothing a b e = record { next = refl; first = λ g. absurd (g e); second = λ g. absurd (g e) }
 
-pub joined-made : (a b : ℕ) {f d p x : ℕ} → Made f d p x → p ≡ nextOf b → depthOf a ≤ d → depthOf b ≤ d → Joined a b x
-joined-made a b k e h i = record { next = k .next ∙ e; first = λ g. rw (k .depth) h; second = λ g. rw (k .depth) i }
+pub joined-made : (a b : ℕ) {f d p x : ℕ} → Made f d p x → p ≡ nextOf b → d ≡ deeperOf a b → Joined a b x
+joined-made a b k e h = record { next = k .next ∙ e; first = λ g. omega (arith, k .depth); second = λ g. omega (arith, k .depth) }
 
 -- ---- what was wanted, and no fault
 
-pub record Wanted (t : Bool) (w : ℕ) : Type 0 where
+pub record Faultless (t : Bool) (w : ℕ) : Type 0 where
   pub truth : truthOf w ≡ t
   pub fault : faultOf w ≡ 0
 
 module _ (t : Bool) (w : ℕ) {o : Bool} (e : o ≡ isFaultless t w) (h : o ≡ true) where
-  pub wanted-seen : Wanted t w
-  wanted-seen = go t (eqb-true (w / 8192 % 512) (cond t 1 0) (sym e ∙ h))
+  pub faultless-seen : Faultless t w
+  faultless-seen = go t (eqb-true (w / 8192 % 512) (cond t 1 0) (sym e ∙ h))
     where
-      go : (t : Bool) → w / 8192 % 512 ≡ cond t 1 0 → Wanted t w
+      go : (t : Bool) → w / 8192 % 512 ≡ cond t 1 0 → Faultless t w
       go true f = record { truth = eq-eqb (w / 8192 % 2) 1 (omega arith); fault = omega arith }
       go false f = record { truth = ne-eqb (w / 8192 % 2) 1 (λ z. omega arith); fault = omega arith }
 
@@ -116,13 +116,13 @@ unfolding wantingFault
 none-wanting true = refl
 none-wanting false = refl
 
-pub lowest-none : (t : Bool) (a b : ℕ) → Wanted t a → Wanted t b → 0 ≡ lowest t (sightOf a) (sightOf b)
+pub lowest-none : (t : Bool) (a b : ℕ) → Faultless t a → Faultless t b → 0 ≡ lowest t (sightOf a) (sightOf b)
 unfolding lower
 lowest-none t a b f g = sym (simp (f .truth, f .fault, g .truth, g .fault, none-wanting t))
 
-pub wanted-same : (t : Bool) (a : ℕ) → Wanted t a → seen a ≡ then (seen a) (signedSight t)
+pub faultless-same : (t : Bool) (a : ℕ) → Faultless t a → seen a ≡ then (seen a) (signedSight t)
 unfolding seen lower
-wanted-same t a f = go (eqb (nextOf a) 0) refl
+faultless-same t a f = go (eqb (nextOf a) 0) refl
   where
     go : (b : Bool) → eqb (nextOf a) 0 ≡ b → seen a ≡ then (seen a) (signedSight t)
     go true h = simp (seen, h)
@@ -131,7 +131,7 @@ wanted-same t a f = go (eqb (nextOf a) 0) refl
 -- ---- faults alone
 
 module _ (w : ℕ) {i : ℕ} (e : i ≡ nextOf w) where
-  pub faulted-stop : i ≡ 0 → faulted w ≡ ends 5
+  pub faulted-stop : i ≡ 0 → faulted w ≡ ends notInGrammar
   unfolding faulted
   faulted-stop h = simp (faulted, eq-eqb (nextOf w) 0 (sym e ∙ h))
 
@@ -139,9 +139,9 @@ module _ (w : ℕ) {i : ℕ} (e : i ≡ nextOf w) where
   unfolding faulted
   faulted-read h = rw e (simp (faulted, ne-eqb (nextOf w) 0 (λ z. h (e ∙ z))))
 
-pub no-fault : faulted 0 ≡ ends 5
+pub faulted-nothing : faulted 0 ≡ ends notInGrammar
 unfolding faulted
-no-fault = refl
+faulted-nothing = refl
 
 pub faulted-made : {f d p x : ℕ} → Made f d p x → 0 < p → faulted x ≡ read f p
 faulted-made {p = p} {x = x} k l = faulted-read x (sym (k .next)) (λ z. omega arith) ∙ ap (λ (g : ℕ). read g p) (k .fault)

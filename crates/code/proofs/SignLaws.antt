@@ -10,7 +10,8 @@ use borrow.Author.Tests.{eqb-true, eq-eqb, ne-eqb}
 use Rattle.tokens.specs.Token.{MINUS}
 use Rattle.tokens.specs.Reading.{Read, read, ends, then, readOperand}
 use Rattle.tokens.specs.SingleFault.{lower, wantingFault}
-use Rattle.code.specs.Fault.{Sight, sight, signedSight, signsBehind}
+use Rattle.code.specs.Fault.{Sight, sight}
+use Rattle.code.specs.Seen.{signedSight, signsBehind}
 use Rattle.tokens.proofs.Arms.{minus-arm}
 
 module _ (s : List ℕ) (k p t n : ℕ) (e : t ≡ getD s (p + 1) 0) where

@@ -14,32 +14,32 @@ pub record Plain (t : ℕ) : Type 0 where
   pub no-close : t ≡ CLOSE → ⊥
 
 -- from p to q at most d more stand open, and all of them are closed: the count goes on at q as at p, unless the d are too many
-abbrev pub Passes : List ℕ → ℕ → ℕ → ℕ → Type 0
-Passes s p d q = (n : ℕ) → n + d ≤ bracketsOpen → opensTooMany (drop p s) n ≡ opensTooMany (drop q s) n
+abbrev pub CountsOn : List ℕ → ℕ → ℕ → ℕ → Type 0
+CountsOn s p d q = (n : ℕ) → n + d ≤ bracketsOpen → opensTooMany (drop p s) n ≡ opensTooMany (drop q s) n
 
--- the number w says more than that something is not in the grammar
-abbrev pub Good : ℕ → Type 0
-Good w = nextOf w ≡ 0 → ⊥
+-- w has a place: what it says is in the grammar
+abbrev pub InGrammar : ℕ → Type 0
+InGrammar w = nextOf w ≡ 0 → ⊥
 
--- w says what was read from p on
-pub record Passed (s : List ℕ) (p w : ℕ) : Type 0 where
-  pub passes : Good w → Passes s p (depthOf w) (nextOf w)
+-- w was read from p on: from p to its place the count goes on, at its depth
+pub record Counted (s : List ℕ) (p w : ℕ) : Type 0 where
+  pub counts : InGrammar w → CountsOn s p (depthOf w) (nextOf w)
 
--- x says what w says, and what was read behind it
+-- x is w and what was read behind it: what w was read from, x was read from too
 pub record Onward (s : List ℕ) (w x : ℕ) : Type 0 where
-  pub goes : (p : ℕ) → Passed s p w → Passed s p x
+  pub goes : (p : ℕ) → Counted s p w → Counted s p x
 
--- x says what w says, in brackets that are opened before it and closed behind it
+-- x is w with a ( before it and a ) behind it
 pub record InBrackets (s : List ℕ) (w x : ℕ) : Type 0 where
-  pub goes : (p : ℕ) → getD s p 0 ≡ OPEN → Passed s (p + 1) w → Passed s p x
+  pub goes : (p : ℕ) → getD s p 0 ≡ OPEN → Counted s (p + 1) w → Counted s p x
 
 -- x ends where w ends, and is as deep
-pub record Level (w x : ℕ) : Type 0 where
+pub record SameEnd (w x : ℕ) : Type 0 where
   pub next : nextOf x ≡ nextOf w
   pub depth : depthOf x ≡ depthOf w
 
 -- x ends where b ends, and is at least as deep as a and as b
 pub record Joined (a b x : ℕ) : Type 0 where
   pub next : nextOf x ≡ nextOf b
-  pub first : Good x → depthOf a ≤ depthOf x
-  pub second : Good x → depthOf b ≤ depthOf x
+  pub first : InGrammar x → depthOf a ≤ depthOf x
+  pub second : InGrammar x → depthOf b ≤ depthOf x

@@ -3,10 +3,10 @@ use mathlib.Core.Bool.{Bool, true, false, cond, not, _&&_, _||_}
 use mathlib.Core.List.{List}
 use Prim.Native.Nat.{ℕ, zero, suc, _+_}
 use lib.Dec.{eqb, leb}
-use lib.ListN.{getD, drop}
+use lib.ListN.{drop}
 use Rattle.code.specs.declared.check.Line.{Line}
-use Rattle.tokens.specs.Token.{setSize, END, EQUALS, MINUS, OPEN, CLOSE, IDS, DO, M, isVariable, isFifo, isDrive, isCall, isKeyword, isId, isFactor, isTerm, isLogic, isWhole, whole, maxActions}
-use Rattle.tokens.specs.Reading.{good, Read, read, ends, then, Meaning, isIndexed, indexAt, sumAt, expressionAt}
+use Rattle.tokens.specs.Token.{setSize, END, EQUALS, OPEN, CLOSE, IDS, DO, M, isVariable, isFifo, isDrive, isCall, isKeyword, isId, isFactor, isTerm, isLogic, isWhole, whole, maxActions}
+use Rattle.tokens.specs.Reading.{token, good, Read, read, ends, then, Meaning, isIndexed, indexAt, sumAt, expressionAt}
 use Rattle.tokens.specs.SingleFault.{callFault, codeFault, idFault, lower, notInGrammar, numberFault, opensTooMany, readFault, tooDeep, tooMany, unless, wantingFault, writeFault}
 
 -- ---- 5 to 8 in an expression
@@ -19,11 +19,12 @@ pub record Sight : Type 0 where
 abbrev pub wanting : Bool → Sight → ℕ
 wanting wanted a = wantingFault wanted (a .truth)
 
+-- the lowest fault of two side by side, where yes/no (true) or numbers (false) are wanted
+abbrev pub lowest : Bool → Sight → Sight → ℕ
+lowest wanted a b = lower (lower (wanting wanted a) (wanting wanted b)) (lower (a .fault) (b .fault))
+
 unfoldable pub joinSights : ℕ → Sight → Sight → Sight
-joinSights o a b = record {
-  truth = not (isFactor o || isTerm o);
-  fault = lower (lower (wanting (isLogic o) a) (wanting (isLogic o) b)) (lower (a .fault) (b .fault));
-}
+joinSights o a b = record { truth = not (isFactor o || isTerm o); fault = lowest (isLogic o) a b }
 
 -- behind a sign: a number behind -, a yes/no behind NOT, and it gives the same
 abbrev pub signed : Bool → Sight → Sight
@@ -42,24 +43,16 @@ sight = record {
 
 -- an expression where a yes/no (true) or a number (false) is wanted: its lowest fault of 6 to 8
 abbrev pub faultFor : Bool → Read Sight → Read ℕ
-faultFor t (read a q) = read (lower (wanting t a) (a .fault)) q
+faultFor t (read a q) = read (signed t a .fault) q
 faultFor t (ends k) = ends k
 
-abbrev pub signedSight : Bool → Sight → ℕ → Read Sight
-signedSight t a q = read (signed t a) q
-
--- how many more - stand directly behind the one at p, at most k
-unfoldable pub signsBehind : List ℕ → ℕ → ℕ → ℕ
-signsBehind s zero p = 0
-signsBehind s (suc k) p = elim (eqb (getD s (p + 1) 0) MINUS) [ true ↦ 1 + signsBehind s k (p + 1) | false ↦ 0 ]
-
--- ---- 5 to 9 in an action
+-- ---- 10, a line's number, a line with a fault
 
 -- 10: at most eight actions
 unfoldable pub countFault : ℕ → ℕ
 countFault n = unless (leb n maxActions) tooMany
 
--- a line's number; a number that is none is 0
+-- a line's number as a byte; 0 for one above 255
 unfoldable pub numberOf : ℕ → ℕ
 numberOf n = cond (leb n 255) n 0
 
@@ -68,13 +61,12 @@ abbrev pub faultyLine : ℕ → Line
 faultyLine k = record { fault = k; number = 0; ids = false; keyword = 0; condition = 0; actions = 0; end = 0 }
 
 module _ (s : List ℕ) where
-  abbrev token : ℕ → ℕ
-  token p = getD s p 0
+  -- ---- 5 to 9 in an action
 
   -- FIFO [0] stands at p as a whole, unbracketed right side
   unfoldable pub isRemoval : ℕ → Bool
   isRemoval p =
-      isFifo (token p) && (isIndexed s (token p) p && (eqb (indexAt s (token p) p) 0 && not (isFactor (token (p + 4)) || isTerm (token (p + 4)))))
+      isFifo (token s p) && (isIndexed s (token s p) p && (eqb (indexAt s (token s p) p) 0 && not (isFactor (token s (p + 4)) || isTerm (token s (p + 4)))))
 
   -- the right side of an assignment to a variable
   unfoldable pub assignedAt : ℕ → ℕ → Read ℕ
@@ -91,13 +83,13 @@ module _ (s : List ℕ) where
   -- M= and a number; or SETAL, LOCK or UNLOCK and a number in brackets
   unfoldable pub commandAt : ℕ → ℕ → ℕ → Read ℕ
   commandAt kw w p =
-      elim (isWhole (token (p + 2))) [
+      elim (isWhole (token s (p + 2))) [
         | true ↦
             elim (eqb w M) [
-              | true ↦ elim (eqb (token (p + 1)) EQUALS) [ true ↦ read (codeFault kw (whole (token (p + 2)))) (p + 3) | false ↦ ends notInGrammar ]
+              | true ↦ elim (eqb (token s (p + 1)) EQUALS) [ true ↦ read (codeFault kw (whole (token s (p + 2)))) (p + 3) | false ↦ ends notInGrammar ]
               | false ↦
-                  elim (isCall w && (eqb (token (p + 1)) OPEN && eqb (token (p + 3)) CLOSE)) [
-                    | true ↦ read (callFault w (whole (token (p + 2)))) (p + 4)
+                  elim (isCall w && (eqb (token s (p + 1)) OPEN && eqb (token s (p + 3)) CLOSE)) [
+                    | true ↦ read (callFault w (whole (token s (p + 2)))) (p + 4)
                     | false ↦ ends notInGrammar
                   ]
             ]
@@ -107,9 +99,9 @@ module _ (s : List ℕ) where
   -- the action at p, of a line with the keyword kw: its lowest fault of 6 to 9
   unfoldable pub actionAt : ℕ → ℕ → ℕ → Read ℕ
   actionAt kw k p =
-      elim (isIndexed s (token p) p) [
-        | true ↦ elim (eqb (token (p + 4)) EQUALS) [ true ↦ assignmentAt k (token p) p | false ↦ ends notInGrammar ]
-        | false ↦ commandAt kw (token p) p
+      elim (isIndexed s (token s p) p) [
+        | true ↦ elim (eqb (token s (p + 4)) EQUALS) [ true ↦ assignmentAt k (token s p) p | false ↦ ends notInGrammar ]
+        | false ↦ commandAt kw (token s p) p
       ]
 
   -- one or more actions up to the line's end, where n stand before them and f is the lowest fault so far: the lowest fault of 6 to 10
@@ -117,7 +109,7 @@ module _ (s : List ℕ) where
   actionsAt kw k zero n f p = ends notInGrammar
   actionsAt kw k (suc j) n f p =
       then (actionAt kw k p) (λ g q.
-      elim (eqb (token q) END) [
+      elim (eqb (token s q) END) [
         | true ↦ read (lower (lower f g) (countFault (n + 1))) q
         | false ↦ actionsAt kw k j (n + 1) (lower f g) q
       ])
@@ -128,7 +120,7 @@ module _ (s : List ℕ) where
   unfoldable pub lineParts : ℕ → ℕ → ℕ → ℕ → Read ℕ → Line
   lineParts p kw cp a (read f e) =
       elim (eqb f 0) [
-        | true ↦ record { fault = 0; number = numberOf (whole (token (p + 2))); ids = eqb (token p) IDS; keyword = kw; condition = cp; actions = a; end = e }
+        | true ↦ record { fault = 0; number = numberOf (whole (token s (p + 2))); ids = eqb (token s p) IDS; keyword = kw; condition = cp; actions = a; end = e }
         | false ↦ faultyLine f
       ]
   lineParts p kw cp a (ends k) = faultyLine k
@@ -136,23 +128,18 @@ module _ (s : List ℕ) where
   -- DO at q and the actions behind it, where f is the lowest fault before them
   unfoldable pub bodyAt : ℕ → ℕ → ℕ → ℕ → ℕ → Line
   bodyAt p kw cp f q =
-      elim (eqb (token q) DO) [
+      elim (eqb (token s q) DO) [
         | true ↦ lineParts p kw cp (q + 1) (actionsAt kw setSize setSize 0 f (q + 1))
         | false ↦ faultyLine notInGrammar
       ]
 
-  -- the same behind what was read, if that is in the grammar
-  abbrev pub bodyFrom : ℕ → ℕ → ℕ → Read ℕ → Line
-  bodyFrom p kw cp (read f q) = bodyAt p kw cp f q
-  bodyFrom p kw cp (ends k) = faultyLine k
-
   -- behind the head: DO, or a keyword, an expression that is a yes/no, and DO
   unfoldable pub restAt : ℕ → ℕ → Line
   restAt p f =
-      elim (isKeyword (token (p + 3))) [
+      elim (isKeyword (token s (p + 3))) [
         | true ↦
             elim (faultFor true (expressionAt s sight setSize (p + 4))) [
-              | read g q ↦ bodyAt p (token (p + 3)) (p + 4) (lower f g) q
+              | read g q ↦ bodyAt p (token s (p + 3)) (p + 4) (lower f g) q
               | ends k ↦ faultyLine k
             ]
         | false ↦ bodyAt p 0 0 f (p + 3)
@@ -165,7 +152,7 @@ module _ (s : List ℕ) where
   -- the line that begins at p: its lowest fault of 4 to 10, or its parts
   unfoldable pub lineAt : ℕ → Line
   lineAt p =
-      judged p (elim (isId (token p) && (eqb (token (p + 1)) EQUALS && isWhole (token (p + 2)))) [
-        | true ↦ restAt p (idFault (whole (token (p + 2))))
+      judged p (elim (isId (token s p) && (eqb (token s (p + 1)) EQUALS && isWhole (token s (p + 2)))) [
+        | true ↦ restAt p (idFault (whole (token s (p + 2))))
         | false ↦ faultyLine notInGrammar
       ])

@@ -1,32 +1,40 @@
--- What the check sees, as one number of 64 bits: the lowest 13 bits are the next place, 0 where it is not in the grammar; above them stand one bit for a yes/no, the lowest fault, and how many brackets stand open in it at most. Definitions only.
+-- What the check sees, as one number of 64 bits: the lowest 13 bits are the next place, 0 where it is not in the grammar; above them stand one bit for a yes/no, the lowest fault, and the greatest depth of brackets, counted to nine; and what its steps read. Definitions only.
 use mathlib.Core.Bool.{Bool, true, false, cond}
-use Prim.Native.Nat.{ℕ, _+_, _*_, _/_, _%_}
+use mathlib.Core.List.{List}
+use Prim.Native.Nat.{ℕ, zero, suc, _+_, _*_, _/_, _%_, max}
 use lib.Dec.{eqb}
+use lib.ListN.{getD}
+use Rattle.tokens.specs.Token.{room, MINUS}
 use Rattle.tokens.specs.Reading.{Read, read, ends}
-use Rattle.tokens.specs.SingleFault.{lower, notInGrammar}
-use Rattle.code.specs.Fault.{Sight, wanting}
+use Rattle.tokens.specs.SingleFault.{notInGrammar}
+use Rattle.code.specs.declared.check.Line.{Line}
+use Rattle.code.specs.Fault.{Sight, signed, bodyAt, faultyLine}
 
 abbrev pub numberSeen : ℕ → ℕ → ℕ → ℕ
-numberSeen f d p = (d * 256 + f) * 2 * 8192 + p % 8192
+numberSeen f d p = (d * 256 + f) * 2 * room + p % room
 
 abbrev pub truthSeen : ℕ → ℕ → ℕ → ℕ
-truthSeen f d p = ((d * 256 + f) * 2 + 1) * 8192 + p % 8192
+truthSeen f d p = ((d * 256 + f) * 2 + 1) * room + p % room
 
 abbrev pub nextOf : ℕ → ℕ
-nextOf w = w % 8192
+nextOf w = w % room
 
 abbrev pub truthOf : ℕ → Bool
-truthOf w = eqb (w / 8192 % 2) 1
+truthOf w = eqb (w / room % 2) 1
 
 abbrev pub faultOf : ℕ → ℕ
-faultOf w = w / 16384 % 256
+faultOf w = w / (2 * room) % 256
 
 -- a yes/no (true) or a number (false), as is wanted, and no fault
 abbrev pub isFaultless : Bool → ℕ → Bool
-isFaultless t w = eqb (w / 8192 % 512) (cond t 1 0)
+isFaultless t w = eqb (w / room % 512) (cond t 1 0)
 
 abbrev pub depthOf : ℕ → ℕ
-depthOf w = w / 4194304 % 256
+depthOf w = w / (512 * room) % 256
+
+-- the greater of two
+abbrev pub deeperOf : ℕ → ℕ → ℕ
+deeperOf a b = max (depthOf a) (depthOf b)
 
 abbrev pub sightOf : ℕ → Sight
 sightOf w = record { truth = truthOf w; fault = faultOf w }
@@ -39,6 +47,16 @@ seen w = elim (eqb (nextOf w) 0) [ true ↦ ends notInGrammar | false ↦ read (
 unfoldable pub faulted : ℕ → Read ℕ
 faulted w = elim (eqb (nextOf w) 0) [ true ↦ ends notInGrammar | false ↦ read (faultOf w) (nextOf w) ]
 
--- the lowest fault of two sights side by side, where yes/no (true) or numbers (false) are wanted
-abbrev pub lowest : Bool → Sight → Sight → ℕ
-lowest t a b = lower (lower (wanting t a) (wanting t b)) (lower (a .fault) (b .fault))
+-- behind a sign that is or wants a yes/no (true) or a number (false), where a was read up to q
+abbrev pub signedSight : Bool → Sight → ℕ → Read Sight
+signedSight t a q = read (signed t a) q
+
+-- how many more - stand directly behind the one at p, at most k
+unfoldable pub signsBehind : List ℕ → ℕ → ℕ → ℕ
+signsBehind s zero p = 0
+signsBehind s (suc k) p = elim (eqb (getD s (p + 1) 0) MINUS) [ true ↦ 1 + signsBehind s k (p + 1) | false ↦ 0 ]
+
+-- DO and the actions behind what was read, if that is in the grammar
+abbrev pub bodyFrom : List ℕ → ℕ → ℕ → ℕ → Read ℕ → Line
+bodyFrom s p kw cp (read f q) = bodyAt s p kw cp f q
+bodyFrom s p kw cp (ends k) = faultyLine k

@@ -1,17 +1,18 @@
 // The faults 4 to 10 of a line, from its tokens, and where its parts lie: the check walk.
 //
-// The walk goes by recursive descent over the tokens; `left` is the count of tokens left. A fault is document 01's code, 0 for none.
+// The walk goes by recursive descent over the tokens; `left` bounds the tokens left: it begins as the places of a set and falls at each bracket and sign. A fault is
+// document 01's code, 0 for none.
 ghost use mathlib.Core.Path.{_≡_};
 ghost use mathlib.Core.Bool.{true, false};
 ghost use Prim.Native.Nat.{_+_, _<_, _≤_};
 ghost use lib.ListN.{drop};
 ghost use Rattle.tokens.specs.Token.{PLUS, OVER, between, isFactor, isTerm, setSize};
-ghost use Rattle.tokens.specs.Reading.{read, then, isRow, more, readOperand, readProduct, readSum, readRest, readExpression, readClose, readVariable, readTruth};
+ghost use Rattle.tokens.specs.Reading.{read, then, readOperand, readClose, readVariable, readTruth, factorsBehind, termsBehind, rowBehind, restBehind, sumAt, expressionAt};
 ghost use Rattle.tokens.specs.SingleFault.{lower, notInGrammar, opensTooMany};
-ghost use Rattle.code.specs.Seen.{nextOf, faultOf, sightOf, lowest, seen, faulted};
-ghost use Rattle.code.specs.Brackets.{Plain, Passes, Good, Passed, Onward, InBrackets, Level, Joined};
-ghost use Rattle.code.specs.Fault.{sight, signedSight, signsBehind, isRemoval, assignedAt, assignmentAt, commandAt, actionAt, countFault, actionsAt, numberOf, faultyLine, judged, lineParts, bodyFrom, restAt, lineAt};
-use crate::seen::LEVEL;
+ghost use Rattle.code.specs.Seen.{nextOf, faultOf, sightOf, seen, faulted, signedSight, signsBehind, bodyFrom};
+ghost use Rattle.code.specs.Brackets.{Plain, CountsOn, InGrammar, Counted, Onward, InBrackets, SameEnd, Joined};
+ghost use Rattle.code.specs.Fault.{sight, isRemoval, assignedAt, assignmentAt, commandAt, actionAt, countFault, actionsAt, numberOf, faultyLine, judged, lineParts, restAt, lineAt, lowest};
+use crate::seen::DEEPER;
 use crate::seen::NOTHING;
 use crate::seen::deeper_of;
 use crate::seen::depth_of;
@@ -68,7 +69,7 @@ use tokens::token::is_whole;
 use tokens::token::token_at;
 use tokens::token::whole_of;
 
-// As many brackets as may stand open.
+// How many brackets may be open.
 const DEEPEST: u8 = BRACKETS as u8;
 
 // The parts of a line: its number, whether it is IDS, its keyword (0: none), where its condition and its actions begin and where it ends. A line with a
@@ -124,19 +125,19 @@ fn join_faults(a: u64, b: u64) -> u64
     number_seen(lower_of(fault_of(a), fault_of(b)), deeper_of(a, b), i)
 }
 
-// What was seen where a yes/no (true) or a number (false) is wanted, as NOT and - want it, which give what they want.
-fn as_wanted(truth: bool, a: u64) -> u64
-    ensures { λ x. ⌜ (seen x ≡ then (seen a) (signedSight truth)) × Level a x ⌝ }
+// What was seen, where a yes/no (true) or a number (false) is wanted: of that kind, with 6 if it was of the other. NOT and - want so, and give what they want.
+fn as_wanted(wanted: bool, a: u64) -> u64
+    ensures { λ x. ⌜ (seen x ≡ then (seen a) (signedSight wanted)) × SameEnd a x ⌝ }
 {
-    if is_faultless(truth, a) {
+    if is_faultless(wanted, a) {
         return a;
     }
     let i = next_of(a);
     if i == 0 {
         return a;
     }
-    let fault = lower_of(wanting(truth, truth_of(a)), fault_of(a));
-    if truth {
+    let fault = lower_of(wanting(wanted, truth_of(a)), fault_of(a));
+    if wanted {
         return truth_seen(fault, depth_of(a), i);
     }
     number_seen(fault, depth_of(a), i)
@@ -157,7 +158,7 @@ fn signs_behind(code: &[u32; SIZE], at: usize, most: usize) -> usize
     n
 }
 
-// What was seen in brackets, if they are closed behind it: one bracket deeper, where that is not too deep already.
+// What was seen in brackets, if they are closed behind it: one deeper, but nine stays nine.
 fn closed(code: &[u32; SIZE], a: u64) -> u64
     ensures { λ x. ⌜ (seen x ≡ then (seen a) (readClose (now (code .entry)) sight)) × InBrackets (now (code .entry)) a x ⌝ }
 {
@@ -171,12 +172,12 @@ fn closed(code: &[u32; SIZE], a: u64) -> u64
     if DEEPEST < depth_of(a) {
         return a + 1;
     }
-    a + LEVEL + 1
+    a + DEEPER + 1
 }
 
 fn variable(code: &[u32; SIZE], w: u32, at: usize) -> u64
     requires { ⌜ at < setSize ⌝ }
-    ensures { λ x. ⌜ (seen x ≡ readVariable (now (code .entry)) sight w at) × Passed (now (code .entry)) (at + 1) x ⌝ }
+    ensures { λ x. ⌜ (seen x ≡ readVariable (now (code .entry)) sight w at) × Counted (now (code .entry)) (at + 1) x ⌝ }
 {
     if !is_indexed(code, w, at) {
         return NOTHING;
@@ -187,7 +188,7 @@ fn variable(code: &[u32; SIZE], w: u32, at: usize) -> u64
 // TRUE, FALSE or nothing of the grammar.
 fn truth(code: &[u32; SIZE], t: u32, at: usize) -> u64
     requires { ⌜ ((t ≡ 0 → ⊥) → at < setSize) ⌝ }
-    ensures { λ x. ⌜ (seen x ≡ readTruth (now (code .entry)) sight t at) × ((Good x → Plain t) × Passed (now (code .entry)) (at + 1) x) ⌝ }
+    ensures { λ x. ⌜ (seen x ≡ readTruth (now (code .entry)) sight t at) × ((InGrammar x → Plain t) × Counted (now (code .entry)) (at + 1) x) ⌝ }
 {
     if t == TRUE {
         return truth_seen(0, 0, at + 1);
@@ -208,11 +209,11 @@ fn is_arithmetic(t: u32) -> bool
     t <= OVER
 }
 
-// ---- the walk over an expression: an operand that no operator follows goes up in one step, first of all before a ), and what joins stands apart, so that a bracket
-// costs two calls
+// ---- the walk over an expression. An operand with no operator behind it is handed up at once, first of all before a ), and what joins stands apart: so a bracket costs
+// two calls.
 
 fn operand(code: &[u32; SIZE], at: usize, left: usize) -> u64
-    ensures { λ x. ⌜ (seen x ≡ readOperand (now (code .entry)) sight left at) × Passed (now (code .entry)) at x ⌝ }
+    ensures { λ x. ⌜ (seen x ≡ readOperand (now (code .entry)) sight left at) × Counted (now (code .entry)) at x ⌝ }
 {
     if left == 0 {
         return NOTHING;
@@ -239,11 +240,11 @@ fn operand(code: &[u32; SIZE], at: usize, left: usize) -> u64
 
 // What was seen, and as many factors as follow.
 fn factors(code: &[u32; SIZE], w: u64, left: usize) -> u64
-    ensures { λ x. ⌜ (seen x ≡ then (seen w) (more (now (code .entry)) sight isFactor (readOperand (now (code .entry)) sight left) left)) × Onward (now (code .entry)) w x ⌝ }
+    ensures { λ x. ⌜ (seen x ≡ then (seen w) (factorsBehind (now (code .entry)) sight left)) × Onward (now (code .entry)) w x ⌝ }
 {
     let mut a = w;
-    let mut turns = left;
-    while 0 < turns {
+    let mut rounds = left;
+    while 0 < rounds {
         let i = next_of(a);
         if i == 0 {
             return a;
@@ -253,18 +254,18 @@ fn factors(code: &[u32; SIZE], w: u64, left: usize) -> u64
             return a;
         }
         a = join(false, false, a, operand(code, i + 1, left));
-        turns -= 1;
+        rounds -= 1;
     }
     a
 }
 
 // What was seen, and as many terms as follow.
 fn terms(code: &[u32; SIZE], w: u64, left: usize) -> u64
-    ensures { λ x. ⌜ (seen x ≡ then (seen w) (more (now (code .entry)) sight isTerm (readProduct (now (code .entry)) sight (readOperand (now (code .entry)) sight left) left) left)) × Onward (now (code .entry)) w x ⌝ }
+    ensures { λ x. ⌜ (seen x ≡ then (seen w) (termsBehind (now (code .entry)) sight left)) × Onward (now (code .entry)) w x ⌝ }
 {
     let mut a = w;
-    let mut turns = left;
-    while 0 < turns {
+    let mut rounds = left;
+    while 0 < rounds {
         let i = next_of(a);
         if i == 0 {
             return a;
@@ -279,13 +280,13 @@ fn terms(code: &[u32; SIZE], w: u64, left: usize) -> u64
             a,
             factors(code, operand(code, i + 1, left), left),
         );
-        turns -= 1;
+        rounds -= 1;
     }
     a
 }
 
 fn sum(code: &[u32; SIZE], at: usize, left: usize) -> u64
-    ensures { λ x. ⌜ (seen x ≡ readSum (now (code .entry)) sight (readOperand (now (code .entry)) sight left) left at) × Passed (now (code .entry)) at x ⌝ }
+    ensures { λ x. ⌜ (seen x ≡ sumAt (now (code .entry)) sight left at) × Counted (now (code .entry)) at x ⌝ }
 {
     let a = operand(code, at, left);
     let i = next_of(a);
@@ -300,11 +301,11 @@ fn sum(code: &[u32; SIZE], at: usize, left: usize) -> u64
 
 // What was seen, and the row of the operator `first` behind it.
 fn row(code: &[u32; SIZE], first: u32, w: u64, left: usize) -> u64
-    ensures { λ x. ⌜ (seen x ≡ then (seen w) (more (now (code .entry)) sight (isRow first) (readSum (now (code .entry)) sight (readOperand (now (code .entry)) sight left) left) left)) × Onward (now (code .entry)) w x ⌝ }
+    ensures { λ x. ⌜ (seen x ≡ then (seen w) (rowBehind (now (code .entry)) sight first left)) × Onward (now (code .entry)) w x ⌝ }
 {
     let mut a = w;
-    let mut turns = left;
-    while 0 < turns {
+    let mut rounds = left;
+    while 0 < rounds {
         let i = next_of(a);
         if i == 0 {
             return a;
@@ -314,14 +315,14 @@ fn row(code: &[u32; SIZE], first: u32, w: u64, left: usize) -> u64
             return a;
         }
         a = join(true, true, a, sum(code, i + 1, left));
-        turns -= 1;
+        rounds -= 1;
     }
     a
 }
 
 // A sum that was seen, and the comparison or the row behind it.
 fn compared(code: &[u32; SIZE], a: u64, left: usize) -> u64
-    ensures { λ x. ⌜ (seen x ≡ then (seen a) (readRest (now (code .entry)) sight (readOperand (now (code .entry)) sight left) left)) × Onward (now (code .entry)) a x ⌝ }
+    ensures { λ x. ⌜ (seen x ≡ then (seen a) (restBehind (now (code .entry)) sight left)) × Onward (now (code .entry)) a x ⌝ }
 {
     let i = next_of(a);
     if i == 0 {
@@ -338,7 +339,7 @@ fn compared(code: &[u32; SIZE], a: u64, left: usize) -> u64
 }
 
 fn expression(code: &[u32; SIZE], at: usize, left: usize) -> u64
-    ensures { λ x. ⌜ (seen x ≡ readExpression (now (code .entry)) sight (readOperand (now (code .entry)) sight left) left at) × Passed (now (code .entry)) at x ⌝ }
+    ensures { λ x. ⌜ (seen x ≡ expressionAt (now (code .entry)) sight left at) × Counted (now (code .entry)) at x ⌝ }
 {
     let a = operand(code, at, left);
     let i = next_of(a);
@@ -380,8 +381,8 @@ pub fn is_removal(code: &[u32; SIZE], at: usize) -> bool
 
 // The right side of an assignment to a variable.
 fn assigned(code: &[u32; SIZE], at: usize) -> u64
-    requires { ⌜ at < 4136 ⌝ }
-    ensures { λ x. ⌜ (faulted x ≡ assignedAt (now (code .entry)) setSize at) × Passed (now (code .entry)) at x ⌝ }
+    requires { ⌜ at < setSize + 5 ⌝ }
+    ensures { λ x. ⌜ (faulted x ≡ assignedAt (now (code .entry)) setSize at) × Counted (now (code .entry)) at x ⌝ }
 {
     if is_removal(code, at) {
         return number_seen(0, 0, at + 4);
@@ -392,7 +393,7 @@ fn assigned(code: &[u32; SIZE], at: usize) -> u64
 // An action that begins with a word, its index and =.
 fn assignment(code: &[u32; SIZE], w: u32, at: usize) -> u64
     requires { ⌜ at < setSize ⌝ }
-    ensures { λ x. ⌜ (faulted x ≡ assignmentAt (now (code .entry)) setSize w at) × ((Good x → Plain w) × Passed (now (code .entry)) (at + 5) x) ⌝ }
+    ensures { λ x. ⌜ (faulted x ≡ assignmentAt (now (code .entry)) setSize w at) × ((InGrammar x → Plain w) × Counted (now (code .entry)) (at + 5) x) ⌝ }
 {
     if is_variable(w) {
         let a = number_seen(write_fault(w, index_at(code, w, at)), 0, at);
@@ -407,7 +408,7 @@ fn assignment(code: &[u32; SIZE], w: u32, at: usize) -> u64
 // M= and a number; or SETAL, LOCK or UNLOCK and a number in brackets.
 fn command(code: &[u32; SIZE], keyword: u32, w: u32, at: usize) -> u64
     requires { ⌜ at < setSize ⌝ }
-    ensures { λ x. ⌜ (faulted x ≡ commandAt (now (code .entry)) keyword w at) × ((Good x → Plain w) × Passed (now (code .entry)) (at + 1) x) ⌝ }
+    ensures { λ x. ⌜ (faulted x ≡ commandAt (now (code .entry)) keyword w at) × ((InGrammar x → Plain w) × Counted (now (code .entry)) (at + 1) x) ⌝ }
 {
     let n = token_at(code, at + 2);
     if !is_whole(n) {
@@ -433,7 +434,7 @@ fn command(code: &[u32; SIZE], keyword: u32, w: u32, at: usize) -> u64
 }
 
 fn action(code: &[u32; SIZE], keyword: u32, at: usize) -> u64
-    ensures { λ x. ⌜ (faulted x ≡ actionAt (now (code .entry)) keyword setSize at) × Passed (now (code .entry)) at x ⌝ }
+    ensures { λ x. ⌜ (faulted x ≡ actionAt (now (code .entry)) keyword setSize at) × Counted (now (code .entry)) at x ⌝ }
 {
     let w = token_at(code, at);
     if w == END {
@@ -448,7 +449,7 @@ fn action(code: &[u32; SIZE], keyword: u32, at: usize) -> u64
     assignment(code, w, at)
 }
 
-// 10 where more actions stand than a line may have.
+// 10 for more actions than a line may have.
 fn count_fault(n: usize) -> u8
     ensures { λ x. ⌜ x ≡ countFault n ⌝ }
 {
@@ -457,13 +458,13 @@ fn count_fault(n: usize) -> u8
 
 // What was seen, and one or more actions behind it up to the line's end: the lowest fault of all.
 fn actions(code: &[u32; SIZE], keyword: u32, w: u64) -> u64
-    requires { ⌜ Good w ⌝ }
+    requires { ⌜ InGrammar w ⌝ }
     ensures { λ x. ⌜ (faulted x ≡ actionsAt (now (code .entry)) keyword setSize setSize 0 (faultOf w) (nextOf w)) × Onward (now (code .entry)) w x ⌝ }
 {
     let mut low = w;
     let mut n: usize = 0;
-    let mut turns: usize = SIZE;
-    while 0 < turns {
+    let mut rounds: usize = SIZE;
+    while 0 < rounds {
         low = join_faults(low, action(code, keyword, next_of(low)));
         let i = next_of(low);
         if i == 0 {
@@ -473,7 +474,7 @@ fn actions(code: &[u32; SIZE], keyword: u32, w: u64) -> u64
         if token_at(code, i) == END {
             return join_faults(low, number_seen(count_fault(n), 0, i));
         }
-        turns -= 1;
+        rounds -= 1;
     }
     NOTHING
 }
@@ -494,16 +495,17 @@ fn faulty(fault: u8) -> Line
     }
 }
 
-// A line's number as a byte; one that is none is 0.
+// A line's number as a byte; 0 for one above 255.
 fn number_of(n: u32) -> u8
     ensures { λ x. ⌜ x ≡ numberOf n ⌝ }
 {
     if n <= 255 { n as u8 } else { 0 }
 }
 
-// Whether the line at `at` opens too many brackets, where `a` was read of it: from what it read, unless that is too deep or nothing.
+// Whether the line at `at` opens too many brackets; `a` is what was read of it. The count goes on behind that, or, where it is too deep or nothing, is taken from the
+// line's start.
 fn is_too_deep(code: &[u32; SIZE], at: usize, a: u64) -> bool
-    requires { ⌜ Passed (now code) at a ⌝ }
+    requires { ⌜ Counted (now code) at a ⌝ }
     ensures { λ x. ⌜ x ≡ opensTooMany (drop at (now (code .entry))) 0 ⌝ }
 {
     let i = next_of(a);
@@ -527,9 +529,16 @@ fn refused(code: &[u32; SIZE], at: usize) -> Line
 }
 
 // The parts of the line at `at`, if nothing is wrong with it; `a` is all that was read of it.
-fn parts(code: &[u32; SIZE], at: usize, keyword: u32, condition: usize, body: usize, a: u64) -> Line
-    requires { ⌜ (at < setSize) × Passed (now code) at a ⌝ }
-    ensures { λ x. ⌜ x ≡ judged (now (code .entry)) at (lineParts (now (code .entry)) at keyword condition body (faulted a)) ⌝ }
+fn parts(
+    code: &[u32; SIZE],
+    at: usize,
+    keyword: u32,
+    condition: usize,
+    actions: usize,
+    a: u64,
+) -> Line
+    requires { ⌜ (at < setSize) × Counted (now code) at a ⌝ }
+    ensures { λ x. ⌜ x ≡ judged (now (code .entry)) at (lineParts (now (code .entry)) at keyword condition actions (faulted a)) ⌝ }
 {
     if is_too_deep(code, at, a) {
         return faulty(TOO_DEEP);
@@ -548,14 +557,14 @@ fn parts(code: &[u32; SIZE], at: usize, keyword: u32, condition: usize, body: us
         ids: token_at(code, at) == IDS,
         keyword: keyword,
         condition: condition,
-        actions: body,
+        actions: actions,
         end: end,
     }
 }
 
 // DO and the actions behind it; `a` is all that was read before them.
 fn body(code: &[u32; SIZE], at: usize, keyword: u32, condition: usize, a: u64) -> Line
-    requires { ⌜ (at < setSize) × Passed (now code) at a ⌝ }
+    requires { ⌜ (at < setSize) × Counted (now code) at a ⌝ }
     ensures { λ x. ⌜ x ≡ judged (now (code .entry)) at (bodyFrom (now (code .entry)) at keyword condition (faulted a)) ⌝ }
 {
     let i = next_of(a);
@@ -577,7 +586,7 @@ fn body(code: &[u32; SIZE], at: usize, keyword: u32, condition: usize, a: u64) -
 
 // What follows a line's head: DO, or a keyword, an expression and DO; `fault` is the fault of the head.
 fn rest(code: &[u32; SIZE], at: usize, fault: u8) -> Line
-    requires { ⌜ (at < setSize) × Passes (now code) at 0 (at + 3) ⌝ }
+    requires { ⌜ (at < setSize) × CountsOn (now code) at 0 (at + 3) ⌝ }
     ensures { λ x. ⌜ x ≡ judged (now (code .entry)) at (restAt (now (code .entry)) at fault) ⌝ }
 {
     let head = number_seen(fault, 0, at + 3);

@@ -1,16 +1,13 @@
 // What the check sees, in one number of 64 bits: the walk hands it on in a register.
 //
-// The lowest 13 bits are the place behind it, 0 where it is not in the grammar; above them stand one bit for a yes/no, the lowest fault, and how many brackets stand
-// open in it at most.
+// The lowest 13 bits are the place behind it, 0 where it is not in the grammar; above them stand one bit for a yes/no, the lowest fault, and the greatest depth of
+// brackets in it, counted to nine.
 ghost use mathlib.Core.Path.{_≡_};
-ghost use Prim.Native.Nat.{_≤_};
-ghost use Rattle.code.specs.Seen.{numberSeen, truthSeen, nextOf, truthOf, faultOf, isFaultless, depthOf};
+ghost use Rattle.code.specs.Seen.{numberSeen, truthSeen, nextOf, truthOf, faultOf, isFaultless, depthOf, deeperOf};
+use tokens::token::ROOM;
 
-// What counts places: more than a set has.
-const ROOM: u64 = 8192;
-
-// What counts brackets.
-pub const LEVEL: u64 = 256 * 2 * ROOM;
+// One bracket deeper.
+pub const DEEPER: u64 = 256 * 2 * ROOM;
 
 // Not in the grammar.
 pub const NOTHING: u64 = 0;
@@ -46,7 +43,7 @@ pub fn fault_of(w: u64) -> u8
     (w / (2 * ROOM) % 256) as u8
 }
 
-// Whether a yes/no (true) or a number (false) was seen, as is wanted, and no fault.
+// Whether a yes/no (true) or a number (false) was seen, as is wanted, and no fault. Nothing counts as a number without fault.
 pub fn is_faultless(wanted: bool, w: u64) -> bool
     ensures { λ x. ⌜ x ≡ isFaultless wanted w ⌝ }
 {
@@ -57,12 +54,12 @@ pub fn is_faultless(wanted: bool, w: u64) -> bool
 pub fn depth_of(w: u64) -> u8
     ensures { λ x. ⌜ x ≡ depthOf w ⌝ }
 {
-    (w / LEVEL % 256) as u8
+    (w / DEEPER % 256) as u8
 }
 
-// How many brackets stand open at most in one of two.
+// The greater depth of two.
 pub fn deeper_of(a: u64, b: u64) -> u8
-    ensures { λ x. ⌜ (depthOf a ≤ x) × (depthOf b ≤ x) ⌝ }
+    ensures { λ x. ⌜ x ≡ deeperOf a b ⌝ }
 {
     let d = depth_of(a);
     let e = depth_of(b);

@@ -10,6 +10,7 @@ ghost use lib.Dec.{eqb};
 ghost use lib.IntN.{pos};
 ghost use Rattle.values.specs.Value.{unit};
 ghost use Rattle.engine.specs.Cells.{inputCells, beatCells};
+ghost use Rattle.actions.specs.Action.{maxOrders};
 ghost use Rattle.tokens.specs.Token.{maxLines};
 use actions::action::Flags;
 use actions::action::ORDERS;
@@ -95,7 +96,7 @@ fn next_state(r: [i32; RS], cells: [i32; STATE_CELLS], cancelled: [bool; LINES],
 
 // The answer of a beat that came to its end.
 fn finished(state: State, f: Flags) -> Beaten
-    requires { ⌜ (f .count ≤ 256) × (f .acted < 4294967296) ⌝ }
+    requires { ⌜ (f .count ≤ maxOrders) × (f .acted < 4294967296) ⌝ }
     ensures { λ x. ⌜ x ≡ record { code = 0; orders = f .count; acted = f .acted; state = state } ⌝ }
 {
     Beaten {

@@ -4,9 +4,8 @@ use mathlib.Core.Bool.{Bool, true, false, _&&_}
 use mathlib.Core.List.{List}
 use Prim.Native.Nat.{ℕ, zero, suc, _+_}
 use lib.Dec.{eqb}
-use lib.ListN.{getD}
 use Rattle.tokens.specs.Token.{isNumber, isVariable, isDrive, isCall, isFactor, isTerm, isCompare, isWhole, CLOSE, END, EQUALS, FALSE, M, MINUS, NOT, OPEN, TRUE}
-use Rattle.tokens.specs.Reading.{Read, read, ends, then, isRow, isIndexed, joined, more, readProduct, readSum, readRest, readExpression, readClose, readVariable, readTruth, operandFrom, readOperand, sumAt, expressionAt}
+use Rattle.tokens.specs.Reading.{token, Read, read, ends, then, isRow, isIndexed, joined, more, readProduct, readSum, readRest, readExpression, readClose, readVariable, readTruth, operandFrom, readOperand, sumAt, expressionAt}
 use Rattle.tokens.specs.SingleFault.{notInGrammar, lower}
 use Rattle.code.specs.Fault.{Sight, sight, faultFor, isRemoval, assignedAt, assignmentAt, commandAt, actionAt, actionsAt}
 
@@ -28,9 +27,6 @@ faultFor-five t (read a q) h = tt
 faultFor-five t (ends c) h = h
 
 module _ (s : List ℕ) where
-  abbrev token : ℕ → ℕ
-  token p = getD s p 0
-
   module _ (sub : ℕ → Read Sight) (five : (p : ℕ) → Five (sub p)) where
     joined-five : (o : ℕ) (a : Sight) (p : ℕ) → Five (joined s sight sub o a p)
     unfolding joined sight
@@ -39,7 +35,7 @@ module _ (s : List ℕ) where
     row-five : (isOp : ℕ → Bool) (k : ℕ) (a : Sight) (p : ℕ) → Five (more s sight isOp sub k a p)
     unfolding more
     row-five isOp zero a p = tt
-    row-five isOp (suc k) a p = choice-five (isOp (token p)) _ _ (then-five (joined s sight sub (token p) a p) _ (joined-five (token p) a p) (λ b q. row-five isOp k b q)) tt
+    row-five isOp (suc k) a p = choice-five (isOp (token s p)) _ _ (then-five (joined s sight sub (token s p) a p) _ (joined-five (token s p) a p) (λ b q. row-five isOp k b q)) tt
 
     product-five : (k p : ℕ) → Five (readProduct s sight sub k p)
     unfolding readProduct
@@ -52,16 +48,16 @@ module _ (s : List ℕ) where
 
     expression-five : (k p : ℕ) → Five (readExpression s sight sub k p)
     unfolding readExpression readRest
-    expression-five k p = then-five (readSum s sight sub k p) _ (sum-five k p) (λ a q. choice-five (isCompare (token q)) _ _ (joined-five (readSum s sight sub k) (sum-five k) (token q) a q) (row-five (readSum s sight sub k) (sum-five k) (isRow (token q)) k a q))
+    expression-five k p = then-five (readSum s sight sub k p) _ (sum-five k p) (λ a q. choice-five (isCompare (token s q)) _ _ (joined-five (readSum s sight sub k) (sum-five k) (token s q) a q) (row-five (readSum s sight sub k) (sum-five k) (isRow (token s q)) k a q))
 
   operand-five : (k p : ℕ) → Five (readOperand s sight k p)
   unfolding readOperand operandFrom readVariable readClose readTruth sight
   operand-five zero p = refl
   operand-five (suc k) p =
-      let t = token p in
+      let t = token s p in
       choice-five (isNumber t) _ _ tt
       (choice-five (isVariable t) _ _ (choice-five (isIndexed s t p) _ _ tt refl)
-      (choice-five (eqb t OPEN) _ _ (then-five (readExpression s sight (readOperand s sight k) k (p + 1)) _ (expression-five (readOperand s sight k) (operand-five k) k (p + 1)) (λ a q. choice-five (eqb (token q) CLOSE) _ _ tt refl))
+      (choice-five (eqb t OPEN) _ _ (then-five (readExpression s sight (readOperand s sight k) k (p + 1)) _ (expression-five (readOperand s sight k) (operand-five k) k (p + 1)) (λ a q. choice-five (eqb (token s q) CLOSE) _ _ tt refl))
       (choice-five (eqb t MINUS) _ _ (then-five (readOperand s sight k (p + 1)) _ (operand-five k (p + 1)) (λ a q. tt))
       (choice-five (eqb t NOT) _ _ (then-five (readOperand s sight k (p + 1)) _ (operand-five k (p + 1)) (λ a q. tt))
       (choice-five (eqb t TRUE) _ _ tt
@@ -80,21 +76,21 @@ module _ (s : List ℕ) where
   action-five : (kw k p : ℕ) → Five (actionAt s kw k p)
   unfolding actionAt assignmentAt assignedAt commandAt
   action-five kw k p =
-      let w = token p in
+      let w = token s p in
       choice-five (isIndexed s w p) _ _
-      (choice-five (eqb (token (p + 4)) EQUALS) _ _
+      (choice-five (eqb (token s (p + 4)) EQUALS) _ _
       (choice-five (isVariable w) _ _
       (then-five (assignedAt s k (p + 5)) _ (choice-five (isRemoval s (p + 5)) _ _ tt (right-five k (p + 5))) (λ f q. tt))
       (choice-five (isDrive w) _ _ (right-five k (p + 5)) refl))
       refl)
-      (choice-five (isWhole (token (p + 2))) _ _
+      (choice-five (isWhole (token s (p + 2))) _ _
       (choice-five (eqb w M) _ _
-      (choice-five (eqb (token (p + 1)) EQUALS) _ _ tt refl)
-      (choice-five (isCall w && (eqb (token (p + 1)) OPEN && eqb (token (p + 3)) CLOSE)) _ _ tt refl))
+      (choice-five (eqb (token s (p + 1)) EQUALS) _ _ tt refl)
+      (choice-five (isCall w && (eqb (token s (p + 1)) OPEN && eqb (token s (p + 3)) CLOSE)) _ _ tt refl))
       refl)
 
   -- and the actions'
   pub actions-five : (kw k j n f p : ℕ) → Five (actionsAt s kw k j n f p)
   unfolding actionsAt
   actions-five kw k zero n f p = refl
-  actions-five kw k (suc j) n f p = then-five (actionAt s kw k p) _ (action-five kw k p) (λ g q. choice-five (eqb (token q) END) _ _ tt (actions-five kw k j (n + 1) (lower f g) q))
+  actions-five kw k (suc j) n f p = then-five (actionAt s kw k p) _ (action-five kw k p) (λ g q. choice-five (eqb (token s q) END) _ _ tt (actions-five kw k j (n + 1) (lower f g) q))

@@ -6,12 +6,12 @@ use Prim.Native.Nat.{ℕ, zero, suc, pred, _+_, _-_, _≤_}
 use native.Mathlib.Nat.{not-suc-le-zero, le-trans}
 use native.Mathlib.Omega.{arith}
 use lib.Dec.{T, eqb}
-use lib.ListN.{length, getD, drop, length-append}
+use lib.ListN.{length, drop, length-append}
 use borrow.Author.Tests.{le-leb, eq-eqb, ne-eqb, eqb-true}
 use Rattle.values.specs.Choice.{holds, both, decide, chosen, refused, same-choice}
 use Rattle.tokens.specs.Token.{setSize, END, EQUALS, OPEN, CLOSE, DO, LEFT, RIGHT, IM, M, isVariable, isDrive, isCall, isWhole, isFifo, isKeyword, isId, isFactor, isTerm, NUMBER, whole, wholeToken, axisOf, FALSE, FIFO1, FIFO4, IN, MINUS, MOV, NOT, OVER, PLUS, POS, SETAL, TIMES, TRUE, UNLOCK}
 use Rattle.grammar.specs.Tree.{Operand, number, variable, position, truth, bracket, minus, not, product, Factors, noFactor, factor, Sum, sum, Terms, noTerm, term, compare, Action, assign, assignPosition, drive, code, call, Condition, always, under, Line, line, operandTokens, factorsTokens, sumTokens, termsTokens, actionTokens, actionsTokens, conditionTokens, lineTokens}
-use Rattle.tokens.specs.Reading.{read, isIndex, indexOf, isIndexed, indexAt, sumAt}
+use Rattle.tokens.specs.Reading.{token, read, isIndex, indexOf, isIndexed, indexAt, sumAt}
 use Rattle.grammar.specs.Meaning.{sumMeaning, expressionMeaning, Stands, EndsSum, EndsExpression}
 use Rattle.tokens.specs.SingleFault.{lower, opensTooMany, writeFault, idFault}
 use Rattle.code.specs.Fault.{sight, faultFor, countFault, numberOf, isRemoval, assignedAt, assignmentAt, commandAt, actionAt, actionsAt, lineParts, bodyAt, restAt, lineAt}
@@ -40,15 +40,12 @@ action-long (code n) = omega arith
 action-long (call w v n) = omega arith
 
 module _ (s : List ℕ) where
-  abbrev token : ℕ → ℕ
-  token p = getD s p 0
-
-  no-fifo : (p t : ℕ) → token p ≡ t → isFifo t ≡ false → isRemoval s p ≡ false
+  no-fifo : (p t : ℕ) → token s p ≡ t → isFifo t ≡ false → isRemoval s p ≡ false
   unfolding isRemoval
   no-fifo p t h e = rw (h, e)
 
   -- a removal is known by the first operand and the token behind it
-  first-removal : (a : Operand) (p i : ℕ) → Stands s p (operandTokens a) i → isRemoval s p ≡ (isFifoZero a && no? (isFactor (token i) || isTerm (token i)))
+  first-removal : (a : Operand) (p i : ℕ) → Stands s p (operandTokens a) i → isRemoval s p ≡ (isFifoZero a && no? (isFactor (token s i) || isTerm (token s i)))
   unfolding operandTokens isRemoval
   first-removal (number n) p i h = no-fifo p (NUMBER + n) (h .0) (beyond FIFO1 FIFO4 (NUMBER + n) (omega arith))
   first-removal (variable w v n) p i h =
@@ -73,14 +70,14 @@ module _ (s : List ℕ) where
   removal-place (not a) p i h e = absurd (false≢true e)
 
   -- an operator follows it, or not
-  alone-agrees : (r : Factors) (t : Terms) (i j q : ℕ) → Stands s i (factorsTokens r) j → Stands s j (termsTokens t) q → EndsSum (token q) → (no? (isFactor (token i) || isTerm (token i)) ≡ isAlone r t) × (isAlone r t ≡ true → i ≡ q)
+  alone-agrees : (r : Factors) (t : Terms) (i j q : ℕ) → Stands s i (factorsTokens r) j → Stands s j (termsTokens t) q → EndsSum (token s q) → (no? (isFactor (token s i) || isTerm (token s i)) ≡ isAlone r t) × (isAlone r t ≡ true → i ≡ q)
   unfolding factorsTokens
   alone-agrees noFactor noTerm i j q f g e = (rw (f, g, e .factor, e .term), λ x. f ∙ g)
   alone-agrees noFactor (term o v a r) i j q f g e = (rw (f, g .0, holds (isTerm o) v, or-true (isFactor o)), λ x. absurd (false≢true x))
   alone-agrees (factor o v a r) t i j q f g e = (rw (f .0, holds (isFactor o) v), λ x. absurd (false≢true x))
 
   -- the reader's removal is the tree's
-  removal-agrees : (a : Sum) (p q : ℕ) → Stands s p (sumTokens a) q → EndsSum (token q) → (isRemoval s p ≡ isRemovalTree a) × (isRemovalTree a ≡ true → p + 4 ≡ q)
+  removal-agrees : (a : Sum) (p q : ℕ) → Stands s p (sumTokens a) q → EndsSum (token s q) → (isRemoval s p ≡ isRemovalTree a) × (isRemovalTree a ≡ true → p + 4 ≡ q)
   unfolding isRemovalTree sumTokens
   removal-agrees (sum (product a r) t) p q h e =
       let (j, l, g) = stands-split s (operandTokens a ++ factorsTokens r) (termsTokens t) p q h in
@@ -89,11 +86,11 @@ module _ (s : List ℕ) where
       (first-removal a p i f ∙ rw x, λ z. let b = both (isFifoZero a) (isAlone r t) z in removal-place a p i f (b .0) ∙ y (b .1))
 
   -- right sides
-  right-agrees : (a : Sum) (k p q : ℕ) → length (sumTokens a) ≤ k → Stands s p (sumTokens a) q → EndsSum (token q) → faultFor false (sumAt s sight k p) ≡ read (rightFault a) q
+  right-agrees : (a : Sum) (k p q : ℕ) → length (sumTokens a) ≤ k → Stands s p (sumTokens a) q → EndsSum (token s q) → faultFor false (sumAt s sight k p) ≡ read (rightFault a) q
   unfolding rightFault
   right-agrees a k p q l h e = rw (sum-agrees s sight a k p q l h e) (wanted-read false (sumMeaning sight a) q (seen-sum a))
 
-  assigned-agrees : (a : Sum) (k p q : ℕ) → length (sumTokens a) ≤ k → Stands s p (sumTokens a) q → EndsSum (token q) → assignedAt s k p ≡ read (assignedFault a) q
+  assigned-agrees : (a : Sum) (k p q : ℕ) → length (sumTokens a) ≤ k → Stands s p (sumTokens a) q → EndsSum (token s q) → assignedAt s k p ≡ read (assignedFault a) q
   unfolding assignedAt assignedFault
   assigned-agrees a k p q l h e =
       let (x, y) = removal-agrees a p q h e in
@@ -108,24 +105,24 @@ module _ (s : List ℕ) where
       let (i, f, g) = stands-split s (w ∷ LEFT ∷ t ∷ RIGHT ∷ []) (EQUALS ∷ l) p q h in
       let (a, b, c) = index-stands s w t p i x f in
       let five : i + 1 ≡ p + 5 = omega arith in
-      let on : isIndexed s (token p) p ≡ true = rw (h .0) a in
-      let is : eqb (token (p + 4)) EQUALS ≡ true = rw c (eq-eqb (token i) EQUALS (g .0)) in
+      let on : isIndexed s (token s p) p ≡ true = rw (h .0) a in
+      let is : eqb (token s (p + 4)) EQUALS ≡ true = rw c (eq-eqb (token s i) EQUALS (g .0)) in
       (chosen _ _ _ on ∙ chosen _ _ _ is ∙ rw (h .0), b, rw five at (g .1))
 
   -- or no index behind the word w at p
-  command-stands : (w t kw k p : ℕ) → token p ≡ w → token (p + 1) ≡ t → eqb t LEFT ≡ false → actionAt s kw k p ≡ commandAt s kw w p
+  command-stands : (w t kw k p : ℕ) → token s p ≡ w → token s (p + 1) ≡ t → eqb t LEFT ≡ false → actionAt s kw k p ≡ commandAt s kw w p
   unfolding actionAt isIndexed
   command-stands w t kw k p h g e =
-      let off : isIndexed s (token p) p ≡ false = rw (g, e) in
+      let off : isIndexed s (token s p) p ≡ false = rw (g, e) in
       refused _ _ _ off ∙ rw h
 
-  assign-agrees : (kw w t i : ℕ) (a : Sum) (k p q : ℕ) → isVariable w ≡ true → isIndex w t ≡ true → indexOf w t ≡ i → length (sumTokens a) ≤ k → Stands s p (w ∷ LEFT ∷ t ∷ RIGHT ∷ EQUALS ∷ sumTokens a) q → EndsSum (token q) → actionAt s kw k p ≡ read (lower (writeFault w i) (assignedFault a)) q
+  assign-agrees : (kw w t i : ℕ) (a : Sum) (k p q : ℕ) → isVariable w ≡ true → isIndex w t ≡ true → indexOf w t ≡ i → length (sumTokens a) ≤ k → Stands s p (w ∷ LEFT ∷ t ∷ RIGHT ∷ EQUALS ∷ sumTokens a) q → EndsSum (token s q) → actionAt s kw k p ≡ read (lower (writeFault w i) (assignedFault a)) q
   unfolding assignmentAt
   assign-agrees kw w t i a k p q v x y l h e =
       let (b, c, d) = target-stands w t (sumTokens a) kw k p q x h in
       b ∙ chosen _ _ _ v ∙ rw (assigned-agrees a k (p + 5) q l d e, c, y)
 
-  action-agrees : (kw : ℕ) (a : Action) (k p q : ℕ) → length (actionTokens a) ≤ k → Stands s p (actionTokens a) q → EndsSum (token q) → actionAt s kw k p ≡ read (actionFault kw a) q
+  action-agrees : (kw : ℕ) (a : Action) (k p q : ℕ) → length (actionTokens a) ≤ k → Stands s p (actionTokens a) q → EndsSum (token s q) → actionAt s kw k p ≡ read (actionFault kw a) q
   unfolding actionTokens actionFault assignmentAt commandAt
   action-agrees kw (assign w v i a) k p q l h e =
       let f = numbered w v in
@@ -143,25 +140,25 @@ module _ (s : List ℕ) where
       let two : p + 1 + 1 ≡ p + 2 = omega arith in
       let three : p + 3 ≡ q = let z = h .1 .1 .1 in omega arith in
       let (x, y) = whole-token n in
-      let t : token (p + 2) ≡ wholeToken n = rw two at (h .1 .1 .0) in
-      let b : isWhole (token (p + 2)) ≡ true = rw t x in
-      command-stands M EQUALS kw k p (h .0) (h .1 .0) refl ∙ chosen _ _ _ b ∙ chosen _ _ _ (eq-eqb (token (p + 1)) EQUALS (h .1 .0)) ∙ rw (t, y, three)
+      let t : token s (p + 2) ≡ wholeToken n = rw two at (h .1 .1 .0) in
+      let b : isWhole (token s (p + 2)) ≡ true = rw t x in
+      command-stands M EQUALS kw k p (h .0) (h .1 .0) refl ∙ chosen _ _ _ b ∙ chosen _ _ _ (eq-eqb (token s (p + 1)) EQUALS (h .1 .0)) ∙ rw (t, y, three)
   action-agrees kw (call w v n) k p q l h e =
       let two : p + 1 + 1 ≡ p + 2 = omega arith in
       let three : p + 1 + 1 + 1 ≡ p + 3 = omega arith in
       let four : p + 4 ≡ q = let z = h .1 .1 .1 .1 in omega arith in
       let (x, y) = whole-token n in
       let r = bounds SETAL UNLOCK w v in
-      let t : token (p + 2) ≡ wholeToken n = rw two at (h .1 .1 .0) in
-      let b : isWhole (token (p + 2)) ≡ true = rw t x in
-      let c : token (p + 3) ≡ CLOSE = rw three at (h .1 .1 .1 .0) in
-      let d : (isCall w && (eqb (token (p + 1)) OPEN && eqb (token (p + 3)) CLOSE)) ≡ true = rw (holds (isCall w) v, h .1 .0, c) in
+      let t : token s (p + 2) ≡ wholeToken n = rw two at (h .1 .1 .0) in
+      let b : isWhole (token s (p + 2)) ≡ true = rw t x in
+      let c : token s (p + 3) ≡ CLOSE = rw three at (h .1 .1 .1 .0) in
+      let d : (isCall w && (eqb (token s (p + 1)) OPEN && eqb (token s (p + 3)) CLOSE)) ≡ true = rw (holds (isCall w) v, h .1 .0, c) in
       command-stands w OPEN kw k p (h .0) (h .1 .0) refl ∙ chosen _ _ _ b ∙ refused _ _ _ (ne-eqb w M (λ z. omega arith)) ∙ chosen _ _ _ d ∙ rw (t, y, four)
 
   -- ---- actions
 
   -- an action begins with a word that neither goes on with a sum nor ends a line
-  action-word : (a : Action) (p q : ℕ) → Stands s p (actionTokens a) q → IN ≤ token p
+  action-word : (a : Action) (p q : ℕ) → Stands s p (actionTokens a) q → IN ≤ token s p
   unfolding actionTokens
   action-word (assign w v i a) p q h = let b = bounds IN FIFO4 w v in let e = h .0 in omega arith
   action-word (assignPosition x v a) p q h = let e = h .0 in omega arith
@@ -169,26 +166,26 @@ module _ (s : List ℕ) where
   action-word (code n) p q h = let e = h .0 in omega arith
   action-word (call w v n) p q h = let b = bounds SETAL UNLOCK w v in let e = h .0 in omega arith
 
-  actions-word : (a : Action) (r : List Action) (p q : ℕ) → Stands s p (actionsTokens a r) q → IN ≤ token p
+  actions-word : (a : Action) (r : List Action) (p q : ℕ) → Stands s p (actionsTokens a r) q → IN ≤ token s p
   unfolding actionsTokens
   actions-word a [] p q h = action-word a p q h
   actions-word a (b ∷ r) p q h = let (i, f, g) = stands-split s (actionTokens a) (actionsTokens b r) p q h in action-word a p i f
 
-  actions-end : (kw k j n f g p q : ℕ) → 1 ≤ j → actionAt s kw k p ≡ read g q → token q ≡ END → actionsAt s kw k j n f p ≡ read (lower (lower f g) (countFault (n + 1))) q
+  actions-end : (kw k j n f g p q : ℕ) → 1 ≤ j → actionAt s kw k p ≡ read g q → token s q ≡ END → actionsAt s kw k j n f p ≡ read (lower (lower f g) (countFault (n + 1))) q
   unfolding actionsAt
   actions-end kw k zero n f g p q l h e = absurd (not-suc-le-zero l)
-  actions-end kw k (suc j) n f g p q l h e = rw h (chosen _ _ _ (eq-eqb (token q) END e))
+  actions-end kw k (suc j) n f g p q l h e = rw h (chosen _ _ _ (eq-eqb (token s q) END e))
 
-  actions-next : (kw k j n f g p i : ℕ) → 1 ≤ j → actionAt s kw k p ≡ read g i → IN ≤ token i → actionsAt s kw k j n f p ≡ actionsAt s kw k (pred j) (n + 1) (lower f g) i
+  actions-next : (kw k j n f g p i : ℕ) → 1 ≤ j → actionAt s kw k p ≡ read g i → IN ≤ token s i → actionsAt s kw k j n f p ≡ actionsAt s kw k (pred j) (n + 1) (lower f g) i
   unfolding actionsAt
   actions-next kw k zero n f g p i l h e = absurd (not-suc-le-zero l)
-  actions-next kw k (suc j) n f g p i l h e = rw h (refused _ _ _ (ne-eqb (token i) END (λ z. omega arith)))
+  actions-next kw k (suc j) n f g p i l h e = rw h (refused _ _ _ (ne-eqb (token s i) END (λ z. omega arith)))
 
-  actions-agree : (kw k : ℕ) (r : List Action) (a : Action) (j n f p q : ℕ) → length (actionsTokens a r) ≤ k → length (actionsTokens a r) ≤ j → Stands s p (actionsTokens a r) q → token q ≡ END → actionsAt s kw k j n f p ≡ read (lower f (lower (actionsFault kw a r) (countFault (suc (n + length r))))) q
+  actions-agree : (kw k : ℕ) (r : List Action) (a : Action) (j n f p q : ℕ) → length (actionsTokens a r) ≤ k → length (actionsTokens a r) ≤ j → Stands s p (actionsTokens a r) q → token s q ≡ END → actionsAt s kw k j n f p ≡ read (lower f (lower (actionsFault kw a r) (countFault (suc (n + length r))))) q
   unfolding actionsTokens actionsFault
   actions-agree kw k [] a j n f p q l m h e =
       let one : suc (n + 0) ≡ n + 1 = omega arith in
-      actions-end kw k j n f (actionFault kw a) p q (le-trans (action-long a) m) (action-agrees kw a k p q l h (end-ends (token q) e)) e ∙ rw (one, lower-assoc f (actionFault kw a) _)
+      actions-end kw k j n f (actionFault kw a) p q (le-trans (action-long a) m) (action-agrees kw a k p q l h (end-ends (token s q) e)) e ∙ rw (one, lower-assoc f (actionFault kw a) _)
   actions-agree kw k (b ∷ r) a j n f p q l m h e =
       let (i, x, y) = stands-split s (actionTokens a) (actionsTokens b r) p q h in
       let L = parts-fit (actionTokens a) (actionsTokens b r) k l in
@@ -199,7 +196,7 @@ module _ (s : List ℕ) where
       let t = countFault c in
       let J = simp length-append at m in
       let A = action-long a in
-      actions-next kw k j n f g p i (omega arith) (action-agrees kw a k p i (L .0) x (word-ends (token i) w)) w
+      actions-next kw k j n f g p i (omega arith) (action-agrees kw a k p i (L .0) x (word-ends (token s i) w)) w
       ∙ actions-agree kw k r b (pred j) (n + 1) (lower f g) i q (L .1) (omega arith) y e
       ∙ rw (one, lower-assoc f g _, lower-assoc g (actionsFault kw b r) t)
 
@@ -209,35 +206,35 @@ module _ (s : List ℕ) where
   abbrev bodyFault : ℕ → ℕ → Action → List Action → ℕ
   bodyFault kw f a r = lower f (lower (actionsFault kw a r) (countFault (suc (length r))))
 
-  body-agrees : (a : Action) (r : List Action) (p kw cp f i e : ℕ) → length (actionsTokens a r) ≤ setSize → token i ≡ DO → Stands s (i + 1) (actionsTokens a r) e → token e ≡ END → bodyAt s p kw cp f i ≡ lineParts s p kw cp (i + 1) (read (bodyFault kw f a r) e)
+  body-agrees : (a : Action) (r : List Action) (p kw cp f i e : ℕ) → length (actionsTokens a r) ≤ setSize → token s i ≡ DO → Stands s (i + 1) (actionsTokens a r) e → token s e ≡ END → bodyAt s p kw cp f i ≡ lineParts s p kw cp (i + 1) (read (bodyFault kw f a r) e)
   unfolding bodyAt
   body-agrees a r p kw cp f i e l d h t =
       let n : 0 + length r ≡ length r = omega arith in
-      chosen _ _ _ (eq-eqb (token i) DO d) ∙ rw (actions-agree kw setSize r a setSize 0 f (i + 1) e l l h t, n)
+      chosen _ _ _ (eq-eqb (token s i) DO d) ∙ rw (actions-agree kw setSize r a setSize 0 f (i + 1) e l l h t, n)
 
   -- what stands behind the head
-  rest-agrees : (c : Condition) (a : Action) (r : List Action) (p f e : ℕ) → length (conditionTokens c) ≤ setSize → length (actionsTokens a r) ≤ setSize → (i : ℕ) → Stands s (p + 3) (conditionTokens c) i → token i ≡ DO → Stands s (i + 1) (actionsTokens a r) e → token e ≡ END → restAt s p f ≡ lineParts s p (keywordOf c) (conditionPlace p c) (i + 1) (read (bodyFault (keywordOf c) (lower f (conditionFault c)) a r) e)
+  rest-agrees : (c : Condition) (a : Action) (r : List Action) (p f e : ℕ) → length (conditionTokens c) ≤ setSize → length (actionsTokens a r) ≤ setSize → (i : ℕ) → Stands s (p + 3) (conditionTokens c) i → token s i ≡ DO → Stands s (i + 1) (actionsTokens a r) e → token s e ≡ END → restAt s p f ≡ lineParts s p (keywordOf c) (conditionPlace p c) (i + 1) (read (bodyFault (keywordOf c) (lower f (conditionFault c)) a r) e)
   unfolding restAt conditionTokens
   rest-agrees always a r p f e k l i g d h t =
-      let no : isKeyword (token (p + 3)) ≡ false = rw (g, d) in
+      let no : isKeyword (token s (p + 3)) ≡ false = rw (g, d) in
       refused _ _ _ no ∙ rw (lower-none f, g) (body-agrees a r p 0 0 f i e l d h t)
   rest-agrees (under w v x) a r p f e k l i g d h t =
-      let on : isKeyword (token (p + 3)) ≡ true = rw (g .0) (holds _ v) in
+      let on : isKeyword (token s (p + 3)) ≡ true = rw (g .0) (holds _ v) in
       let four : p + 3 + 1 ≡ p + 4 = omega arith in
-      let z : EndsExpression (token i) = rw d do-ends in
+      let z : EndsExpression (token s i) = rw d do-ends in
       chosen _ _ _ on ∙ rw (expression-agrees s sight x setSize (p + 4) i (omega arith) (rw four at (g .1)) z, wanted-read true (expressionMeaning sight x) i (seen-expression x), g .0) (body-agrees a r p w (p + 4) _ i e l d h t)
 
   -- the parts of a line that stands from p up to q: where DO stands, and where it ends
   record LineStands (w n : ℕ) (c : Condition) (a : Action) (r : List Action) (p q : ℕ) : Type 0 where
     doing : ℕ
     end : ℕ
-    word : token p ≡ w
-    equals : token (p + 1) ≡ EQUALS
-    number : token (p + 2) ≡ wholeToken n
+    word : token s p ≡ w
+    equals : token s (p + 1) ≡ EQUALS
+    number : token s (p + 2) ≡ wholeToken n
     condition : Stands s (p + 3) (conditionTokens c) doing
-    begins : token doing ≡ DO
+    begins : token s doing ≡ DO
     actions : Stands s (doing + 1) (actionsTokens a r) end
-    stops : token end ≡ END
+    stops : token s end ≡ END
     behind : end + 1 ≡ q
 
   line-stands : (w : ℕ) (v : T (isId w)) (n : ℕ) (c : Condition) (a : Action) (r : List Action) (p q : ℕ) → Stands s p (lineTokens (line w v n c a r)) q → LineStands w n c a r p q
@@ -265,8 +262,8 @@ module _ (s : List ℕ) where
   unfolding lineTokens lineAt lineFault
   told-agrees w v n c a r p q l b h x =
       let m = simp length-append at l in
-      let head : (isId (token p) && (eqb (token (p + 1)) EQUALS && isWhole (token (p + 2)))) ≡ true = rw (x .word, holds (isId w) v, x .equals, x .number) (whole-token n .0) in
-      let id : idFault (whole (token (p + 2))) ≡ idFault n = rw (x .number, whole-token n .1) in
+      let head : (isId (token s p) && (eqb (token s (p + 1)) EQUALS && isWhole (token s (p + 2)))) ≡ true = rw (x .word, holds (isId w) v, x .equals, x .number) (whole-token n .0) in
+      let id : idFault (whole (token s (p + 2))) ≡ idFault n = rw (x .number, whole-token n .1) in
       refused _ _ _ b ∙ chosen _ _ _ head ∙ ap (restAt s p) id
       ∙ rest-agrees c a r p (idFault n) (x .end) (omega arith) (omega arith) (x .doing) (x .condition) (x .begins) (x .actions) (x .stops)
       ∙ parts-agree w v n c a r p q h x
@@ -276,7 +273,7 @@ module _ (s : List ℕ) where
   line-agrees (line w v n c a r) p q l b h = told-agrees w v n c a r p q l b h (line-stands w v n c a r p q h)
 
   -- the place where it ends holds 0
-  pub end-holds : (l : Line) (p q : ℕ) → Stands s p (lineTokens l) q → token (partsFrom p l .end) ≡ END
+  pub end-holds : (l : Line) (p q : ℕ) → Stands s p (lineTokens l) q → token s (partsFrom p l .end) ≡ END
   unfolding lineTokens partsFrom
   end-holds (line w v n c a r) p q h =
       let x = line-stands w v n c a r p q h in

@@ -6,13 +6,13 @@ use mathlib.Core.Logic.{_↔_, inl, inr}
 use Prim.Native.Nat.{ℕ, zero, suc, _+_, _≤_}
 use native.Mathlib.Omega.{arith}
 use lib.Dec.{eqb}
-use lib.ListN.{length, getD, drop}
+use lib.ListN.{length, drop}
 use borrow.Author.Tests.{le-leb, lt-leb, eq-eqb, eqb-true, eqb-false}
 use Rattle.values.specs.Choice.{told-so, both, decide, choice, chosen, refused}
 use Rattle.code.specs.declared.check.Line.{Line as Told}
 use Rattle.tokens.specs.Token.{setSize, END, EQUALS, LEFT, RIGHT, DO, IM, isVariable, hasAxis, isFifo, isDrive, isCall, isKeyword, isId, isWhole, whole, CLOSE, FIFO1, FIFO4, IN, M, MOV, OPEN, POS}
 use Rattle.grammar.specs.Tree.{variable, product, noFactor, Sum, sum, noTerm, Action, assign, assignPosition, drive, code, call, Condition, always, under, Line, line, sumTokens, actionTokens, actionsTokens, conditionTokens, lineTokens}
-use Rattle.tokens.specs.Reading.{Read, read, ends, isIndexed, indexAt, sumAt, expressionAt}
+use Rattle.tokens.specs.Reading.{token, Read, read, ends, isIndexed, indexAt, sumAt, expressionAt}
 use Rattle.grammar.specs.Meaning.{Stands}
 use Rattle.tokens.specs.SingleFault.{tooDeep, notInGrammar, lower, opensTooMany}
 use Rattle.code.specs.Fault.{Sight, sight, faultFor, isRemoval, assignedAt, assignmentAt, commandAt, actionAt, actionsAt, lineParts, bodyAt, restAt, lineAt}
@@ -29,9 +29,6 @@ not-five n (inl h) e = omega arith
 not-five n (inr h) e = omega arith
 
 module _ (s : List ℕ) where
-  abbrev token : ℕ → ℕ
-  token p = getD s p 0
-
   -- ---- right sides and actions that are read are written
 
   faultFor-read : (t : Bool) (r : Read Sight) (f q : ℕ) → faultFor t r ≡ read f q → (a : Sight) × (r ≡ read a q)
@@ -47,7 +44,7 @@ module _ (s : List ℕ) where
   removal-found : (p : ℕ) → isRemoval s p ≡ true → (a : Sum) × Stands s p (sumTokens a) (p + 4)
   unfolding isRemoval sumTokens
   removal-found p h =
-      let w = token p in
+      let w = token s p in
       let (f, g) = both (isFifo w) _ h in
       let b = bounds FIFO1 FIFO4 w (told-so _ f) in
       let x = both (isIndexed s w p) _ g in
@@ -61,15 +58,15 @@ module _ (s : List ℕ) where
       (λ t e. right-found k p f q e)
 
   -- w[t]= and what is assigned
-  target-join : (w t : ℕ) (l : List ℕ) (p q : ℕ) → Stands s p (w ∷ LEFT ∷ t ∷ RIGHT ∷ []) (p + 4) → token (p + 4) ≡ EQUALS → Stands s (p + 5) l q → Stands s p (w ∷ LEFT ∷ t ∷ RIGHT ∷ EQUALS ∷ l) q
+  target-join : (w t : ℕ) (l : List ℕ) (p q : ℕ) → Stands s p (w ∷ LEFT ∷ t ∷ RIGHT ∷ []) (p + 4) → token s (p + 4) ≡ EQUALS → Stands s (p + 5) l q → Stands s p (w ∷ LEFT ∷ t ∷ RIGHT ∷ EQUALS ∷ l) q
   target-join w t l p q h e g =
       let five : p + 4 + 1 ≡ p + 5 = omega arith in
       stands-join s (w ∷ LEFT ∷ t ∷ RIGHT ∷ []) (EQUALS ∷ l) p (p + 4) q h (e, rw five g)
 
-  assignment-found : (k p f q : ℕ) → isIndexed s (token p) p ≡ true → token (p + 4) ≡ EQUALS → assignmentAt s k (token p) p ≡ read f q → (a : Action) × Stands s p (actionTokens a) q
+  assignment-found : (k p f q : ℕ) → isIndexed s (token s p) p ≡ true → token s (p + 4) ≡ EQUALS → assignmentAt s k (token s p) p ≡ read f q → (a : Action) × Stands s p (actionTokens a) q
   unfolding assignmentAt actionTokens
   assignment-found k p f q x y h =
-      let w = token p in
+      let w = token s p in
       choice _ (isVariable w) _ _ _ h
       (λ t e.
       let (g, i, c, d) = then-read (assignedAt s k (p + 5)) _ f q e in
@@ -79,54 +76,54 @@ module _ (s : List ℕ) where
       decide _ (hasAxis w)
       (λ r.
       let (b, v, n) = axis-written s w p refl r x in
-      (assignPosition (token (p + 2)) v a, target-join IM (token (p + 2)) (sumTokens a) p q (kind .0 r, b .1) y z))
+      (assignPosition (token s (p + 2)) v a, target-join IM (token s (p + 2)) (sumTokens a) p q (kind .0 r, b .1) y z))
       (λ r. (assign w (kind .1 r) (indexAt s w p) a, target-join w _ (sumTokens a) p q (number-written s w p refl r x) y z)))
       (λ _ h. choice _ (isDrive w) _ _ _ h
       (λ t e.
       let (a, z) = right-found k (p + 5) f q e in
       let r = bounds POS MOV w (told-so _ t) in
       let (b, v, n) = axis-written s w p refl (le-leb IM w (omega arith)) x in
-      (drive w (told-so _ t) (token (p + 2)) v a, target-join w (token (p + 2)) (sumTokens a) p q b y z))
+      (drive w (told-so _ t) (token s (p + 2)) v a, target-join w (token s (p + 2)) (sumTokens a) p q b y z))
       (λ _ e. ends-read _ notInGrammar q f e))
 
-  command-found : (kw p f q : ℕ) → commandAt s kw (token p) p ≡ read f q → (a : Action) × Stands s p (actionTokens a) q
+  command-found : (kw p f q : ℕ) → commandAt s kw (token s p) p ≡ read f q → (a : Action) × Stands s p (actionTokens a) q
   unfolding commandAt actionTokens
   command-found kw p f q h =
-      let w = token p in
+      let w = token s p in
       let two : p + 1 + 1 ≡ p + 2 = omega arith in
       let three : p + 2 + 1 ≡ p + 3 = omega arith in
       let four : p + 3 + 1 ≡ p + 4 = omega arith in
-      choice _ (isWhole (token (p + 2))) _ _ _ h
+      choice _ (isWhole (token s (p + 2))) _ _ _ h
       (λ t h.
-      let n = whole-written (token (p + 2)) t in
+      let n = whole-written (token s (p + 2)) t in
       choice _ (eqb w M) _ _ _ h
-      (λ m h. choice _ (eqb (token (p + 1)) EQUALS) _ _ _ h
-      (λ y e. let i : p + 3 ≡ q = cc in (code (whole (token (p + 2))), (eqb-true w M m, (eqb-true (token (p + 1)) EQUALS y, rw (two, three) (n, i)))))
+      (λ m h. choice _ (eqb (token s (p + 1)) EQUALS) _ _ _ h
+      (λ y e. let i : p + 3 ≡ q = cc in (code (whole (token s (p + 2))), (eqb-true w M m, (eqb-true (token s (p + 1)) EQUALS y, rw (two, three) (n, i)))))
       (λ _ e. ends-read _ notInGrammar q f e))
-      (λ _ h. choice _ (isCall w && (eqb (token (p + 1)) OPEN && eqb (token (p + 3)) CLOSE)) _ _ _ h
+      (λ _ h. choice _ (isCall w && (eqb (token s (p + 1)) OPEN && eqb (token s (p + 3)) CLOSE)) _ _ _ h
       (λ y e.
       let (v, u) = both (isCall w) _ y in
-      let (o, c) = both (eqb (token (p + 1)) OPEN) _ u in
+      let (o, c) = both (eqb (token s (p + 1)) OPEN) _ u in
       let i : p + 4 ≡ q = cc in
-      (call w (told-so _ v) (whole (token (p + 2))), (refl, (eqb-true (token (p + 1)) OPEN o, rw (two, three, four) (n, (eqb-true (token (p + 3)) CLOSE c, i))))))
+      (call w (told-so _ v) (whole (token s (p + 2))), (refl, (eqb-true (token s (p + 1)) OPEN o, rw (two, three, four) (n, (eqb-true (token s (p + 3)) CLOSE c, i))))))
       (λ _ e. ends-read _ notInGrammar q f e)))
       (λ _ e. ends-read _ notInGrammar q f e)
 
   action-found : (kw k p f q : ℕ) → actionAt s kw k p ≡ read f q → (a : Action) × Stands s p (actionTokens a) q
   unfolding actionAt
   action-found kw k p f q h =
-      choice _ (isIndexed s (token p) p) _ _ _ h
-      (λ x h. choice _ (eqb (token (p + 4)) EQUALS) _ _ _ h (λ y e. assignment-found k p f q x (eqb-true (token (p + 4)) EQUALS y) e) (λ _ e. ends-read _ notInGrammar q f e))
+      choice _ (isIndexed s (token s p) p) _ _ _ h
+      (λ x h. choice _ (eqb (token s (p + 4)) EQUALS) _ _ _ h (λ y e. assignment-found k p f q x (eqb-true (token s (p + 4)) EQUALS y) e) (λ _ e. ends-read _ notInGrammar q f e))
       (λ _ e. command-found kw p f q e)
 
-  actions-found : (kw k j n f p g q : ℕ) → actionsAt s kw k j n f p ≡ read g q → (a : Action) × (r : List Action) × Stands s p (actionsTokens a r) q × (token q ≡ END)
+  actions-found : (kw k j n f p g q : ℕ) → actionsAt s kw k j n f p ≡ read g q → (a : Action) × (r : List Action) × Stands s p (actionsTokens a r) q × (token s q ≡ END)
   unfolding actionsAt actionsTokens
   actions-found kw k zero n f p g q h = ends-read _ notInGrammar q g h
   actions-found kw k (suc j) n f p g q h =
       let (d, i, e, m) = then-read (actionAt s kw k p) _ g q h in
       let (a, z) = action-found kw k p d i e in
-      choice _ (eqb (token i) END) _ _ _ m
-      (λ t e. let x : i ≡ q = cc in (a, [], subst (λ (n : ℕ). Stands s p (actionTokens a) n) x z, rw x at (eqb-true (token i) END t)))
+      choice _ (eqb (token s i) END) _ _ _ m
+      (λ t e. let x : i ≡ q = cc in (a, [], subst (λ (n : ℕ). Stands s p (actionTokens a) n) x z, rw x at (eqb-true (token s i) END t)))
       (λ _ e. let (b, r, y, t) = actions-found kw k j (n + 1) (lower f d) i g q e in (a, b ∷ r, stands-join s (actionTokens a) (actionsTokens b r) p i q z y, t))
 
   -- ---- a line that is found is written
@@ -136,9 +133,9 @@ module _ (s : List ℕ) where
     first : Action
     rest : List Action
     end : ℕ
-    begins : token i ≡ DO
+    begins : token s i ≡ DO
     stands : Stands s (i + 1) (actionsTokens first rest) end
-    stops : token end ≡ END
+    stops : token s end ≡ END
 
   parts-found : (p kw cp a : ℕ) (r : Read ℕ) (z : Told) → (z .fault ≡ notInGrammar → ⊥) → Five r → lineParts s p kw cp a r ≡ z → (g : ℕ) × (e : ℕ) × (r ≡ read g e)
   unfolding lineParts
@@ -148,11 +145,11 @@ module _ (s : List ℕ) where
   body-found : (p kw cp f i : ℕ) (z : Told) → (z .fault ≡ notInGrammar → ⊥) → bodyAt s p kw cp f i ≡ z → Body i
   unfolding bodyAt
   body-found p kw cp f i z no5 h =
-      choice _ (eqb (token i) DO) _ _ z h
+      choice _ (eqb (token s i) DO) _ _ z h
       (λ t e.
       let (g, n, m) = parts-found p kw cp (i + 1) (actionsAt s kw setSize setSize 0 f (i + 1)) z no5 (actions-five s kw setSize setSize 0 f (i + 1)) e in
       let (a, r, y, u) = actions-found kw setSize setSize 0 f (i + 1) g n m in
-      record { first = a; rest = r; end = n; begins = eqb-true (token i) DO t; stands = y; stops = u })
+      record { first = a; rest = r; end = n; begins = eqb-true (token s i) DO t; stands = y; stops = u })
       (λ _ e. absurd (no5 (ap (λ (l : Told). l .fault) (sym e))))
 
   -- what a choice by a reading came to
@@ -163,13 +160,13 @@ module _ (s : List ℕ) where
   rest-found : (p f : ℕ) (z : Told) → (z .fault ≡ notInGrammar → ⊥) → restAt s p f ≡ z → (c : Condition) × (i : ℕ) × Stands s (p + 3) (conditionTokens c) i × Body i
   unfolding restAt conditionTokens
   rest-found p f z no5 h =
-      choice _ (isKeyword (token (p + 3))) _ _ z h
+      choice _ (isKeyword (token s (p + 3))) _ _ z h
       (λ t h. outcome _ (faultFor true (expressionAt s sight setSize (p + 4))) _ _ z h
       (λ g i m e.
       let (v, r) = faultFor-read true (expressionAt s sight setSize (p + 4)) g i m in
       let b = expression-found s sight setSize (p + 4) v i r in
       let four : p + 3 + 1 ≡ p + 4 = omega arith in
-      (under (token (p + 3)) (told-so _ t) (b .tree), i, (refl, rw four (b .stands)), body-found p (token (p + 3)) (p + 4) (lower f g) i z no5 e))
+      (under (token s (p + 3)) (told-so _ t) (b .tree), i, (refl, rw four (b .stands)), body-found p (token s (p + 3)) (p + 4) (lower f g) i z no5 e))
       (λ k m e. absurd (no5 (ap (λ (l : Told). l .fault) (sym e) ∙ (rw m at (condition-five s setSize (p + 4)))))))
       (λ _ e. (always, p + 3, refl, body-found p 0 0 f (p + 3) z no5 e))
 
@@ -177,18 +174,18 @@ module _ (s : List ℕ) where
   pub line-written : (p : ℕ) → opensTooMany (drop p s) 0 ≡ false → (lineAt s p .fault ≡ notInGrammar → ⊥) → (l : Line) × (q : ℕ) × Stands s p (lineTokens l) q
   unfolding lineAt lineTokens
   line-written p o no5 =
-      choice _ (isId (token p) && (eqb (token (p + 1)) EQUALS && isWhole (token (p + 2)))) _ _ (lineAt s p) (sym (refused (opensTooMany (drop p s) 0) _ _ o))
+      choice _ (isId (token s p) && (eqb (token s (p + 1)) EQUALS && isWhole (token s (p + 2)))) _ _ (lineAt s p) (sym (refused (opensTooMany (drop p s) 0) _ _ o))
       (λ t e.
-      let (v, u) = both (isId (token p)) _ t in
-      let (a, w) = both (eqb (token (p + 1)) EQUALS) _ u in
-      let n = whole-written (token (p + 2)) w in
+      let (v, u) = both (isId (token s p)) _ t in
+      let (a, w) = both (eqb (token s (p + 1)) EQUALS) _ u in
+      let n = whole-written (token s (p + 2)) w in
       let (c, i, x, b) = rest-found p _ (lineAt s p) no5 e in
       let two : p + 1 + 1 ≡ p + 2 = omega arith in
       let three : p + 2 + 1 ≡ p + 3 = omega arith in
       let body = actionsTokens (b .first) (b .rest) in
       let y = stands-join s body (END ∷ []) (i + 1) (b .end) (b .end + 1) (b .stands) (b .stops, refl) in
       let z = stands-join s (conditionTokens c) (DO ∷ body ++ (END ∷ [])) (p + 3) i (b .end + 1) x (b .begins, y) in
-      (line (token p) (told-so _ v) (whole (token (p + 2))) c (b .first) (b .rest), b .end + 1, (refl, (eqb-true (token (p + 1)) EQUALS a, rw (two, three) (n, z)))))
+      (line (token s p) (told-so _ v) (whole (token s (p + 2))) c (b .first) (b .rest), b .end + 1, (refl, (eqb-true (token s (p + 1)) EQUALS a, rw (two, three) (n, z)))))
       (λ _ e. absurd (no5 (ap (λ (l : Told). l .fault) (sym e))))
 
   -- ---- what follows
@@ -207,7 +204,7 @@ module _ (s : List ℕ) where
       (λ t. ap (λ (x : Told). x .fault) (refused _ _ _ t))
 
   -- its parts, where it has no fault; the place where it ends holds 0
-  pub line-parts : length s ≤ setSize → (l : Line) (p q : ℕ) → opensTooMany (drop p s) 0 ≡ false → Stands s p (lineTokens l) q → lineFault l ≡ 0 → (lineAt s p ≡ partsFrom p l) × (token (partsFrom p l .end) ≡ END)
+  pub line-parts : length s ≤ setSize → (l : Line) (p q : ℕ) → opensTooMany (drop p s) 0 ≡ false → Stands s p (lineTokens l) q → lineFault l ≡ 0 → (lineAt s p ≡ partsFrom p l) × (token s (partsFrom p l .end) ≡ END)
   unfolding toldFrom
   line-parts n l p q o h f = (line-told n l p q o h ∙ chosen _ _ _ (eq-eqb (lineFault l) 0 f), end-holds s l p q h)
 

@@ -5,10 +5,11 @@ use mathlib.Core.List.{List, [], _∷_, _++_, append-assoc}
 use Prim.Native.Nat.{ℕ, zero, suc, _+_, _≤_, _<_}
 use native.Mathlib.Omega.{arith}
 use lib.Dec.{leb}
-use lib.ListN.{length, getD, length-append, List·getD-eq-default}
+use lib.ListN.{length, length-append, List·getD-eq-default}
 use borrow.Author.Tests.{leb-true, leb-false}
 use Rattle.values.specs.Choice.{decide}
 use Rattle.tokens.specs.Token.{END, EQUALS, CLOSE, DO, LOCK, UNLOCK, wholeToken, AllReal, AND, ATLEAST, EVERY, FIFO4, ID, IDS, IN, MINUS, MOV, OVER, PLUS, POS, SAME, SETAL, TIMES, W, WHEN, X, XOR}
+use Rattle.tokens.specs.Reading.{token}
 use Rattle.grammar.specs.Tree.{Operand, number, variable, position, truth, bracket, minus, not, Product, product, Factors, noFactor, factor, Sum, sum, Terms, noTerm, term, Expression, plain, compare, row, Sums, last, next, Action, assign, assignPosition, drive, code, call, Condition, always, under, Line, line, operandTokens, productTokens, factorsTokens, sumTokens, termsTokens, expressionTokens, sumsTokens, actionTokens, actionsTokens, conditionTokens, lineTokens}
 use Rattle.grammar.specs.Meaning.{Stands}
 use Rattle.grammar.specs.AgreementLaws.{bounds, stands-split, stands-place}
@@ -111,11 +112,8 @@ same-row s (t ∷ l) (u ∷ m) p q r f g h k =
     rw (x, y)
 
 module _ (s : List ℕ) where
-  abbrev token : ℕ → ℕ
-  token p = getD s p 0
-
   -- the tokens of a line lie inside the list, but for its end
-  inside : (p t : ℕ) → token p ≡ t → 0 < t → p < length s
+  inside : (p t : ℕ) → token s p ≡ t → 0 < t → p < length s
   inside p t h g =
       decide _ (leb (length s) p)
       (λ e. let l = leb-true (length s) p e in let z = List·getD-eq-default s 0 l in absurd (omega arith))

@@ -12,7 +12,7 @@ use Rattle.values.specs.Choice.{either, ifNot, eitherBoth, both, and-true}
 use Rattle.values.specs.Value.{notAllowed, inRange, lessThan, feedOf}
 use Rattle.values.specs.Numbers.{clash}
 use Rattle.tokens.specs.Token.{END, EQUALS, OPEN, CLOSE, LEFT, RIGHT, IN, IM, POS, FA, MOV, M, SETAL, LOCK, UNLOCK, X, W, between, isVariable, isAxis, hasAxis, isFifo, isDrive, isCall, isWhole, whole, setSize, maxLines}
-use Rattle.tokens.specs.Reading.{Answer, good, stop, _>>=_, Read, read, ends, then, isIndex, indexOf, isIndexed, indexAt, sumAt, expressionAt}
+use Rattle.tokens.specs.Reading.{token, Answer, good, stop, _>>=_, Read, read, ends, then, isIndex, indexOf, isIndexed, indexAt, sumAt, expressionAt}
 use Rattle.tokens.specs.SingleFault.{outside, lower, writeFault, idFault, callFault}
 use Rattle.code.specs.Fault.{Sight, wanting, sight, faultFor, isRemoval, assignedAt, assignmentAt, commandAt, actionAt}
 use Rattle.working.specs.Working.{fromWorked, told, valueOver, rightValue, conditionValue}
@@ -71,9 +71,6 @@ abbrev TakenSound : Taken → Type 0
 TakenSound a = (inRange (a .value) ≡ true) × VarsSound (a .vars)
 
 module _ (s : List ℕ) where
-  abbrev token : ℕ → ℕ
-  token p = getD s p 0
-
   right-runs : (x : Vars) (p : ℕ) → VarsSound x → Runs ValueFine (λ a. a .1) (fromGot (rightValue s (x .r) (x .cells) p)) (faultFor false (sumAt s sight setSize p))
   unfolding rightValue
   right-runs x p h =
@@ -93,8 +90,8 @@ module _ (s : List ℕ) where
   unfolding takenAt assignedAt isRemoval
   taken-runs x p h =
       eitherBoth (Runs TakenSound (λ a. a .next)) (isRemoval s p)
-      (λ e f. holds-then ChangedSound (λ (a : Taken). (a .next ≡ p + 4) × TakenSound a) (changeFifo (x .r) (x .cells) 1 (token p) (pos 0)) _
-      (remove-keeps (x .r) (x .cells) (token p) h (both (isFifo (token p)) _ e .0) (pos 0)) (λ a d. (refl, (d .1, d .0)))) λ e.
+      (λ e f. holds-then ChangedSound (λ (a : Taken). (a .next ≡ p + 4) × TakenSound a) (changeFifo (x .r) (x .cells) 1 (token s p) (pos 0)) _
+      (remove-keeps (x .r) (x .cells) (token s p) h (both (isFifo (token s p)) _ e .0) (pos 0)) (λ a d. (refl, (d .1, d .0)))) λ e.
       runs-map ValueFine (λ a. a .1) TakenSound (λ a. a .next) (fromGot (rightValue s (x .r) (x .cells) p)) _ (faultFor false (sumAt s sight setSize p))
       (right-runs x p h) (λ a q n r. (n, (r, h)))
 

@@ -10,7 +10,7 @@ use borrow.Author.Tests.{eqb-true, leb-true}
 use Rattle.values.specs.Choice.{either, ifNot, both}
 use Rattle.values.specs.Numbers.{clash}
 use Rattle.tokens.specs.Token.{END, EQUALS, DO, ID, IDS, WHEN, EVERY, isNumber, isKeyword, isId, isWhole, setSize}
-use Rattle.tokens.specs.Reading.{good, _>>=_, Read, read, ends, then, expressionAt}
+use Rattle.tokens.specs.Reading.{token, good, _>>=_, Read, read, ends, then, expressionAt}
 use Rattle.tokens.specs.SingleFault.{tooMany, lower, opensTooMany}
 use Rattle.code.specs.Fault.{sight, faultFor, countFault, actionAt, actionsAt, faultyLine, lineParts, bodyAt, restAt, lineAt}
 use Rattle.code.specs.declared.check.Line.{Line}
@@ -29,12 +29,9 @@ clear-next true x y e c = clash (cc)
 clear-next false x y e c = c
 
 module _ (s : List ℕ) (kw k : ℕ) where
-  abbrev token : ℕ → ℕ
-  token p = getD s p 0
-
   -- behind an action with the fault g that ended at q, where f is the lowest fault before it
   abbrev afterAction : ℕ → ℕ → ℕ → ℕ → ℕ → Read ℕ
-  afterAction m n f g q = elim (eqb (token q) END) [ true ↦ read (lower (lower f g) (countFault (n + 1))) q | false ↦ actionsAt s kw k m (n + 1) (lower f g) q ]
+  afterAction m n f g q = elim (eqb (token s q) END) [ true ↦ read (lower (lower f g) (countFault (n + 1))) q | false ↦ actionsAt s kw k m (n + 1) (lower f g) q ]
 
   -- actions without a fault had none before them, and were fewer than eight
   abbrev Before : ℕ → ℕ → Type 0
@@ -46,7 +43,7 @@ module _ (s : List ℕ) (kw k : ℕ) where
 
   after-clear : (m n f g q : ℕ) → (Clear (actionsAt s kw k m (n + 1) (lower f g) q) → Before (n + 1) (lower f g)) → Clear (afterAction m n f g q) → Before n (lower f g)
   after-clear m n f g q rest =
-      either (λ z. Clear z → Before n (lower f g)) (eqb (token q) END)
+      either (λ z. Clear z → Before n (lower f g)) (eqb (token s q) END)
       (λ e c. let z = lower-zero (lower f g) (countFault (n + 1)) c in (z .0, few-before n (z .1)))
       (λ e c. let z = rest c in (z .0, omega (arith, z .1)))
 

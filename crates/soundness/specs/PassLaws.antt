@@ -6,12 +6,12 @@ use Prim.Native.Nat.{ℕ, zero, suc, _+_, _≤_, _<_}
 use native.Mathlib.Decide.{ℕ-discrete, decLt}
 use native.Mathlib.Omega.{arith}
 use lib.Dec.{eqb, leb}
-use lib.ListN.{length, getD, List·getD-eq-default}
+use lib.ListN.{length, List·getD-eq-default}
 use borrow.Author.Tests.{eqb-true, leb-true, ne-eqb}
 use Rattle.values.specs.Choice.{either, ifNot, both}
 use Rattle.values.specs.Numbers.{clash}
 use Rattle.tokens.specs.Token.{END, EQUALS, OPEN, CLOSE, LEFT, RIGHT, TRUE, FALSE, MINUS, NOT, FIFO1, FIFO4, M, NUMBER, X, W, IN, IM, POS, MOV, LOCK, UNLOCK, SETAL, between, isNumber, isVariable, hasAxis, isAxis, isDrive, isCall, isFifo, isFactor, isTerm, isCompare, isLogic, isWhole, load, whole, setSize}
-use Rattle.tokens.specs.Reading.{Answer, good, stop, Read, read, ends, then, upTo, Meaning, isRow, isIndex, isIndexed, indexAt, joined, more, readProduct, readSum, readRest, readExpression, readClose, readVariable, readTruth, operandFrom, readOperand, sumAt, expressionAt}
+use Rattle.tokens.specs.Reading.{token, Answer, good, stop, Read, read, ends, then, upTo, Meaning, isRow, isIndex, isIndexed, indexAt, joined, more, readProduct, readSum, readRest, readExpression, readClose, readVariable, readTruth, operandFrom, readOperand, sumAt, expressionAt}
 use Rattle.code.specs.Fault.{Sight, sight, faultFor, isRemoval, assignedAt, assignmentAt, commandAt, actionAt}
 use Rattle.set.specs.Set.{isKnown, isLock, namesKnown}
 
@@ -32,23 +32,20 @@ pub number-some : (t : ℕ) → isNumber t ≡ true → NoEnd t
 number-some t h e = let a = leb-true NUMBER t h in omega arith
 
 module _ (s : List ℕ) where
-  abbrev token : ℕ → ℕ
-  token p = getD s p 0
-
   -- from p up to q no line ends
   pub record Passed (p q : ℕ) : Type 0 where
     pub on : p ≤ q
-    pub some : (i : ℕ) → p ≤ i → i < q → NoEnd (token i)
+    pub some : (i : ℕ) → p ≤ i → i < q → NoEnd (token s i)
 
   -- nothing is passed at once
   pub passed-none : (p : ℕ) → Passed p p
   passed-none p = record { on = omega arith; some = λ i l m. absurd (omega arith) }
 
   -- one place further
-  pub passed-next : (p q r : ℕ) → Passed p q → r ≡ q + 1 → NoEnd (token q) → Passed p r
+  pub passed-next : (p q r : ℕ) → Passed p q → r ≡ q + 1 → NoEnd (token s q) → Passed p r
   passed-next p q r h e n = record { on = omega (arith, h .on); some = λ i l m. by-place i l m (ℕ-discrete i q) }
     where
-      by-place : (i : ℕ) → p ≤ i → i < r → Dec (i ≡ q) → NoEnd (token i)
+      by-place : (i : ℕ) → p ≤ i → i < r → Dec (i ≡ q) → NoEnd (token s i)
       by-place i l m (yes z) = rw z n
       by-place i l m (no z) = h .some i l (omega (arith, z))
 
@@ -56,11 +53,11 @@ module _ (s : List ℕ) where
   pub passed-on : (p q r : ℕ) → Passed p q → Passed q r → Passed p r
   passed-on p q r h k = record { on = omega (arith, h .on, k .on); some = λ i l m. by-place i l m (decLt i q) }
     where
-      by-place : (i : ℕ) → p ≤ i → i < r → Dec (i < q) → NoEnd (token i)
+      by-place : (i : ℕ) → p ≤ i → i < r → Dec (i < q) → NoEnd (token s i)
       by-place i l m (yes z) = h .some i l z
       by-place i l m (no z) = k .some i (omega (arith, z)) m
 
-  passed-one : (p : ℕ) → NoEnd (token p) → Passed p (p + 1)
+  passed-one : (p : ℕ) → NoEnd (token s p) → Passed p (p + 1)
   passed-one p n = passed-next p p (p + 1) (passed-none p) refl n
 
   -- what is read from p on ends behind p, in the same line
@@ -81,18 +78,18 @@ module _ (s : List ℕ) where
   past-up p q (stop c) h = tt
 
   -- [axis] or [number] behind the word at p
-  indexed-past : (w p : ℕ) → NoEnd (token p) → isIndexed s w p ≡ true → Passed p (p + 4)
+  indexed-past : (w p : ℕ) → NoEnd (token s p) → isIndexed s w p ≡ true → Passed p (p + 4)
   unfolding isIndexed isIndex
   indexed-past w p n h =
-      let a = both (eqb (token (p + 1)) LEFT) _ h .0 in
-      let h1 = both (eqb (token (p + 1)) LEFT) _ h .1 in
-      let b = both (eqb (token (p + 3)) RIGHT) _ h1 .0 in
-      let c = both (eqb (token (p + 3)) RIGHT) _ h1 .1 in
+      let a = both (eqb (token s (p + 1)) LEFT) _ h .0 in
+      let h1 = both (eqb (token s (p + 1)) LEFT) _ h .1 in
+      let b = both (eqb (token s (p + 3)) RIGHT) _ h1 .0 in
+      let c = both (eqb (token s (p + 3)) RIGHT) _ h1 .1 in
       passed-next p (p + 3) (p + 4)
       (passed-next p (p + 2) (p + 3)
-      (passed-next p (p + 1) (p + 2) (passed-one p n) (omega arith) (equal-some (token (p + 1)) LEFT (omega arith) a))
-      (omega arith) (by-kind (hasAxis w) (token (p + 2)) c))
-      (omega arith) (equal-some (token (p + 3)) RIGHT (omega arith) b)
+      (passed-next p (p + 1) (p + 2) (passed-one p n) (omega arith) (equal-some (token s (p + 1)) LEFT (omega arith) a))
+      (omega arith) (by-kind (hasAxis w) (token s (p + 2)) c))
+      (omega arith) (equal-some (token s (p + 3)) RIGHT (omega arith) b)
     where
       by-kind : (b : Bool) (t : ℕ) → cond b (isAxis t) (isWhole t) ≡ true → NoEnd t
       by-kind true t h = between-some X W t (omega arith) h
@@ -103,7 +100,7 @@ module _ (s : List ℕ) where
     abbrev Passes : (ℕ → Read A) → Type 0
     Passes f = (p : ℕ) → Past p (f p)
 
-    joined-past : (f : ℕ → Read A) → Passes f → (o : ℕ) (a : A) (p : ℕ) → NoEnd (token p) → Past p (joined s 𝓜 f o a p)
+    joined-past : (f : ℕ → Read A) → Passes f → (o : ℕ) (a : A) (p : ℕ) → NoEnd (token s p) → Past p (joined s 𝓜 f o a p)
     unfolding joined
     joined-past f h o a p n = past-then p (f (p + 1)) _ (past-from p (p + 1) (f (p + 1)) (passed-one p n) (h (p + 1))) (λ b q. past-up q q (𝓜 .join o a b) (passed-none q))
 
@@ -111,8 +108,8 @@ module _ (s : List ℕ) where
     unfolding more
     more-past isOp ops f h zero a p = passed-none p
     more-past isOp ops f h (suc k) a p =
-        either (Past p) (isOp (token p))
-        (λ e. past-then p (joined s 𝓜 f (token p) a p) _ (joined-past f h (token p) a p (ops (token p) e)) (λ b q. more-past isOp ops f h k b q))
+        either (Past p) (isOp (token s p))
+        (λ e. past-then p (joined s 𝓜 f (token s p) a p) _ (joined-past f h (token s p) a p (ops (token s p) e)) (λ b q. more-past isOp ops f h k b q))
         (λ e. passed-none p)
 
     product-past : (f : ℕ → Read A) → Passes f → (k : ℕ) → Passes (readProduct s 𝓜 f k)
@@ -127,9 +124,9 @@ module _ (s : List ℕ) where
     rest-past : (f : ℕ → Read A) → Passes f → (k : ℕ) (a : A) (p : ℕ) → Past p (readRest s 𝓜 f k a p)
     unfolding readRest
     rest-past f h k a p =
-        either (Past p) (isCompare (token p))
-        (λ e. joined-past (readSum s 𝓜 f k) (sum-past f h k) (token p) a p (between-some 2 7 (token p) (omega arith) e))
-        (λ e. more-past (isRow (token p)) (λ t r. between-some 26 28 t (omega arith) (both (isLogic t) _ r .0)) (readSum s 𝓜 f k) (sum-past f h k) k a p)
+        either (Past p) (isCompare (token s p))
+        (λ e. joined-past (readSum s 𝓜 f k) (sum-past f h k) (token s p) a p (between-some 2 7 (token s p) (omega arith) e))
+        (λ e. more-past (isRow (token s p)) (λ t r. between-some 26 28 t (omega arith) (both (isLogic t) _ r .0)) (readSum s 𝓜 f k) (sum-past f h k) k a p)
 
     expression-past : (f : ℕ → Read A) → Passes f → (k : ℕ) → Passes (readExpression s 𝓜 f k)
     unfolding readExpression
@@ -137,34 +134,34 @@ module _ (s : List ℕ) where
 
     close-past : (a : A) (p : ℕ) → Past p (readClose s 𝓜 a p)
     unfolding readClose
-    close-past a p = either (Past p) (eqb (token p) CLOSE) (λ e. passed-one p (equal-some (token p) CLOSE (omega arith) e)) (λ e. tt)
+    close-past a p = either (Past p) (eqb (token s p) CLOSE) (λ e. passed-one p (equal-some (token s p) CLOSE (omega arith) e)) (λ e. tt)
 
-    variable-past : (p : ℕ) → NoEnd (token p) → Past p (readVariable s 𝓜 (token p) p)
+    variable-past : (p : ℕ) → NoEnd (token s p) → Past p (readVariable s 𝓜 (token s p) p)
     unfolding readVariable
     variable-past p n =
-        either (Past p) (isIndexed s (token p) p) (λ e. past-up p (p + 4) (𝓜 .variable (token p) (indexAt s (token p) p)) (indexed-past (token p) p n e)) (λ e. tt)
+        either (Past p) (isIndexed s (token s p) p) (λ e. past-up p (p + 4) (𝓜 .variable (token s p) (indexAt s (token s p) p)) (indexed-past (token s p) p n e)) (λ e. tt)
 
-    truth-past : (p : ℕ) → Past p (readTruth s 𝓜 (token p) p)
+    truth-past : (p : ℕ) → Past p (readTruth s 𝓜 (token s p) p)
     unfolding readTruth
     truth-past p =
-        either (Past p) (eqb (token p) TRUE) (λ e. passed-one p (equal-some (token p) TRUE (omega arith) e)) λ e.
-        either (Past p) (eqb (token p) FALSE) (λ e. passed-one p (equal-some (token p) FALSE (omega arith) e)) (λ e. tt)
+        either (Past p) (eqb (token s p) TRUE) (λ e. passed-one p (equal-some (token s p) TRUE (omega arith) e)) λ e.
+        either (Past p) (eqb (token s p) FALSE) (λ e. passed-one p (equal-some (token s p) FALSE (omega arith) e)) (λ e. tt)
 
     -- behind a token that does not end the line
-    second-past : (x : ℕ → Read A) → Passes x → (p : ℕ) → NoEnd (token p) → Past p (x (p + 1))
+    second-past : (x : ℕ → Read A) → Passes x → (p : ℕ) → NoEnd (token s p) → Past p (x (p + 1))
     second-past x h p n = past-from p (p + 1) (x (p + 1)) (passed-one p n) (h (p + 1))
 
-    operand-from-past : (f : ℕ → Read A) → Passes f → (k p : ℕ) → Past p (operandFrom s 𝓜 f k p (token p))
+    operand-from-past : (f : ℕ → Read A) → Passes f → (k p : ℕ) → Past p (operandFrom s 𝓜 f k p (token s p))
     unfolding operandFrom
     operand-from-past f h k p =
-        either (Past p) (isNumber (token p)) (λ e. past-up p (p + 1) (𝓜 .number (load (token p))) (passed-one p (number-some (token p) e))) λ e.
-        either (Past p) (isVariable (token p)) (λ e. variable-past p (between-some IN IM (token p) (omega arith) e)) λ e.
-        either (Past p) (eqb (token p) OPEN)
-        (λ e. past-then p (readExpression s 𝓜 f k (p + 1)) _ (second-past (readExpression s 𝓜 f k) (expression-past f h k) p (equal-some (token p) OPEN (omega arith) e)) close-past) λ e.
-        either (Past p) (eqb (token p) MINUS)
-        (λ e. past-then p (f (p + 1)) _ (second-past f h p (equal-some (token p) MINUS (omega arith) e)) (λ a q. past-up q q (𝓜 .minus a) (passed-none q))) λ e.
-        either (Past p) (eqb (token p) NOT)
-        (λ e. past-then p (f (p + 1)) _ (second-past f h p (equal-some (token p) NOT (omega arith) e)) (λ a q. passed-none q)) λ e.
+        either (Past p) (isNumber (token s p)) (λ e. past-up p (p + 1) (𝓜 .number (load (token s p))) (passed-one p (number-some (token s p) e))) λ e.
+        either (Past p) (isVariable (token s p)) (λ e. variable-past p (between-some IN IM (token s p) (omega arith) e)) λ e.
+        either (Past p) (eqb (token s p) OPEN)
+        (λ e. past-then p (readExpression s 𝓜 f k (p + 1)) _ (second-past (readExpression s 𝓜 f k) (expression-past f h k) p (equal-some (token s p) OPEN (omega arith) e)) close-past) λ e.
+        either (Past p) (eqb (token s p) MINUS)
+        (λ e. past-then p (f (p + 1)) _ (second-past f h p (equal-some (token s p) MINUS (omega arith) e)) (λ a q. past-up q q (𝓜 .minus a) (passed-none q))) λ e.
+        either (Past p) (eqb (token s p) NOT)
+        (λ e. past-then p (f (p + 1)) _ (second-past f h p (equal-some (token s p) NOT (omega arith) e)) (λ a q. passed-none q)) λ e.
         truth-past p
 
     operand-past : (k : ℕ) → Passes (readOperand s 𝓜 k)
@@ -193,50 +190,50 @@ module _ (s : List ℕ) where
   unfolding assignedAt isRemoval
   assigned-past k p =
       ifNot (Past p) (isRemoval s p) (λ e. fault-past p false (sumAt s sight k p) (sumAt-past sight k p)) λ e.
-      let n = between-some FIFO1 FIFO4 (token p) (omega arith) (both (isFifo (token p)) _ e .0) in
-      indexed-past (token p) p n (both (isIndexed s (token p) p) _ (both (isFifo (token p)) _ e .1) .0)
+      let n = between-some FIFO1 FIFO4 (token s p) (omega arith) (both (isFifo (token s p)) _ e .0) in
+      indexed-past (token s p) p n (both (isIndexed s (token s p) p) _ (both (isFifo (token s p)) _ e .1) .0)
 
-  assignment-past : (k p : ℕ) → isIndexed s (token p) p ≡ true → eqb (token (p + 4)) EQUALS ≡ true → Past p (assignmentAt s k (token p) p)
+  assignment-past : (k p : ℕ) → isIndexed s (token s p) p ≡ true → eqb (token s (p + 4)) EQUALS ≡ true → Past p (assignmentAt s k (token s p) p)
   unfolding assignmentAt
   assignment-past k p i q =
-      either (Past p) (isVariable (token p))
-      (λ v. past-then p (assignedAt s k (p + 5)) _ (behind (assignedAt s k (p + 5)) (between-some IN IM (token p) (omega arith) v) (assigned-past k (p + 5))) (λ f r. passed-none r)) λ v.
-      ifNot (Past p) (isDrive (token p)) (λ d. tt) λ d.
-      behind (faultFor false (sumAt s sight k (p + 5))) (between-some POS MOV (token p) (omega arith) d)
+      either (Past p) (isVariable (token s p))
+      (λ v. past-then p (assignedAt s k (p + 5)) _ (behind (assignedAt s k (p + 5)) (between-some IN IM (token s p) (omega arith) v) (assigned-past k (p + 5))) (λ f r. passed-none r)) λ v.
+      ifNot (Past p) (isDrive (token s p)) (λ d. tt) λ d.
+      behind (faultFor false (sumAt s sight k (p + 5))) (between-some POS MOV (token s p) (omega arith) d)
       (fault-past (p + 5) false (sumAt s sight k (p + 5)) (sumAt-past sight k (p + 5)))
     where
-      front : NoEnd (token p) → Passed p (p + 5)
-      front n = passed-next p (p + 4) (p + 5) (indexed-past (token p) p n i) (omega arith) (equal-some (token (p + 4)) EQUALS (omega arith) q)
+      front : NoEnd (token s p) → Passed p (p + 5)
+      front n = passed-next p (p + 4) (p + 5) (indexed-past (token s p) p n i) (omega arith) (equal-some (token s (p + 4)) EQUALS (omega arith) q)
 
-      behind : (y : Read ℕ) → NoEnd (token p) → Past (p + 5) y → Past p y
+      behind : (y : Read ℕ) → NoEnd (token s p) → Past (p + 5) y → Past p y
       behind y n h = past-from p (p + 5) y (front n) h
 
-  command-past : (kw p : ℕ) → Past p (commandAt s kw (token p) p)
+  command-past : (kw p : ℕ) → Past p (commandAt s kw (token s p) p)
   unfolding commandAt
   command-past kw p =
-      ifNot (Past p) (isWhole (token (p + 2))) (λ w. tt) λ w.
-      either (Past p) (eqb (token p) M)
-      (λ m. ifNot (Past p) (eqb (token (p + 1)) EQUALS) (λ q. tt) (λ q. three (equal-some (token p) M (omega arith) m) (equal-some (token (p + 1)) EQUALS (omega arith) q) w)) λ m.
-      ifNot (Past p) (isCall (token p) && (eqb (token (p + 1)) OPEN && eqb (token (p + 3)) CLOSE)) (λ c. tt) λ c.
-      let d = both (isCall (token p)) _ c .1 in
-      let n = between-some SETAL UNLOCK (token p) (omega arith) (both (isCall (token p)) _ c .0) in
-      let o = equal-some (token (p + 1)) OPEN (omega arith) (both (eqb (token (p + 1)) OPEN) _ d .0) in
-      passed-next p (p + 3) (p + 4) (three n o w) (omega arith) (equal-some (token (p + 3)) CLOSE (omega arith) (both (eqb (token (p + 1)) OPEN) _ d .1))
+      ifNot (Past p) (isWhole (token s (p + 2))) (λ w. tt) λ w.
+      either (Past p) (eqb (token s p) M)
+      (λ m. ifNot (Past p) (eqb (token s (p + 1)) EQUALS) (λ q. tt) (λ q. three (equal-some (token s p) M (omega arith) m) (equal-some (token s (p + 1)) EQUALS (omega arith) q) w)) λ m.
+      ifNot (Past p) (isCall (token s p) && (eqb (token s (p + 1)) OPEN && eqb (token s (p + 3)) CLOSE)) (λ c. tt) λ c.
+      let d = both (isCall (token s p)) _ c .1 in
+      let n = between-some SETAL UNLOCK (token s p) (omega arith) (both (isCall (token s p)) _ c .0) in
+      let o = equal-some (token s (p + 1)) OPEN (omega arith) (both (eqb (token s (p + 1)) OPEN) _ d .0) in
+      passed-next p (p + 3) (p + 4) (three n o w) (omega arith) (equal-some (token s (p + 3)) CLOSE (omega arith) (both (eqb (token s (p + 1)) OPEN) _ d .1))
     where
-      three : NoEnd (token p) → NoEnd (token (p + 1)) → isWhole (token (p + 2)) ≡ true → Passed p (p + 3)
-      three a b w = passed-next p (p + 2) (p + 3) (passed-next p (p + 1) (p + 2) (passed-one p a) (omega arith) b) (omega arith) (number-some (token (p + 2)) (both (isNumber (token (p + 2))) _ w .0))
+      three : NoEnd (token s p) → NoEnd (token s (p + 1)) → isWhole (token s (p + 2)) ≡ true → Passed p (p + 3)
+      three a b w = passed-next p (p + 2) (p + 3) (passed-next p (p + 1) (p + 2) (passed-one p a) (omega arith) b) (omega arith) (number-some (token s (p + 2)) (both (isNumber (token s (p + 2))) _ w .0))
 
   -- an action that the check reads
   pub action-past : (kw k p : ℕ) → Past p (actionAt s kw k p)
   unfolding actionAt
   action-past kw k p =
-      ifNot (Past p) (isIndexed s (token p) p) (λ i. command-past kw p) λ i.
-      ifNot (Past p) (eqb (token (p + 4)) EQUALS) (λ q. tt) (λ q. assignment-past k p i q)
+      ifNot (Past p) (isIndexed s (token s p) p) (λ i. command-past kw p) λ i.
+      ifNot (Past p) (eqb (token s (p + 4)) EQUALS) (λ q. tt) (λ q. assignment-past k p i q)
 
   -- ---- the names in a line
 
   -- a LOCK or UNLOCK at q names a line, where the names from p on were found known and no line ends before q
-  names-from : (ns : List ℕ) (left p q : ℕ) → namesKnown s ns left p ≡ true → Passed p q → q < p + left → isLock (token q) ≡ true → isKnown ns (whole (token (q + 2))) ≡ true
+  names-from : (ns : List ℕ) (left p q : ℕ) → namesKnown s ns left p ≡ true → Passed p q → q < p + left → isLock (token s q) ≡ true → isKnown ns (whole (token s (q + 2))) ≡ true
   unfolding namesKnown
   names-from ns zero p q h k l e = absurd (omega (arith, k .on))
   names-from ns (suc left) p q h k l e = by-place (ℕ-discrete q p) (λ g m. names-from ns left (p + 1) q g m (omega arith) e)
@@ -253,18 +250,18 @@ module _ (s : List ℕ) where
       later false true false x z = clash (cc)
       later false false d x z = z
 
-      by-place : Dec (q ≡ p) → (namesKnown s ns left (p + 1) ≡ true → Passed (p + 1) q → isKnown ns (whole (token (q + 2))) ≡ true) → isKnown ns (whole (token (q + 2))) ≡ true
+      by-place : Dec (q ≡ p) → (namesKnown s ns left (p + 1) ≡ true → Passed (p + 1) q → isKnown ns (whole (token s (q + 2))) ≡ true) → isKnown ns (whole (token s (q + 2))) ≡ true
       by-place (yes z) rest =
           let g = rw z at e in
-          rw z (here (eqb (token p) END) (isLock (token p)) (isKnown ns (whole (token (p + 2)))) (ne-eqb (token p) END (between-some LOCK UNLOCK (token p) (omega arith) g)) g h)
+          rw z (here (eqb (token s p) END) (isLock (token s p)) (isKnown ns (whole (token s (p + 2)))) (ne-eqb (token s p) END (between-some LOCK UNLOCK (token s p) (omega arith) g)) g h)
       by-place (no z) rest =
-          rest (later (eqb (token p) END) (isLock (token p)) (isKnown ns (whole (token (p + 2)))) (ne-eqb (token p) END (k .some p (omega arith) (omega (arith, k .on, z)))) h)
+          rest (later (eqb (token s p) END) (isLock (token s p)) (isKnown ns (whole (token s (p + 2)))) (ne-eqb (token s p) END (k .some p (omega arith) (omega (arith, k .on, z)))) h)
           (record { on = omega (arith, k .on, z); some = λ i l m. k .some i (omega arith) m })
 
   -- so in a set of the size that the program has
-  pub names-known : (ns : List ℕ) (p q : ℕ) → length s ≤ setSize → namesKnown s ns setSize p ≡ true → Passed p q → isLock (token q) ≡ true → isKnown ns (whole (token (q + 2))) ≡ true
+  pub names-known : (ns : List ℕ) (p q : ℕ) → length s ≤ setSize → namesKnown s ns setSize p ≡ true → Passed p q → isLock (token s q) ≡ true → isKnown ns (whole (token s (q + 2))) ≡ true
   names-known ns p q l h k e = names-from ns setSize p q h k (by-place (decLt q (length s))) e
     where
       by-place : Dec (q < length s) → q < p + setSize
       by-place (yes m) = omega arith
-      by-place (no m) = absurd (between-some LOCK UNLOCK (token q) (omega arith) e (List·getD-eq-default s 0 {n = q} (omega (arith, m))))
+      by-place (no m) = absurd (between-some LOCK UNLOCK (token s q) (omega arith) e (List·getD-eq-default s 0 {n = q} (omega (arith, m))))

@@ -5,10 +5,9 @@ use mathlib.Core.Bool.{Bool, true, false, not}
 use mathlib.Core.List.{List}
 use Prim.Native.Nat.{ℕ, zero, suc, _+_}
 use lib.Dec.{eqb}
-use lib.ListN.{getD}
 use Rattle.values.specs.Choice.{either, eitherBoth}
 use Rattle.tokens.specs.Token.{TRUE, FALSE, OPEN, CLOSE, MINUS, NOT, isNumber, isVariable, isFactor, isTerm, isCompare, load}
-use Rattle.tokens.specs.Reading.{Answer, good, stop, Read, read, ends, then, upTo, Meaning, isRow, isIndexed, indexAt, joined, more, readProduct, readSum, readRest, readExpression, readClose, readVariable, readTruth, operandFrom, readOperand, sumAt, expressionAt}
+use Rattle.tokens.specs.Reading.{token, Answer, good, stop, Read, read, ends, then, upTo, Meaning, isRow, isIndexed, indexAt, joined, more, readProduct, readSum, readRest, readExpression, readClose, readVariable, readTruth, operandFrom, readOperand, sumAt, expressionAt}
 
 -- ---- two meanings in step
 
@@ -82,9 +81,6 @@ module _ {A B : Type 0} (Ok : A → B → Type 0) (Stops : ℕ → B → Type 0)
   step-up (stop c) (stop k) p h = tt
 
   module _ (s : List ℕ) (𝓜 : Meaning A) (𝓝 : Meaning B) (st : Steps 𝓜 𝓝) where
-    abbrev token : ℕ → ℕ
-    token p = getD s p 0
-
     -- two readers in step at every place
     abbrev Both : (ℕ → Read A) → (ℕ → Read B) → Type 0
     Both f g = (p : ℕ) → InStep (f p) (g p)
@@ -101,18 +97,18 @@ module _ {A B : Type 0} (Ok : A → B → Type 0) (Stops : ℕ → B → Type 0)
     unfolding more
     more-carries isOp g zero b p = λ c x. x
     more-carries isOp g (suc k) b p =
-        either (Carries b) (isOp (token p))
-        (λ e. carries-then b (joined s 𝓝 g (token p) b p) _ (joined-carries g (token p) b p) (λ d q. more-carries isOp g k d q))
+        either (Carries b) (isOp (token s p))
+        (λ e. carries-then b (joined s 𝓝 g (token s p) b p) _ (joined-carries g (token s p) b p) (λ d q. more-carries isOp g k d q))
         (λ e c x. x)
 
     rest-carries : (g : ℕ → Read B) (k : ℕ) (b : B) (p : ℕ) → Carries b (readRest s 𝓝 g k b p)
     unfolding readRest
     rest-carries g k b p =
-        either (Carries b) (isCompare (token p)) (λ e. joined-carries (readSum s 𝓝 g k) (token p) b p) (λ e. more-carries (isRow (token p)) (readSum s 𝓝 g k) k b p)
+        either (Carries b) (isCompare (token s p)) (λ e. joined-carries (readSum s 𝓝 g k) (token s p) b p) (λ e. more-carries (isRow (token s p)) (readSum s 𝓝 g k) k b p)
 
     close-carries : (b : B) (p : ℕ) → Carries b (readClose s 𝓝 b p)
     unfolding readClose
-    close-carries b p = either (Carries b) (eqb (token p) CLOSE) (λ e c x. x) (λ e. tt)
+    close-carries b p = either (Carries b) (eqb (token s p) CLOSE) (λ e c x. x) (λ e. tt)
 
     joined-step : (f : ℕ → Read A) (g : ℕ → Read B) → Both f g → (o : ℕ) (a : A) (b : B) (p : ℕ) → Ok a b → InStep (joined s 𝓜 f o a p) (joined s 𝓝 g o b p)
     unfolding joined
@@ -124,9 +120,9 @@ module _ {A B : Type 0} (Ok : A → B → Type 0) (Stops : ℕ → B → Type 0)
     unfolding more
     more-step isOp f g h zero a b p o = (o, refl)
     more-step isOp f g h (suc k) a b p o =
-        let first = joined-step f g h (token p) a b p o in
-        eitherBoth InStep (isOp (token p))
-        (λ e. step-then (joined s 𝓜 f (token p) a p) (joined s 𝓝 g (token p) b p) _ _ first (more-carries isOp g k) (more-step isOp f g h k))
+        let first = joined-step f g h (token s p) a b p o in
+        eitherBoth InStep (isOp (token s p))
+        (λ e. step-then (joined s 𝓜 f (token s p) a p) (joined s 𝓝 g (token s p) b p) _ _ first (more-carries isOp g k) (more-step isOp f g h k))
         (λ e. (o, refl))
 
     product-step : (f : ℕ → Read A) (g : ℕ → Read B) → Both f g → (k : ℕ) → Both (readProduct s 𝓜 f k) (readProduct s 𝓝 g k)
@@ -142,9 +138,9 @@ module _ {A B : Type 0} (Ok : A → B → Type 0) (Stops : ℕ → B → Type 0)
     rest-step : (f : ℕ → Read A) (g : ℕ → Read B) → Both f g → (k : ℕ) (a : A) (b : B) (p : ℕ) → Ok a b → InStep (readRest s 𝓜 f k a p) (readRest s 𝓝 g k b p)
     unfolding readRest
     rest-step f g h k a b p o =
-        eitherBoth InStep (isCompare (token p))
-        (λ e. joined-step (readSum s 𝓜 f k) (readSum s 𝓝 g k) (sum-step f g h k) (token p) a b p o)
-        (λ e. more-step (isRow (token p)) (readSum s 𝓜 f k) (readSum s 𝓝 g k) (sum-step f g h k) k a b p o)
+        eitherBoth InStep (isCompare (token s p))
+        (λ e. joined-step (readSum s 𝓜 f k) (readSum s 𝓝 g k) (sum-step f g h k) (token s p) a b p o)
+        (λ e. more-step (isRow (token s p)) (readSum s 𝓜 f k) (readSum s 𝓝 g k) (sum-step f g h k) k a b p o)
 
     expression-step : (f : ℕ → Read A) (g : ℕ → Read B) → Both f g → (k : ℕ) → Both (readExpression s 𝓜 f k) (readExpression s 𝓝 g k)
     unfolding readExpression
@@ -152,7 +148,7 @@ module _ {A B : Type 0} (Ok : A → B → Type 0) (Stops : ℕ → B → Type 0)
 
     close-step : (a : A) (b : B) (p : ℕ) → Ok a b → InStep (readClose s 𝓜 a p) (readClose s 𝓝 b p)
     unfolding readClose
-    close-step a b p o = eitherBoth InStep (eqb (token p) CLOSE) (λ e. (o, refl)) (λ e. tt)
+    close-step a b p o = eitherBoth InStep (eqb (token s p) CLOSE) (λ e. (o, refl)) (λ e. tt)
 
     variable-step : (w p : ℕ) → InStep (readVariable s 𝓜 w p) (readVariable s 𝓝 w p)
     unfolding readVariable
@@ -185,7 +181,7 @@ module _ {A B : Type 0} (Ok : A → B → Type 0) (Stops : ℕ → B → Type 0)
     operand-step : (k : ℕ) → Both (readOperand s 𝓜 k) (readOperand s 𝓝 k)
     unfolding readOperand
     operand-step zero p = tt
-    operand-step (suc k) p = operand-from-step (readOperand s 𝓜 k) (readOperand s 𝓝 k) (operand-step k) k p (token p)
+    operand-step (suc k) p = operand-from-step (readOperand s 𝓜 k) (readOperand s 𝓝 k) (operand-step k) k p (token s p)
 
     -- so right sides are read in step
     pub sum-in-step : (k p : ℕ) → InStep (sumAt s 𝓜 k p) (sumAt s 𝓝 k p)

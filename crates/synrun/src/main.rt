@@ -84,13 +84,13 @@ fn main() {
     let mut set = empty_set();
     let mut s = begin();
     let mut more = true;
-    // A proved loop has to end, and nothing says that an input does: the turns count down from a number that no run uses up.
-    let mut turns = u64::MAX;
+    // A proved loop has to end, and nothing says that an input does: the rounds count down from a number that no run uses up.
+    let mut rounds = u64::MAX;
     while more {
-        if turns == 0 {
+        if rounds == 0 {
             return;
         }
-        turns -= 1;
+        rounds -= 1;
         let x = read_some(s, &mut text, &mut set);
         if x.failed {
             return;

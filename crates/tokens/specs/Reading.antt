@@ -1,5 +1,5 @@
 -- The reading of tokens by recursive descent, over any meaning of expressions: a meaning and the place after it, or the code that ends the reading.
--- `k` is the count of tokens left; it falls at each bracket and sign. Definitions only; that reading and writing agree is shown in the crate grammar.
+-- `k` bounds the tokens left: it begins as the places of a set and falls at each bracket, minus and NOT. Definitions only; that reading and writing agree is shown in the crate grammar.
 use mathlib.Core.Bool.{Bool, true, false, cond, _&&_}
 use mathlib.Core.List.{List}
 use Prim.Native.Nat.{ℕ, zero, suc, _+_}
@@ -131,7 +131,23 @@ module _ (s : List ℕ) where
     readOperand zero p = ends (𝓜 .wrong)
     readOperand (suc k) p = operandFrom (readOperand k) k p (token p)
 
-    -- a right side, and an expression, with k tokens left
+    -- behind an operand, a product or a sum: as many factors, terms or members of a row as follow, and what else may follow a sum
+    abbrev pub factorsBehind : ℕ → A → ℕ → Read A
+    factorsBehind k = more isFactor (readOperand k) k
+
+    abbrev pub termsBehind : ℕ → A → ℕ → Read A
+    termsBehind k = more isTerm (readProduct (readOperand k) k) k
+
+    abbrev pub rowBehind : ℕ → ℕ → A → ℕ → Read A
+    rowBehind first k = more (isRow first) (readSum (readOperand k) k) k
+
+    abbrev pub restBehind : ℕ → A → ℕ → Read A
+    restBehind k = readRest (readOperand k) k
+
+    -- a product, a right side, and an expression, with at most k tokens left
+    abbrev pub productAt : ℕ → ℕ → Read A
+    productAt k p = readProduct (readOperand k) k p
+
     unfoldable pub sumAt : ℕ → ℕ → Read A
     sumAt k p = readSum (readOperand k) k p
 

@@ -21,6 +21,10 @@ textSize = 4096
 abbrev pub setSize : ℕ
 setSize = 1 + maxLines + (textSize + 1)
 
+-- more than the places of a set: what places are counted by where one number holds a place and more
+abbrev pub room : ℕ
+room = 8192
+
 -- ---- the table: signs, words, variables, actions, axes
 
 abbrev pub END : ℕ

@@ -59,13 +59,14 @@ pub fn wanting(wanted: bool, truth: bool) -> u8
     if wanted == truth { 0 } else { CONFUSED }
 }
 
-// The load of a number's token: twice its thousandths, and one more for a written point.
+// 7 for a number above 1,000,000; t is the load of its token, twice its thousandths and one more for a written point.
 pub fn number_fault(t: u32) -> u8
     ensures { λ x. ⌜ x ≡ numberFault t ⌝ }
 {
     if t <= HIGHEST { 0 } else { OUTSIDE }
 }
 
+// 7 for an index outside, 8 for FIFO [0].
 pub fn read_fault(w: u32, i: u32) -> u8
     ensures { λ x. ⌜ x ≡ readFault w i ⌝ }
 {
@@ -96,6 +97,7 @@ fn is_writable(w: u32, i: u32) -> bool
     w <= TIMER
 }
 
+// 7 for an index outside, 8 for a place that text may not write.
 pub fn write_fault(w: u32, i: u32) -> u8
     ensures { λ x. ⌜ x ≡ writeFault w i ⌝ }
 {
@@ -105,6 +107,7 @@ pub fn write_fault(w: u32, i: u32) -> u8
     if is_writable(w, i) { 0 } else { READ_ONLY }
 }
 
+// M: 7 above 99, 9 without WHEN or EVERY.
 pub fn code_fault(keyword: u32, n: u32) -> u8
     ensures { λ x. ⌜ x ≡ codeFault keyword n ⌝ }
 {
@@ -118,6 +121,7 @@ pub fn code_fault(keyword: u32, n: u32) -> u8
     }
 }
 
+// SETAL 65000 to 69999, LOCK and UNLOCK a line's number; else 7.
 pub fn call_fault(w: u32, n: u32) -> u8
     ensures { λ x. ⌜ x ≡ callFault w n ⌝ }
 {

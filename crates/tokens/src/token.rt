@@ -2,7 +2,7 @@
 ghost use mathlib.Core.Path.{_≡_};
 ghost use Prim.Native.Nat.{_<_};
 ghost use lib.ListN.{length, getD};
-ghost use Rattle.tokens.specs.Token.{between, isNumber, isVariable, isFifo, isAxis, isDrive, isCall, isKeyword, isId, isBracket, isFactor, isTerm, isCompare, isLogic, isWhole, whole};
+ghost use Rattle.tokens.specs.Token.{between, isVariable, isFifo, isAxis, isDrive, isCall, isKeyword, isId, isBracket, isFactor, isTerm, isCompare, isLogic, isWhole, whole};
 ghost use Rattle.tokens.specs.Reading.{isRow, isIndex, indexOf, isIndexed, indexAt};
 
 // The lines that a set may have, the actions of each, and the bytes of its text.
@@ -13,6 +13,8 @@ pub const ACTIONS: usize = 8;
 pub const TEXT_SIZE: usize = 4096;
 // The places of a set: how many lines, where each starts, and the tokens of a text with an end to each line.
 pub const SIZE: usize = 1 + LINES + TEXT_SIZE + 1;
+// More than the places of a set: what places are counted by where one number holds a place and more.
+pub const ROOM: u64 = 8192;
 
 pub const END: u32 = 0;
 
@@ -126,12 +128,6 @@ fn is_between(low: u32, high: u32, t: u32) -> bool
         return false;
     }
     t <= high
-}
-
-pub fn is_number(t: u32) -> bool
-    ensures { λ r. ⌜ r ≡ isNumber t ⌝ }
-{
-    NUMBER <= t
 }
 
 pub fn is_variable(t: u32) -> bool

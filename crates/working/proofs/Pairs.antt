@@ -47,11 +47,11 @@ module _ (w : ℕ) {i : ℕ} (e : i ≡ nextOf w) where
 
     -- what it says goes into a step
     pub enters : (f : ℤ → ℕ → Read ℤ) {x : Read ℤ} → (i ≡ 0 → ⊥) → x ≡ f v i → x ≡ then (said w) f
-    enters f h k = k ∙ ap (λ (r : Read ℤ). then r f) (sym (said-value h))
+    enters f h k = answers.enters f (said-value h) k
 
   -- an alarm passes through a step
   pub passes : (f : ℤ → ℕ → Read ℤ) → i ≡ 0 → said w ≡ then (said w) f
-  passes f h = answers.passes answers.same answers.same (said w) f refl (said-stop h)
+  passes f h = answers.passes f (said-stop h)
 
 -- what was paired is said again
 pub pair-said : {v : ℤ} (p : ℕ) → SFits w32 v → 0 < p → p < 8192 → said (pairOf v p) ≡ read v p

@@ -4,22 +4,23 @@ use Prim.Native.Nat.{ℕ, _+_, _*_, _/_, _%_}
 use lib.Dec.{eqb}
 use lib.IntN.{ℤ}
 use Rattle.buffers.specs.Order.{twosComplement, signed}
+use Rattle.tokens.specs.Token.{room}
 use Rattle.tokens.specs.Reading.{Read, read, ends}
 
 unfoldable pub pairOf : ℤ → ℕ → ℕ
-pairOf v p = twosComplement v * 8192 + p % 8192
+pairOf v p = twosComplement v * room + p % room
 
 abbrev pub alarmOf : ℕ → ℕ
-alarmOf k = k * 8192
+alarmOf k = k * room
 
 abbrev pub nextOf : ℕ → ℕ
-nextOf w = w % 8192
+nextOf w = w % room
 
 unfoldable pub valueOf : ℕ → ℤ
-valueOf w = signed (w / 8192 % 4294967296)
+valueOf w = signed (w / room % 4294967296)
 
 abbrev pub alarmIn : ℕ → ℕ
-alarmIn w = w / 8192 % 256
+alarmIn w = w / room % 256
 
 -- what a pair says
 unfoldable pub said : ℕ → Read ℤ

@@ -1,4 +1,4 @@
-// What truths and comparisons make of two values. Yes is 1 and no is 0.
+// What comparisons and AND, OR, XOR make of two values. Yes is 1 and no is 0.
 ghost use mathlib.Core.Path.{_≡_};
 ghost use Rattle.working.specs.Working.{yesNo, isYes, joinTruths, joinLogic};
 use tokens::token::AND;

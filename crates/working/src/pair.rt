@@ -4,9 +4,7 @@
 ghost use mathlib.Core.Path.{_≡_};
 ghost use Rattle.working.specs.Pair.{pairOf, alarmOf, valueOf, nextOf, alarmIn};
 use buffers::order::twos_complement;
-
-// What a pair counts places by: more than a set has.
-const ROOM: u64 = 8192;
+use tokens::token::ROOM;
 
 pub fn pair_of(v: i32, next: usize) -> u64
     ensures { λ x. ⌜ x ≡ pairOf v next ⌝ }

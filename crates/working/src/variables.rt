@@ -40,6 +40,7 @@ pub const PARAM_CELLS: usize = 78;
 
 pub const TIMER_CELLS: usize = 110;
 
+// The counts of the four FIFOs.
 pub const COUNT_CELLS: usize = 118;
 // Where the first FIFO's run of R starts.
 pub const RUNS: usize = 100;

@@ -1,11 +1,11 @@
 // The working of a condition and of a right side: the value walk. All operands are worked, left first; the first alarm ends it.
 //
-// The walk goes by recursive descent over the tokens; `left` is the count of tokens left. What each step reads it hands on as a pair.
+// The walk goes by recursive descent over the tokens; `left` bounds the tokens left: it begins as the places of a set and falls at each bracket, minus and NOT. What each step reads it hands on as a pair.
 ghost use mathlib.Core.Path.{_≡_};
 ghost use mathlib.Core.Bool.{true};
 ghost use Prim.Native.Nat.{_<_};
-ghost use Rattle.tokens.specs.Token.{isFactor, isTerm, isCompare, isLogic, setSize};
-ghost use Rattle.tokens.specs.Reading.{upTo, then, isRow, more, readOperand, readProduct, readSum, readExpression, readClose, readVariable, readTruth};
+ghost use Rattle.tokens.specs.Token.{room, isFactor, isTerm, isCompare, isLogic, setSize};
+ghost use Rattle.tokens.specs.Reading.{upTo, then, readOperand, readClose, readVariable, readTruth, factorsBehind, termsBehind, rowBehind, productAt, sumAt, expressionAt};
 ghost use Rattle.working.specs.Pair.{said};
 ghost use Rattle.working.specs.Working.{fromWorked, joinValues, valueOver, told, negated, inverted, conditionValue, rightValue};
 use crate::join::is_yes;
@@ -53,7 +53,7 @@ pub struct Got {
 // ---- what one step gives
 
 fn worked_pair(w: Worked, next: usize) -> u64
-    requires { ⌜ (0 < next) × (next < 8192) ⌝ }
+    requires { ⌜ (0 < next) × (next < room) ⌝ }
     ensures { λ x. ⌜ said x ≡ upTo (fromWorked w) next ⌝ }
 {
     match w {
@@ -203,11 +203,11 @@ fn operand(code: &[u32; SIZE], r: &[i32; RS], cells: &[i32; CELLS], at: usize, l
 
 // What was read, and as many factors as follow. The loops stand apart from the levels, so that a level that joins nothing is merged into the one above it.
 fn factors(code: &[u32; SIZE], r: &[i32; RS], cells: &[i32; CELLS], w: u64, left: usize) -> u64
-    ensures { λ x. ⌜ said x ≡ then (said w) (more (now (code .entry)) (valueOver (now (r .entry)) (now (cells .entry))) isFactor (readOperand (now (code .entry)) (valueOver (now (r .entry)) (now (cells .entry))) left) left) ⌝ }
+    ensures { λ x. ⌜ said x ≡ then (said w) (factorsBehind (now (code .entry)) (valueOver (now (r .entry)) (now (cells .entry))) left) ⌝ }
 {
     let mut a = w;
-    let mut turns = left;
-    while 0 < turns {
+    let mut rounds = left;
+    while 0 < rounds {
         let i = next_of(a);
         if i == 0 {
             return a;
@@ -217,13 +217,13 @@ fn factors(code: &[u32; SIZE], r: &[i32; RS], cells: &[i32; CELLS], w: u64, left
             return a;
         }
         a = join_factor(t, value_of(a), operand(code, r, cells, i + 1, left));
-        turns -= 1;
+        rounds -= 1;
     }
     a
 }
 
 fn product(code: &[u32; SIZE], r: &[i32; RS], cells: &[i32; CELLS], at: usize, left: usize) -> u64
-    ensures { λ x. ⌜ said x ≡ readProduct (now (code .entry)) (valueOver (now (r .entry)) (now (cells .entry))) (readOperand (now (code .entry)) (valueOver (now (r .entry)) (now (cells .entry))) left) left at ⌝ }
+    ensures { λ x. ⌜ said x ≡ productAt (now (code .entry)) (valueOver (now (r .entry)) (now (cells .entry))) left at ⌝ }
 {
     let a = operand(code, r, cells, at, left);
     let i = next_of(a);
@@ -237,11 +237,11 @@ fn product(code: &[u32; SIZE], r: &[i32; RS], cells: &[i32; CELLS], at: usize, l
 }
 
 fn terms(code: &[u32; SIZE], r: &[i32; RS], cells: &[i32; CELLS], w: u64, left: usize) -> u64
-    ensures { λ x. ⌜ said x ≡ then (said w) (more (now (code .entry)) (valueOver (now (r .entry)) (now (cells .entry))) isTerm (readProduct (now (code .entry)) (valueOver (now (r .entry)) (now (cells .entry))) (readOperand (now (code .entry)) (valueOver (now (r .entry)) (now (cells .entry))) left) left) left) ⌝ }
+    ensures { λ x. ⌜ said x ≡ then (said w) (termsBehind (now (code .entry)) (valueOver (now (r .entry)) (now (cells .entry))) left) ⌝ }
 {
     let mut a = w;
-    let mut turns = left;
-    while 0 < turns {
+    let mut rounds = left;
+    while 0 < rounds {
         let i = next_of(a);
         if i == 0 {
             return a;
@@ -251,13 +251,13 @@ fn terms(code: &[u32; SIZE], r: &[i32; RS], cells: &[i32; CELLS], w: u64, left: 
             return a;
         }
         a = join_term(t, value_of(a), product(code, r, cells, i + 1, left));
-        turns -= 1;
+        rounds -= 1;
     }
     a
 }
 
 fn sum(code: &[u32; SIZE], r: &[i32; RS], cells: &[i32; CELLS], at: usize, left: usize) -> u64
-    ensures { λ x. ⌜ said x ≡ readSum (now (code .entry)) (valueOver (now (r .entry)) (now (cells .entry))) (readOperand (now (code .entry)) (valueOver (now (r .entry)) (now (cells .entry))) left) left at ⌝ }
+    ensures { λ x. ⌜ said x ≡ sumAt (now (code .entry)) (valueOver (now (r .entry)) (now (cells .entry))) left at ⌝ }
 {
     let a = product(code, r, cells, at, left);
     let i = next_of(a);
@@ -279,11 +279,11 @@ fn row(
     w: u64,
     left: usize,
 ) -> u64
-    ensures { λ x. ⌜ said x ≡ then (said w) (more (now (code .entry)) (valueOver (now (r .entry)) (now (cells .entry))) (isRow first) (readSum (now (code .entry)) (valueOver (now (r .entry)) (now (cells .entry))) (readOperand (now (code .entry)) (valueOver (now (r .entry)) (now (cells .entry))) left) left) left) ⌝ }
+    ensures { λ x. ⌜ said x ≡ then (said w) (rowBehind (now (code .entry)) (valueOver (now (r .entry)) (now (cells .entry))) first left) ⌝ }
 {
     let mut a = w;
-    let mut turns = left;
-    while 0 < turns {
+    let mut rounds = left;
+    while 0 < rounds {
         let i = next_of(a);
         if i == 0 {
             return a;
@@ -293,7 +293,7 @@ fn row(
             return a;
         }
         a = join_row(t, value_of(a), sum(code, r, cells, i + 1, left));
-        turns -= 1;
+        rounds -= 1;
     }
     a
 }
@@ -305,7 +305,7 @@ fn expression(
     at: usize,
     left: usize,
 ) -> u64
-    ensures { λ x. ⌜ said x ≡ readExpression (now (code .entry)) (valueOver (now (r .entry)) (now (cells .entry))) (readOperand (now (code .entry)) (valueOver (now (r .entry)) (now (cells .entry))) left) left at ⌝ }
+    ensures { λ x. ⌜ said x ≡ expressionAt (now (code .entry)) (valueOver (now (r .entry)) (now (cells .entry))) left at ⌝ }
 {
     let a = sum(code, r, cells, at, left);
     let i = next_of(a);

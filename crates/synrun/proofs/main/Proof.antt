@@ -1,4 +1,4 @@
--- `main` ends, since its turns count down, and what it writes last fits in the buffer.
+-- `main` ends, since its rounds count down, and what it writes last fits in the buffer.
 use borrow.Author.Needs.{needs}
 use mathlib.Core.Path.{sym}
 use Prim.Native.Nat.{ℕ}
@@ -9,10 +9,10 @@ use Rattle.synrun.proofs.main.Statement.{statement}
 use Rattle.synrun.proofs.main.Tie as tie
 
 abbrev Inv-loop : tie.InvT-loop
-Inv-loop text₀ set₀ s₀ more₀ turns₀ text set s more turns = Unit {0}
+Inv-loop text₀ set₀ s₀ more₀ rounds₀ text set s more rounds = Unit {0}
 
 abbrev μ-loop : tie.MeasureT-loop
-μ-loop text₀ set₀ s₀ more₀ turns₀ text set s more turns = turns
+μ-loop text₀ set₀ s₀ more₀ rounds₀ text set s more rounds = rounds
 
 prefix : tie.Need-array-share-prefix-out Inv-loop μ-loop
 prefix c = end-room _ _ (c .finish .ensures .0) (c .finish .ensures .1) (length-replicate {A = ℕ} 16384 0)

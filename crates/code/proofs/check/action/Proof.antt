@@ -5,8 +5,8 @@ use borrow.Author.Tests.{not-true, not-false}
 use mathlib.Core.Path.{refl, sym, _∙_}
 use Prim.Native.Nat.{_+_}
 use Rattle.code.proofs.FaultLaws.{no-action, action-command, action-wrong, action-assigns}
-use Rattle.code.proofs.SeenLaws.{no-fault}
-use Rattle.code.proofs.PassLaws.{pass-assigned, passed-nothing, passed-behind, passed-token}
+use Rattle.code.proofs.SeenLaws.{faulted-nothing}
+use Rattle.code.proofs.CountLaws.{counts-assigned, counted-nothing, counted-behind, counted-token}
 use Rattle.code.proofs.check.action.Statement.{statement}
 use Rattle.code.proofs.check.action.Tie as tie
 
@@ -15,7 +15,7 @@ action-spec =
     tie.close
     (tie.spec
     (λ c κs. search needs)
-    (λ c. (no-fault ∙ sym (no-action _ _ _ _ (sym (c .before .token-at .ensures .0) ∙ c .if1 .taken)), passed-nothing _ _ refl))
+    (λ c. (faulted-nothing ∙ sym (no-action _ _ _ _ (sym (c .before .token-at .ensures .0) ∙ c .if1 .taken)), counted-nothing _ _ refl))
     (λ c κs. search needs)
     (λ c κs.
     let s = c .before .before .before in
@@ -24,7 +24,7 @@ action-spec =
     let i = c .before .before in
     let t = i .before .before .before .token-at .ensures .0 in (
       c .command .ensures .0 ∙ action-command _ _ _ _ _ t (sym (i .is-indexed .ensures) ∙ not-true _ (c .before .if2 .taken)),
-      passed-token _ _ t (c .command .ensures .1 .0) (c .command .ensures .1 .1),
+      counted-token _ _ t (c .command .ensures .1 .0) (c .command .ensures .1 .1),
     ))
     (λ c.
     let s = c .before .before .before .before in
@@ -33,8 +33,8 @@ action-spec =
     (λ c.
     let f = c .before .before .before in
     let i = f .before in (
-      no-fault ∙ action-wrong _ _ _ _ _ (i .before .before .before .token-at .ensures .0) (sym (i .is-indexed .ensures) ∙ not-false _ (f .if2 .left)) (λ e. c .if3 .taken (c .before .token-at2 .ensures .0 ∙ e)),
-      passed-nothing _ _ refl,
+      faulted-nothing ∙ action-wrong _ _ _ _ _ (i .before .before .before .token-at .ensures .0) (sym (i .is-indexed .ensures) ∙ not-false _ (f .if2 .left)) (λ e. c .if3 .taken (c .before .token-at2 .ensures .0 ∙ e)),
+      counted-nothing _ _ refl,
     ))
     (λ c κs.
     let s = c .before .before .before .before .before .before in
@@ -48,5 +48,5 @@ action-spec =
     let e = sym (u .token-at2 .ensures .0) ∙ c .before .if3 .left in
     let at = i .before .before .before .before .before .args .at in (
       c .assignment .ensures .0 ∙ action-assigns _ _ _ _ _ t h e,
-      passed-token _ _ t (c .assignment .ensures .1 .0) (passed-behind _ (at + 1) (at + 5) (pass-assigned _ _ _ h e) (c .assignment .ensures .1 .1)),
+      counted-token _ _ t (c .assignment .ensures .1 .0) (counted-behind _ (at + 1) (at + 5) (counts-assigned _ _ _ h e) (c .assignment .ensures .1 .1)),
     )))

@@ -3,16 +3,16 @@ use borrow.Author.Needs.{needs}
 use native.Mathlib.Omega.{arith}
 use mathlib.Core.Path.{refl, sym, _∙_}
 use Prim.Native.Nat.{_+_, _<_}
-use Rattle.tokens.specs.Reading.{sumAt, readSum}
+use Rattle.tokens.specs.Reading.{sumAt}
 use Rattle.code.specs.Fault.{assignedAt}
 use Rattle.code.proofs.FaultLaws.{removal-tokens}
 use Rattle.code.proofs.SeenLaws.{number-made, faulted-made, faulted-wanted}
-use Rattle.code.proofs.PassLaws.{pass-index, passed-none, passed-behind, passed-token, level-on}
+use Rattle.code.proofs.CountLaws.{counts-index, counted-none, counted-behind, counted-token, same-end-on}
 use Rattle.code.proofs.check.assigned.Statement.{statement}
 use Rattle.code.proofs.check.assigned.Tie as tie
 
 pub assigned-spec : {M : Type 1} → statement M
-unfolding assignedAt sumAt
+unfolding assignedAt
 assigned-spec =
     tie.close
     (tie.spec
@@ -27,12 +27,12 @@ assigned-spec =
     let k = number-made {f = 0} {d = 0} _ (omega arith) (omega arith) m (c .number-seen .ensures) in
     let t = removal-tokens _ _ h in (
       simp (assignedAt, h) (faulted-made k (omega arith)),
-      passed-token _ _ refl (λ g. t .0) (passed-behind _ _ (a .at + 4) (pass-index _ _ _ (t .1)) (passed-none _ _ _ (k .next))),
+      counted-token _ _ refl (λ g. t .0) (counted-behind _ _ (a .at + 4) (counts-index _ _ _ (t .1)) (counted-none _ _ _ (k .next))),
     ))
     (λ c κs. search needs)
     (λ c κs. search needs)
     (λ c.
     let s = c .before in (
-      simp (assignedAt, sym (s .before .before .is-removal .ensures) ∙ s .before .if1 .left) (faulted-wanted _ _ _ (readSum _ _ _ _ _) (s .sum .ensures .0) (c .as-wanted .ensures .0)),
-      level-on _ (c .as-wanted .ensures .1) .goes _ (s .sum .ensures .1),
+      simp (assignedAt, sym (s .before .before .is-removal .ensures) ∙ s .before .if1 .left) (faulted-wanted _ _ _ (sumAt _ _ _ _) (s .sum .ensures .0) (c .as-wanted .ensures .0)),
+      same-end-on _ (c .as-wanted .ensures .1) .goes _ (s .sum .ensures .1),
     )))

@@ -4,17 +4,17 @@ use native.Mathlib.Omega.{arith}
 use mathlib.Core.Path.{_≡_, refl, sym, ap, _∙_}
 use Prim.Native.Nat.{ℕ, _+_, _<_}
 use Rattle.tokens.specs.Token.{IN, IM, POS, MOV}
-use Rattle.tokens.specs.Reading.{Read, read, then, indexAt, sumAt, readSum}
+use Rattle.tokens.specs.Reading.{Read, read, then, indexAt, sumAt}
 use Rattle.tokens.specs.SingleFault.{lower, writeFault}
 use Rattle.code.specs.Fault.{assignedAt, assignmentAt}
 use Rattle.code.specs.Seen.{faultOf}
-use Rattle.code.proofs.SeenLaws.{no-fault, number-made, faulted-wanted}
-use Rattle.code.proofs.PassLaws.{plain-high, passed-nothing, joined-passed, level-on}
+use Rattle.code.proofs.SeenLaws.{faulted-nothing, number-made, faulted-wanted}
+use Rattle.code.proofs.CountLaws.{plain-high, counted-nothing, joined-counted, same-end-on}
 use Rattle.code.proofs.check.assignment.Statement.{statement}
 use Rattle.code.proofs.check.assignment.Tie as tie
 
 pub assignment-spec : {M : Type 1} → statement M
-unfolding assignmentAt sumAt
+unfolding assignmentAt
 assignment-spec =
     tie.close
     (tie.spec
@@ -35,7 +35,7 @@ assignment-spec =
     let k = number-made {d = 0} (a .at) (omega arith) (omega arith) m (n .number-seen .ensures) .fault ∙ e in (
       simp (assignmentAt, sym (v .is-variable .ensures) ∙ i .before .before .if1 .taken)
           (c .join-faults .ensures .0 ∙ ap (λ (x : Read ℕ). then x (λ g q. read (lower (faultOf (n .number-seen .result)) g) q)) (c .before .assigned .ensures .0) ∙ ap (λ (f : ℕ). then (assignedAt (a .code .now) 4130 (a .at + 5)) (λ g q. read (lower f g) q)) k),
-      (λ g. plain-high IN IM _ (omega arith) (v .is-variable .ensures) (i .before .before .if1 .taken), joined-passed _ _ (c .before .assigned .ensures .1) (c .join-faults .ensures .1)),
+      (λ g. plain-high IN IM _ (omega arith) (v .is-variable .ensures) (i .before .before .if1 .taken), joined-counted _ _ (c .before .assigned .ensures .1) (c .join-faults .ensures .1)),
     ))
     (λ c κs. search needs)
     (λ c. omega arith)
@@ -45,11 +45,11 @@ assignment-spec =
     let s = c .before in
     let d = s .before .before in (
       simp (assignmentAt, sym (d .before .before .is-variable .ensures) ∙ d .before .if1 .left, sym (d .is-drive .ensures) ∙ s .before .if2 .taken)
-          (faulted-wanted _ _ _ (readSum _ _ _ _ _) (s .sum .ensures .0) (c .as-wanted .ensures .0)),
-      (λ g. plain-high POS MOV _ (omega arith) (d .is-drive .ensures) (s .before .if2 .taken), level-on _ (c .as-wanted .ensures .1) .goes _ (s .sum .ensures .1)),
+          (faulted-wanted _ _ _ (sumAt _ _ _ _) (s .sum .ensures .0) (c .as-wanted .ensures .0)),
+      (λ g. plain-high POS MOV _ (omega arith) (d .is-drive .ensures) (s .before .if2 .taken), same-end-on _ (c .as-wanted .ensures .1) .goes _ (s .sum .ensures .1)),
     ))
     (λ c.
     let d = c .before in (
-      simp (assignmentAt, sym (d .before .before .is-variable .ensures) ∙ d .before .if1 .left, sym (d .is-drive .ensures) ∙ c .if2 .left) no-fault,
-      (λ g. absurd (g refl), passed-nothing _ _ refl),
+      simp (assignmentAt, sym (d .before .before .is-variable .ensures) ∙ d .before .if1 .left, sym (d .is-drive .ensures) ∙ c .if2 .left) faulted-nothing,
+      (λ g. absurd (g refl), counted-nothing _ _ refl),
     )))

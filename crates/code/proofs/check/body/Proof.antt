@@ -2,14 +2,21 @@
 use borrow.Author.Needs.{needs}
 use native.Mathlib.Omega.{arith}
 use mathlib.Core.Path.{sym, ap, _∙_}
-use Prim.Native.Nat.{ℕ, _<_}
+use Prim.Native.Nat.{ℕ, _+_}
 use Rattle.tokens.specs.Reading.{Read}
-use Rattle.code.specs.Fault.{bodyFrom, judged}
+use Rattle.code.specs.Fault.{judged}
+use Rattle.code.specs.Seen.{faultOf, depthOf, bodyFrom}
 use Rattle.code.proofs.FaultLaws.{body-none, body-does}
-use Rattle.code.proofs.SeenLaws.{faulted-stop, faulted-read, next-made}
-use Rattle.code.proofs.PassLaws.{plain-above, next-on}
+use Rattle.code.proofs.SeenLaws.{Made, faulted-stop, faulted-read, next-made}
+use Rattle.code.proofs.CountLaws.{plain-above, next-on}
 use Rattle.code.proofs.check.body.Statement.{statement}
 use Rattle.code.proofs.check.body.Tie as tie
+
+-- what the number of all before the actions says: the place behind DO
+begun : (c : tie.Else2) → let n = c .before .before .before .before in Made (faultOf (n .before .args .a)) (depthOf (n .before .args .a)) (n .next-of .result + 1) (n .before .args .a + 1)
+begun c =
+    let n = c .before .before .before .before in
+    next-made (n .before .args .a) (n .next-of .ensures) (omega (arith, c .before .token-at .ensures .1 (λ z. omega arith)))
 
 pub body-spec : {M : Type 1} → statement M
 body-spec =
@@ -34,16 +41,13 @@ body-spec =
     (λ c κs.
     let t = c .before .before in
     let n = t .before .before .before in
-    let l : n .next-of .result < 4130 = omega (arith, t .token-at .ensures .1 (λ z. omega arith)) in
-    let k = next-made (n .before .args .a) (n .next-of .ensures) l in
+    let k = begun (c .before) in
     (n .before .pre .0, c .actions .ensures .1 .goes _ (next-on _ _ _ (n .next-of .ensures) (t .before .before .if1 .left) (t .token-at .ensures .0) (plain-above _ (omega (arith, c .before .if2 .left))) (k .next) (k .depth) .goes _ (n .before .pre .1))))
     (λ c.
     let x = c .before in
     let t = x .before .before in
     let n = t .before .before .before in
     let a = n .before .args in
-    let l : n .next-of .result < 4130 = omega (arith, t .token-at .ensures .1 (λ z. omega arith)) in
-    let k = next-made (a .a) (n .next-of .ensures) l in
     c .parts .ensures ∙
-    ap (judged (a .code .now) (a .at)) (body-does _ _ _ _ _ _ (t .token-at .ensures .0) (x .before .if2 .left) _ k (x .actions .ensures .0) ∙
+    ap (judged (a .code .now) (a .at)) (body-does _ _ _ _ _ _ (t .token-at .ensures .0) (x .before .if2 .left) _ (begun (x .before)) (x .actions .ensures .0) ∙
     ap (bodyFrom (a .code .now) (a .at) (a .keyword) (a .condition)) (sym (faulted-read (a .a) (n .next-of .ensures) (t .before .before .if1 .left))))))

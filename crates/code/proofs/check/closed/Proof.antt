@@ -3,13 +3,18 @@ use borrow.Author.Needs.{needs}
 use mathlib.Core.Path.{refl, sym, _∙_}
 use Prim.Native.Nat.{_<_}
 use native.Mathlib.Omega.{arith}
+use Rattle.tokens.specs.Token.{setSize}
 use Rattle.tokens.specs.Reading.{readClose}
 use Rattle.code.specs.Fault.{sight}
 use Rattle.tokens.proofs.Arms.{closes, closes-not}
-use Rattle.code.proofs.SeenLaws.{passes, enters, nothing, seen-next, next-made, seen-deeper, deeper-made}
-use Rattle.code.proofs.PassLaws.{closed-on, closed-nothing}
+use Rattle.code.proofs.SeenLaws.{passes, enters, seen-nothing, seen-next, next-made, seen-deeper, deeper-made}
+use Rattle.code.proofs.CountLaws.{closed-on, closed-nothing}
 use Rattle.code.proofs.check.closed.Statement.{statement}
 use Rattle.code.proofs.check.closed.Tie as tie
+
+-- a token that is no end lies inside the code
+inside : (c : tie.Else2) → c .before .before .before .before .next-of .result < setSize
+inside c = omega (arith, c .before .token-at .ensures .1 (λ e. omega arith))
 
 pub closed-spec : {M : Type 1} → statement M
 unfolding sight
@@ -22,7 +27,7 @@ closed-spec =
     (λ c.
     let d = c .before in
     let n = d .before .before .before in (
-      enters _ (n .next-of .ensures) (readClose (n .before .args .code .now) sight) (d .before .before .if1 .left) (nothing ∙ sym (closes-not _ _ _ _ _ (d .token-at .ensures .0) (c .if2 .taken))),
+      enters _ (n .next-of .ensures) (readClose (n .before .args .code .now) sight) (d .before .before .if1 .left) (seen-nothing ∙ sym (closes-not _ _ _ _ _ (d .token-at .ensures .0) (c .if2 .taken))),
       closed-nothing _ _ refl,
     ))
     (λ c κs. search needs)
@@ -31,7 +36,7 @@ closed-spec =
     let g = c .before in
     let d = g .before .before in
     let n = d .before .before .before in
-    let l : n .next-of .result < 4130 = omega (arith, d .token-at .ensures .1 (λ e. omega arith)) in
+    let l = inside (g .before) in
     let k = next-made (n .before .args .a) (n .next-of .ensures) l in (
       enters _ (n .next-of .ensures) (readClose (n .before .args .code .now) sight) (d .before .before .if1 .left)
           (seen-next (n .before .args .a) (n .next-of .ensures) l ∙ sym (closes _ _ _ _ _ (d .token-at .ensures .0) (g .before .if2 .left))),
@@ -43,7 +48,7 @@ closed-spec =
     let g = c .before in
     let d = g .before .before in
     let n = d .before .before .before in
-    let l : n .next-of .result < 4130 = omega (arith, d .token-at .ensures .1 (λ e. omega arith)) in
+    let l = inside (g .before) in
     let k = deeper-made (n .before .args .a) (n .next-of .ensures) l (omega (arith, g .depth-of .ensures, c .if3 .left)) in (
       enters _ (n .next-of .ensures) (readClose (n .before .args .code .now) sight) (d .before .before .if1 .left)
           (seen-deeper (n .before .args .a) (n .next-of .ensures) l ∙ sym (closes _ _ _ _ _ (d .token-at .ensures .0) (g .before .if2 .left))),

@@ -10,12 +10,12 @@ use Rattle.tokens.specs.Token.{SETAL, UNLOCK, isWhole, whole}
 use Rattle.tokens.specs.Reading.{ends, read}
 use Rattle.code.specs.Fault.{commandAt}
 use Rattle.code.specs.Seen.{faulted}
-use Rattle.code.specs.Brackets.{Plain, Good, Passed}
+use Rattle.code.specs.Brackets.{Plain, InGrammar, Counted}
 use Rattle.tokens.specs.SingleFault.{codeFault, callFault}
 use Rattle.tokens.proofs.Between.{tested}
 use Rattle.code.proofs.FaultLaws.{no-command, no-code, a-code, no-call, no-open, no-close, a-call}
-use Rattle.code.proofs.SeenLaws.{no-fault, number-made, faulted-made}
-use Rattle.code.proofs.PassLaws.{plain-above, plain-high, pass-code, pass-call, passed-nothing, passed-to}
+use Rattle.code.proofs.SeenLaws.{faulted-nothing, number-made, faulted-made}
+use Rattle.code.proofs.CountLaws.{plain-above, plain-high, counts-code, counts-call, counted-nothing, counted-to}
 use Rattle.code.proofs.check.command.Statement.{statement}
 use Rattle.code.proofs.check.command.Tie as tie
 
@@ -24,8 +24,8 @@ numbered : (c : tie.Else1) → let a = c .before .before .before .before .args i
 numbered c = tested isWhole (c .before .before .token-at .ensures .0) (c .before .is-whole .ensures) (not-false _ (c .if1 .left))
 
 -- what is no command
-none : (a : tie.Start) → ends 5 ≡ commandAt (a .args .code .now) (a .args .keyword) (a .args .w) (a .args .at) → (faulted 0 ≡ commandAt (a .args .code .now) (a .args .keyword) (a .args .w) (a .args .at)) × ((Good 0 → Plain (a .args .w)) × Passed (a .args .code .now) (a .args .at + 1) 0)
-none a e = (no-fault ∙ e, (λ g. absurd (g refl), passed-nothing _ _ refl))
+none : (a : tie.Start) → ends 5 ≡ commandAt (a .args .code .now) (a .args .keyword) (a .args .w) (a .args .at) → (faulted 0 ≡ commandAt (a .args .code .now) (a .args .keyword) (a .args .w) (a .args .at)) × ((InGrammar 0 → Plain (a .args .w)) × Counted (a .args .code .now) (a .args .at + 1) 0)
+none a e = (faulted-nothing ∙ e, (λ g. absurd (g refl), counted-nothing _ _ refl))
 
 pub command-spec : {M : Type 1} → statement M
 command-spec =
@@ -56,7 +56,7 @@ command-spec =
     let k = number-made {d = 0} _ (omega arith) (omega arith) m (c .number-seen .ensures) in
     let q = sym (s .token-at2 .ensures .0) ∙ g .if3 .left in (
       faulted-made k (omega arith) ∙ ap (λ (f : ℕ). read f (a .at + 3)) n ∙ a-code _ _ _ _ (numbered r) (g .before .if2 .taken) q,
-      (λ h. plain-above _ (omega (arith, g .before .if2 .taken)), passed-to _ _ _ (k .next) (k .depth) (pass-code (a .code .now) (a .at) q (numbered r))),
+      (λ h. plain-above _ (omega (arith, g .before .if2 .taken)), counted-to _ _ _ (k .next) (k .depth) (λ g. counts-code (a .code .now) (a .at) q (numbered r))),
     ))
     (λ c κs. search needs)
     (λ c.
@@ -97,5 +97,5 @@ command-spec =
     let e = sym (t .token-at3 .ensures .0) ∙ i .if6 .left in
     let w = not-false _ (f .if4 .left) in (
       faulted-made k (omega arith) ∙ ap (λ (f : ℕ). read f (a .at + 4)) n ∙ a-call _ _ _ _ (numbered r) (f .before .before .if2 .left) (sym (f .before .is-call .ensures) ∙ w) b e,
-      (λ h. plain-high SETAL UNLOCK _ (omega arith) (f .before .is-call .ensures) w, passed-to _ _ _ (k .next) (k .depth) (pass-call (a .code .now) (a .at) b (numbered r) e)),
+      (λ h. plain-high SETAL UNLOCK _ (omega arith) (f .before .is-call .ensures) w, counted-to _ _ _ (k .next) (k .depth) (λ g. counts-call (a .code .now) (a .at) b (numbered r) e)),
     )))

@@ -2,7 +2,7 @@
 use borrow.Author.Needs.{needs}
 use mathlib.Core.Path.{_∙_}
 use native.Mathlib.Omega.{arith}
-use Rattle.code.proofs.PassLaws.{passed-counts}
+use Rattle.code.proofs.CountLaws.{counted-whole}
 use Rattle.code.proofs.check.is_too_deep.Statement.{statement}
 use Rattle.code.proofs.check.is_too_deep.Tie as tie
 
@@ -20,4 +20,4 @@ is-too-deep-spec =
     (λ c.
     let f = c .before .before in
     let n = f .before .before .before in
-    c .opens-too-many3 .ensures ∙ passed-counts _ (n .before .args .a) _ (n .next-of .ensures) (f .before .before .if1 .left) (omega (arith, f .before .depth-of .ensures, f .if2 .left)) (n .before .pre)))
+    c .opens-too-many3 .ensures ∙ counted-whole _ (n .before .args .a) _ (n .next-of .ensures) (f .before .before .if1 .left) (omega (arith, f .before .depth-of .ensures, f .if2 .left)) (n .before .pre)))

@@ -5,8 +5,8 @@ use mathlib.Core.Bool.{Bool}
 use Prim.Native.Nat.{ℕ}
 use native.Mathlib.Omega.{arith}
 use Rattle.tokens.specs.Reading.{Read, read}
-use Rattle.code.specs.Fault.{Sight}
-use Rattle.code.specs.Seen.{sightOf, lowest}
+use Rattle.code.specs.Fault.{Sight, lowest}
+use Rattle.code.specs.Seen.{sightOf}
 use Rattle.code.proofs.SeenLaws.{room, passes, enters, number-made, truth-made, seen-number, seen-truth, joined-nothing, joined-made}
 use Rattle.code.proofs.check.join.Statement.{statement}
 use Rattle.code.proofs.check.join.Tie as tie
@@ -34,7 +34,7 @@ join-spec =
       enters _ (n .next-of .ensures) (after (n .before)) (l .before .if1 .left)
           (seen-truth _ (omega arith) (omega arith) m (omega (arith, l .before .if1 .left)) (c .truth-seen .ensures) (l .lowest-of .ensures) ∙
           ap (λ (t : Bool). read (record { truth = t; fault = lowest (a .wanted) (sightOf (a .a)) (sightOf (a .b)) }) (n .next-of .result)) (sym (d .before .if2 .taken))),
-      joined-made _ _ (truth-made _ (omega arith) (omega arith) m (c .truth-seen .ensures)) (n .next-of .ensures) (d .deeper-of .ensures .0) (d .deeper-of .ensures .1),
+      joined-made _ _ (truth-made _ (omega arith) (omega arith) m (c .truth-seen .ensures)) (n .next-of .ensures) (d .deeper-of .ensures),
     ))
     (λ c κs. search needs)
     (λ c κs. search needs)
@@ -47,5 +47,5 @@ join-spec =
       enters _ (n .next-of .ensures) (after (n .before)) (l .before .if1 .left)
           (seen-number _ (omega arith) (omega arith) m (omega (arith, l .before .if1 .left)) (c .number-seen .ensures) (l .lowest-of .ensures) ∙
           ap (λ (t : Bool). read (record { truth = t; fault = lowest (a .wanted) (sightOf (a .a)) (sightOf (a .b)) }) (n .next-of .result)) (sym (d .before .if2 .left))),
-      joined-made _ _ (number-made _ (omega arith) (omega arith) m (c .number-seen .ensures)) (n .next-of .ensures) (d .deeper-of2 .ensures .0) (d .deeper-of2 .ensures .1),
+      joined-made _ _ (number-made _ (omega arith) (omega arith) m (c .number-seen .ensures)) (n .next-of .ensures) (d .deeper-of2 .ensures),
     )))

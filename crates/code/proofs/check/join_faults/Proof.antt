@@ -34,5 +34,5 @@ join-faults-spec =
     let k = number-made _ (omega arith) (omega arith) (room _ (n .next-of .ensures)) (c .number-seen .ensures) in
     let e : l .lower-of .result ≡ lower (faultOf (a .a)) (faultOf (a .b)) = simp (l .lower-of .ensures, l .before .fault-of2 .ensures, f .fault-of .ensures) in (
       faulted-made k (omega (arith, f .before .if1 .left)) ∙ ap (λ (g : ℕ). read g (n .next-of .result)) e ∙ ap (λ (r : Read ℕ). then r (λ g q. read (lower (faultOf (a .a)) g) q)) (sym (faulted-read (a .b) (n .next-of .ensures) (f .before .if1 .left))),
-      joined-made _ _ k (n .next-of .ensures) (d .deeper-of .ensures .0) (d .deeper-of .ensures .1),
+      joined-made _ _ k (n .next-of .ensures) (d .deeper-of .ensures),
     )))

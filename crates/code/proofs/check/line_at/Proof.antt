@@ -9,7 +9,7 @@ use lib.ListN.{getD}
 use Rattle.tokens.specs.Token.{ID, IDS, EQUALS, isId, isWhole}
 use Rattle.code.specs.Fault.{lineAt}
 use Rattle.tokens.proofs.Between.{tested, no-end}
-use Rattle.code.proofs.PassLaws.{pass-head}
+use Rattle.code.proofs.CountLaws.{counts-head}
 use Rattle.code.proofs.check.line_at.Statement.{statement}
 use Rattle.code.proofs.check.line_at.Tie as tie
 
@@ -60,7 +60,7 @@ line-at-spec =
     let f = w .before .before .before .before in
     let i = f .before .before .before in
     let a = i .before .before .before .before .args in
-    (starts i, pass-head (a .code .now) (a .at) (named i) (equals f) (numbered w)))
+    (starts i, counts-head (a .code .now) (a .at) (named i) (equals f) (numbered w)))
     (λ c κs. search needs)
     (λ c.
     let g = c .before in

@@ -1,6 +1,6 @@
 -- `check::lowest_of` meets its contract: it is what the calls say.
 use borrow.Author.Needs.{needs}
-use Rattle.code.proofs.SeenLaws.{wanted-seen, lowest-none}
+use Rattle.code.proofs.SeenLaws.{faultless-seen, lowest-none}
 use Rattle.code.proofs.check.lowest_of.Statement.{statement}
 use Rattle.code.proofs.check.lowest_of.Tie as tie
 
@@ -14,7 +14,7 @@ lowest-of-spec =
     let b = c .before in
     let a = b .before .before in
     let x = a .before .args in
-    lowest-none (x .wanted) (x .a) (x .b) (wanted-seen _ _ (a .is-faultless .ensures) (b .before .if1 .taken)) (wanted-seen _ _ (b .is-faultless2 .ensures) (c .if2 .taken)))
+    lowest-none (x .wanted) (x .a) (x .b) (faultless-seen _ _ (a .is-faultless .ensures) (b .before .if1 .taken)) (faultless-seen _ _ (b .is-faultless2 .ensures) (c .if2 .taken)))
     (λ c κs. search needs)
     (λ c κs. search needs)
     (λ c κs. search needs)

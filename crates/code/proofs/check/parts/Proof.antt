@@ -6,6 +6,7 @@ use mathlib.Core.Bool.{true, false}
 use Prim.Native.Nat.{ℕ}
 use lib.Dec.{eqb}
 use Rattle.tokens.specs.Token.{whole, IDS}
+use Rattle.tokens.specs.SingleFault.{tooDeep}
 use Rattle.code.specs.declared.check.Line.{Line}
 use Rattle.code.specs.Fault.{numberOf, faultyLine, judged, lineParts}
 use Rattle.code.specs.Seen.{faulted}
@@ -16,9 +17,9 @@ use Rattle.code.proofs.check.parts.Tie as tie
 -- what 5 to 10 tell of the line is told where its brackets are not too many
 module _ (c : tie.After-is-too-deep) where
   told : Line
-  told = let a = c .before .args in lineParts (a .code .now) (a .at) (a .keyword) (a .condition) (a .body) (faulted (a .a))
+  told = let a = c .before .args in lineParts (a .code .now) (a .at) (a .keyword) (a .condition) (a .actions) (faulted (a .a))
 
-  deep : c .is-too-deep .result ≡ true → faultyLine 4 ≡ judged (c .before .args .code .now) (c .before .args .at) told
+  deep : c .is-too-deep .result ≡ true → faultyLine tooDeep ≡ judged (c .before .args .code .now) (c .before .args .at) told
   deep h = judged-deep (c .before .args .code .now) (c .before .args .at) told (c .is-too-deep .ensures) h
 
   not-deep : c .is-too-deep .result ≡ false → told ≡ judged (c .before .args .code .now) (c .before .args .at) told

@@ -8,16 +8,26 @@ use Rattle.tokens.specs.Token.{WHEN, EVERY}
 use borrow.Author.Tests.{not-false}
 use Rattle.tokens.specs.Reading.{Read, read, then, expressionAt}
 use Rattle.tokens.specs.SingleFault.{lower}
-use Rattle.code.specs.Fault.{sight, faultFor, bodyFrom, judged}
-use Rattle.code.specs.Seen.{faultOf}
+use Rattle.code.specs.Brackets.{Counted}
+use Rattle.code.specs.Fault.{sight, faultFor, judged}
+use Rattle.code.specs.Seen.{faultOf, bodyFrom}
 use Rattle.code.proofs.FaultLaws.{rest-plain, rest-keyword}
-use Rattle.code.proofs.SeenLaws.{number-made, faulted-made, faulted-wanted}
-use Rattle.code.proofs.PassLaws.{plain-high, pass-token, passed-to, passed-behind, level-on, joined-next}
+use Rattle.code.proofs.SeenLaws.{Made, number-made, faulted-made, faulted-wanted}
+use Rattle.code.proofs.CountLaws.{plain-high, counts-token, counted-to, counted-behind, same-end-on, joined-next}
 use Rattle.code.proofs.check.rest.Statement.{statement}
 use Rattle.code.proofs.check.rest.Tie as tie
 
+-- what the number of the head says
+head : (h : tie.After-number-seen) → Made (h .before .args .fault) 0 (h .before .args .at + 3) (h .number-seen .result)
+head h =
+    let m : h .before .args .at + 3 < 8192 = omega (arith, h .before .pre .0) in
+    number-made {d = 0} _ (omega arith) (omega arith) m (h .number-seen .ensures)
+
+-- and that it was read from the line's start
+head-counted : (h : tie.After-number-seen) → Counted (h .before .args .code .now) (h .before .args .at) (h .number-seen .result)
+head-counted h = counted-to _ _ _ (head h .next) (head h .depth) (λ g. h .before .pre .1)
+
 pub rest-spec : {M : Type 1} → statement M
-unfolding expressionAt
 rest-spec =
     tie.close
     (tie.spec
@@ -28,17 +38,13 @@ rest-spec =
     (λ c κs. search needs)
     (λ c κs.
     let h = c .before .before .before .before in
-    let m : h .before .args .at + 3 < 8192 = omega (arith, h .before .pre .0) in
-    let k = number-made {d = 0} _ (omega arith) (omega arith) m (h .number-seen .ensures) in
-    (h .before .pre .0, passed-to _ _ _ (k .next) (k .depth) (h .before .pre .1)))
+    (h .before .pre .0, head-counted h))
     (λ c.
     let w = c .before .before in
     let t = w .before in
     let h = t .before .before in
     let a = h .before .args in
-    let m : a .at + 3 < 8192 = omega (arith, h .before .pre .0) in
-    let k = number-made {d = 0} _ (omega arith) (omega arith) m (h .number-seen .ensures) in
-    c .body .ensures ∙ ap (judged (a .code .now) (a .at)) (ap (bodyFrom (a .code .now) (a .at) 0 0) (faulted-made k (omega arith)) ∙ rest-plain _ _ _ _ (t .token-at .ensures .0) (w .is-keyword .ensures) (c .before .if1 .taken)))
+    c .body .ensures ∙ ap (judged (a .code .now) (a .at)) (ap (bodyFrom (a .code .now) (a .at) 0 0) (faulted-made (head h) (omega arith)) ∙ rest-plain _ _ _ _ (t .token-at .ensures .0) (w .is-keyword .ensures) (c .before .if1 .taken)))
     (λ c. omega arith)
     (λ c κs. search needs)
     (λ c κs. search needs)
@@ -51,11 +57,9 @@ rest-spec =
     let t = w .before in
     let h = t .before .before in
     let a = h .before .args in
-    let m : a .at + 3 < 8192 = omega (arith, h .before .pre .0) in
-    let k = number-made {d = 0} _ (omega arith) (omega arith) m (h .number-seen .ensures) in
-    let word = pass-token _ (a .at + 3) (a .at + 4) (t .token-at .ensures .0) (plain-high WHEN EVERY _ (omega arith) (w .is-keyword .ensures) (not-false _ (e .before .if1 .left))) (omega arith) in
-    let condition = level-on _ (x .as-wanted .ensures .1) .goes _ (e .expression .ensures .1) in
-    (h .before .pre .0, joined-next _ (sym (k .next)) (λ z. omega arith) (passed-behind _ (a .at + 3) (a .at + 4) word condition) (c .join-faults .ensures .1) .goes _ (passed-to _ _ _ (k .next) (k .depth) (h .before .pre .1))))
+    let word = counts-token _ (a .at + 3) (a .at + 4) (t .token-at .ensures .0) (plain-high WHEN EVERY _ (omega arith) (w .is-keyword .ensures) (not-false _ (e .before .if1 .left))) (omega arith) in
+    let condition = same-end-on _ (x .as-wanted .ensures .1) .goes _ (e .expression .ensures .1) in
+    (h .before .pre .0, joined-next _ (sym (head h .next)) (λ z. omega arith) (counted-behind _ (a .at + 3) (a .at + 4) word condition) (c .join-faults .ensures .1) .goes _ (head-counted h)))
     (λ c.
     let j = c .before in
     let x = j .before in
@@ -64,10 +68,8 @@ rest-spec =
     let t = w .before in
     let h = t .before .before in
     let a = h .before .args in
-    let m : a .at + 3 < 8192 = omega (arith, h .before .pre .0) in
-    let k = number-made {d = 0} _ (omega arith) (omega arith) m (h .number-seen .ensures) in
     c .body2 .ensures ∙
     ap (judged (a .code .now) (a .at)) (ap (bodyFrom (a .code .now) (a .at) (t .token-at .result) (a .at + 4)) (j .join-faults .ensures .0 ∙
     ap (λ (r : Read ℕ). then r (λ g q. read (lower (faultOf (h .number-seen .result)) g) q)) (faulted-wanted true _ _ (expressionAt (a .code .now) sight 4130 (a .at + 4)) (e .expression .ensures .0) (x .as-wanted .ensures .0)) ∙
-    ap (λ (f : ℕ). then (faultFor true (expressionAt (a .code .now) sight 4130 (a .at + 4))) (λ g q. read (lower f g) q)) (k .fault)) ∙
+    ap (λ (f : ℕ). then (faultFor true (expressionAt (a .code .now) sight 4130 (a .at + 4))) (λ g q. read (lower f g) q)) (head h .fault)) ∙
     rest-keyword _ _ _ _ (t .token-at .ensures .0) (w .is-keyword .ensures) (e .before .if1 .left))))

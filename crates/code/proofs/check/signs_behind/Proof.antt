@@ -3,7 +3,7 @@ use borrow.Author.Needs.{needs}
 use native.Mathlib.Omega.{arith}
 use mathlib.Core.Path.{_≡_, refl, sym, _∙_}
 use Prim.Native.Nat.{_+_, _-_, _<_, _≤_}
-use Rattle.code.specs.Fault.{signsBehind}
+use Rattle.code.specs.Seen.{signsBehind}
 use Rattle.code.proofs.SignLaws.{behind-none, behind-one, behind-spent}
 use Rattle.code.proofs.check.signs_behind.Statement.{statement}
 use Rattle.code.proofs.check.signs_behind.Tie as tie

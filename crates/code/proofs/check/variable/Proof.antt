@@ -7,8 +7,8 @@ use native.Mathlib.Omega.{arith}
 use Rattle.tokens.specs.SingleFault.{readFault}
 use Rattle.code.specs.Fault.{sight}
 use Rattle.tokens.proofs.Arms.{indexed, indexed-not}
-use Rattle.code.proofs.SeenLaws.{nothing, number-made, seen-number}
-use Rattle.code.proofs.PassLaws.{pass-index, passed-none, passed-nothing, passed-behind}
+use Rattle.code.proofs.SeenLaws.{seen-nothing, number-made, seen-number}
+use Rattle.code.proofs.CountLaws.{counts-index, counted-none, counted-nothing, counted-behind}
 use Rattle.code.proofs.check.variable.Statement.{statement}
 use Rattle.code.proofs.check.variable.Tie as tie
 
@@ -18,7 +18,7 @@ variable-spec =
     tie.close
     (tie.spec
     (λ c κs. search needs)
-    (λ c. (nothing ∙ sym (indexed-not _ _ _ _ (sym (c .before .is-indexed .ensures) ∙ not-true _ (c .if1 .taken))), passed-nothing _ _ refl))
+    (λ c. (seen-nothing ∙ sym (indexed-not _ _ _ _ (sym (c .before .is-indexed .ensures) ∙ not-true _ (c .if1 .taken))), counted-nothing _ _ refl))
     (λ c κs. search needs)
     (λ c κs. search needs)
     (λ c. search needs)
@@ -29,5 +29,5 @@ variable-spec =
     let m : a .at + 4 < 8192 = omega (arith, d .before .before .before .pre) in
     let h = sym (d .before .is-indexed .ensures) ∙ not-false _ (d .if1 .left) in (
       seen-number {d = 0} _ (omega arith) (omega arith) m (omega arith) (c .number-seen .ensures) (c .before .read-fault .ensures ∙ ap (λ (i : ℕ). readFault (a .w) i) (c .before .before .index-at .ensures)) ∙ sym (indexed _ _ _ _ h),
-      passed-behind _ _ (a .at + 4) (pass-index _ _ _ h) (passed-none _ _ _ (number-made {d = 0} _ (omega arith) (omega arith) m (c .number-seen .ensures) .next)),
+      counted-behind _ _ (a .at + 4) (counts-index _ _ _ h) (counted-none _ _ _ (number-made {d = 0} _ (omega arith) (omega arith) m (c .number-seen .ensures) .next)),
     )))

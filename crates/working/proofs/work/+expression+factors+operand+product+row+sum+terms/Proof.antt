@@ -10,13 +10,13 @@ use mir.ValLaws.{toZ-pos}
 use Rattle.values.specs.Choice.{both}
 use Rattle.values.proofs.Signed.{back}
 use Rattle.tokens.specs.Token.{SAME, ATLEAST, PLUS, MINUS, TIMES, OVER, IN, IM, isFactor, isTerm}
-use Rattle.tokens.specs.Reading.{then, isRow, more, readClose, readProduct, readSum, readOperand}
+use Rattle.tokens.specs.Reading.{then, isRow, more, readClose, readProduct, readSum, readOperand, sumAt, expressionAt}
 use Rattle.working.specs.Pair.{pairOf, said}
 use Rattle.working.specs.Working.{valueOver, negated, inverted}
-use Rattle.tokens.proofs.Answers.{same, same-again, stepped}
+use Rattle.tokens.proofs.Answers.{stepped}
 use Rattle.tokens.proofs.Arms.{spent, number-arm, variable-arm, open-arm, minus-arm, not-arm, truth-arm}
-use Rattle.tokens.proofs.Between.{no-end, row-no-end, no-row}
-use Rattle.tokens.proofs.Rows.{Kept, row-stops, row-ends, row-spent, row-goes, product-begins, sum-begins, expression-stops, comparison, row-after}
+use Rattle.tokens.proofs.Between.{no-end, row-no-end}
+use Rattle.tokens.proofs.Rows.{Kept, row-stops, row-ends, row-spent, row-goes, product-is, product-begins, sum-is, sum-begins, expression-is, expression-stops, rest-compares, rest-rows, rest-none}
 use Rattle.working.proofs.Pairs.{said-stop, said-value, pair-said, alarm-said}
 use Rattle.tokens.proofs.token.is_compare.Reads as is-compare
 use Rattle.tokens.proofs.token.is_factor.Reads as is-factor
@@ -56,22 +56,22 @@ use Rattle.working.proofs.work.+expression+factors+operand+product+row+
 use Rattle.working.proofs.work.+expression+factors+operand+product+row+sum+terms.Tie.{close}
 
 abbrev factors-Inv : factors-lts.InvT-loop
-factors-Inv code r cells w left a₀ turns₀ a turns =
+factors-Inv code r cells w left a₀ rounds₀ a rounds =
     let sub = readOperand code (valueOver r cells) left in
-    Kept code (valueOver r cells) isFactor sub same same (then (said w) (more code (valueOver r cells) isFactor sub left)) turns (said a)
+    Kept code (valueOver r cells) isFactor sub (then (said w) (more code (valueOver r cells) isFactor sub left)) rounds (said a)
 
 abbrev terms-Inv : terms-lts.InvT-loop
-terms-Inv code r cells w left a₀ turns₀ a turns =
+terms-Inv code r cells w left a₀ rounds₀ a rounds =
     let sub = readProduct code (valueOver r cells) (readOperand code (valueOver r cells) left) left in
-    Kept code (valueOver r cells) isTerm sub same same (then (said w) (more code (valueOver r cells) isTerm sub left)) turns (said a)
+    Kept code (valueOver r cells) isTerm sub (then (said w) (more code (valueOver r cells) isTerm sub left)) rounds (said a)
 
 abbrev row-Inv : row-lts.InvT-loop
-row-Inv code r cells first w left a₀ turns₀ a turns =
+row-Inv code r cells first w left a₀ rounds₀ a rounds =
     let sub = readSum code (valueOver r cells) (readOperand code (valueOver r cells) left) left in
-    Kept code (valueOver r cells) (isRow first) sub same same (then (said w) (more code (valueOver r cells) (isRow first) sub left)) turns (said a)
+    Kept code (valueOver r cells) (isRow first) sub (then (said w) (more code (valueOver r cells) (isRow first) sub left)) rounds (said a)
 
 pub +expression+factors+operand+product+row+sum+terms-spec : {M : Type 1} → statement M
-unfolding valueOver
+unfolding valueOver sumAt expressionAt
 +expression+factors+operand+product+row+sum+terms-spec =
     close
     (λ κs a. 8 * a .1 .1 .1 .1 .0 + 6)
@@ -85,7 +85,7 @@ unfolding valueOver
     (λ t. expression-lts.spec (_, sum.Post, _, next-of.Learnt, _, token-at.Learnt, _, is-compare.Learnt, _, value-of.Learnt, _, join-compare.Learnt, _, is-logic.Learnt, _, row.Post) _ expression.Post
     (λ c κs. omega arith)
     (λ c κs. search needs)
-    (λ c. expression-stops _ _ same same same-again _ _ _ (c .before .before .sum .ensures) (said-stop _ (c .before .next-of .ensures) (c .if1 .taken)))
+    (λ c. expression-stops _ _ _ _ _ (c .before .before .sum .ensures) (said-stop _ (c .before .next-of .ensures) (c .if1 .taken)))
     (λ c κs. search needs)
     (λ c κs. search needs)
     (λ c κs. search needs)
@@ -96,25 +96,23 @@ unfolding valueOver
     let v = c .before .before in
     let d = v .before .before .before in
     let n = d .before .before .before in
-    comparison _ _ same same same-again _ _ _ (n .before .sum .ensures) (said-value _ (n .next-of .ensures) (back w32 (record { sfits = v .value-of .ok }) ∙ v .value-of .ensures) (d .before .before .if1 .left)) (d .token-at .ensures .0) (v .before .before .is-compare .ensures) (v .before .if2 .taken)
-    (c .before .sum2 .ensures) (c .join-compare .ensures))
+    expression-is _ _ _ _ _ (n .before .sum .ensures)
+    (rest-compares _ _ _ _ (said-value _ (n .next-of .ensures) (back w32 (record { sfits = v .value-of .ok }) ∙ v .value-of .ensures) (d .before .before .if1 .left)) (d .token-at .ensures .0) (v .before .before .is-compare .ensures) (v .before .if2 .taken) (c .before .sum2 .ensures) (c .join-compare .ensures)))
     (λ c κs. search needs)
     (λ c.
     let e = c .before .before in
     let d = e .before .before in
     let n = d .before .before .before in
-    let h = said-value _ (n .next-of .ensures) refl (d .before .before .if1 .left) in
-    row-ends (row-after _ _ same same same-again _ _ _ (n .before .sum .ensures) h (d .token-at .ensures .0) (e .before .is-compare .ensures) (e .if2 .left)) h (d .token-at .ensures .0) (no-row (d .token-at .result) (c .before .is-logic .ensures) (c .if3 .taken)) refl)
+    expression-is _ _ _ _ _ (n .before .sum .ensures) (rest-none _ _ _ _ (said-value _ (n .next-of .ensures) refl (d .before .before .if1 .left)) (d .token-at .ensures .0) (e .before .is-compare .ensures) (e .if2 .left) (c .before .is-logic .ensures) (c .if3 .taken)))
     (λ c κs. omega arith)
     (λ c.
     let e = c .before .before .before in
     let d = e .before .before in
     let n = d .before .before .before in
-    c .row .ensures ∙
-    row-after _ _ same same same-again _ _ _ (n .before .sum .ensures) (said-value _ (n .next-of .ensures) refl (d .before .before .if1 .left)) (d .token-at .ensures .0) (e .before .is-compare .ensures) (e .if2 .left) .is-whole))
+    expression-is _ _ _ _ _ (n .before .sum .ensures) (rest-rows _ _ _ _ (said-value _ (n .next-of .ensures) refl (d .before .before .if1 .left)) (d .token-at .ensures .0) (e .before .is-compare .ensures) (e .if2 .left) (c .row .ensures))))
     -- factors
-    (λ t. factors-lts.spec (_, next-of.Learnt, _, token-at.Learnt, _, is-factor.Learnt, _, value-of.Learnt, _, operand.Post, _, join-factor.Learnt) _ factors.Post factors-Inv (λ code r cells w left a₀ turns₀ a turns. turns)
-    (λ c. record { is-whole = refl; is-told = refl })
+    (λ t. factors-lts.spec (_, next-of.Learnt, _, token-at.Learnt, _, is-factor.Learnt, _, value-of.Learnt, _, operand.Post, _, join-factor.Learnt) _ factors.Post factors-Inv (λ code r cells w left a₀ rounds₀ a rounds. rounds)
+    (λ c. record { is-whole = refl })
     (λ c κs. search needs)
     (λ c. let i = c .before .before .before .loop in row-stops (i .inv) (said-stop (i .a) (c .before .next-of .ensures) (c .if1 .taken)))
     (λ c κs. search needs)
@@ -135,7 +133,7 @@ unfolding valueOver
     let d = v .before .before .before in
     let n = d .before .before .before in
     let i = n .before .before .loop in
-    row-goes (i .inv) same-again (said-value (i .a) (n .next-of .ensures) (back w32 (record { sfits = v .value-of .ok }) ∙ v .value-of .ensures) (d .before .before .if1 .left)) (d .token-at .ensures .0) (v .before .before .is-factor .ensures) (v .before .if2 .left) (omega arith) (c .before .operand .ensures) (c .join-factor .ensures))
+    row-goes (i .inv) (said-value (i .a) (n .next-of .ensures) (back w32 (record { sfits = v .value-of .ok }) ∙ v .value-of .ensures) (d .before .before .if1 .left)) (d .token-at .ensures .0) (v .before .before .is-factor .ensures) (v .before .if2 .left) (omega arith) (c .before .operand .ensures) (c .join-factor .ensures))
     (λ c. row-spent (c .before .loop .inv) (omega arith)))
     -- operand
     (λ t. operand-lts.spec (_, alarm-of.Learnt, _, token-at.Learnt, _, pair-of.Learnt, _, is-variable.Learnt, _, variable.Learnt, _, expression.Post, _, closed.Learnt, _, operand.Post, _, negated-pair.Learnt, _, inverted-pair.Learnt, _, truth.Learnt) _ operand.Post
@@ -184,18 +182,18 @@ unfolding valueOver
     (λ t. product-lts.spec (_, operand.Post, _, next-of.Learnt, _, token-at.Learnt, _, is-factor.Learnt, _, factors.Post) _ product.Post
     (λ c κs. omega arith)
     (λ c κs. search needs)
-    (λ c. row-stops (product-begins _ _ same same same-again _ _ _ (c .before .before .operand .ensures)) (said-stop _ (c .before .next-of .ensures) (c .if1 .taken)))
+    (λ c. row-stops (product-begins _ _ _ _ _ (c .before .before .operand .ensures)) (said-stop _ (c .before .next-of .ensures) (c .if1 .taken)))
     (λ c κs. search needs)
     (λ c κs. search needs)
     (λ c.
     let d = c .before .before in
     let n = d .before .before .before in
-    row-ends (product-begins _ _ same same same-again _ _ _ (n .before .operand .ensures)) (said-value _ (n .next-of .ensures) refl (d .before .before .if1 .left)) (d .token-at .ensures .0) (c .before .is-factor .ensures) (c .if2 .taken))
+    row-ends (product-begins _ _ _ _ _ (n .before .operand .ensures)) (said-value _ (n .next-of .ensures) refl (d .before .before .if1 .left)) (d .token-at .ensures .0) (c .before .is-factor .ensures) (c .if2 .taken))
     (λ c κs. omega arith)
-    (λ c. c .factors .ensures ∙ product-begins _ _ same same same-again _ _ _ (c .before .before .before .before .before .before .before .operand .ensures) .is-whole))
+    (λ c. product-is _ _ _ _ _ (c .before .before .before .before .before .before .before .operand .ensures) (c .factors .ensures)))
     -- row
-    (λ t. row-lts.spec (_, next-of.Learnt, _, token-at.Learnt, _, is-row.Learnt, _, value-of.Learnt, _, sum.Post, _, join-row.Learnt) _ row.Post row-Inv (λ code r cells first w left a₀ turns₀ a turns. turns)
-    (λ c. record { is-whole = refl; is-told = refl })
+    (λ t. row-lts.spec (_, next-of.Learnt, _, token-at.Learnt, _, is-row.Learnt, _, value-of.Learnt, _, sum.Post, _, join-row.Learnt) _ row.Post row-Inv (λ code r cells first w left a₀ rounds₀ a rounds. rounds)
+    (λ c. record { is-whole = refl })
     (λ c κs. search needs)
     (λ c. let i = c .before .before .before .loop in row-stops (i .inv) (said-stop (i .a) (c .before .next-of .ensures) (c .if1 .taken)))
     (λ c κs. search needs)
@@ -216,24 +214,24 @@ unfolding valueOver
     let d = v .before .before .before in
     let n = d .before .before .before in
     let i = n .before .before .loop in
-    row-goes (i .inv) same-again (said-value (i .a) (n .next-of .ensures) (back w32 (record { sfits = v .value-of .ok }) ∙ v .value-of .ensures) (d .before .before .if1 .left)) (d .token-at .ensures .0) (v .before .before .is-row .ensures) (v .before .if2 .left) (omega arith) (c .before .sum .ensures) (c .join-row .ensures))
+    row-goes (i .inv) (said-value (i .a) (n .next-of .ensures) (back w32 (record { sfits = v .value-of .ok }) ∙ v .value-of .ensures) (d .before .before .if1 .left)) (d .token-at .ensures .0) (v .before .before .is-row .ensures) (v .before .if2 .left) (omega arith) (c .before .sum .ensures) (c .join-row .ensures))
     (λ c. row-spent (c .before .loop .inv) (omega arith)))
     -- sum
     (λ t. sum-lts.spec (_, product.Post, _, next-of.Learnt, _, token-at.Learnt, _, is-term.Learnt, _, terms.Post) _ sum.Post
     (λ c κs. omega arith)
     (λ c κs. search needs)
-    (λ c. row-stops (sum-begins _ _ same same same-again _ _ _ (c .before .before .product .ensures)) (said-stop _ (c .before .next-of .ensures) (c .if1 .taken)))
+    (λ c. row-stops (sum-begins _ _ _ _ _ (c .before .before .product .ensures)) (said-stop _ (c .before .next-of .ensures) (c .if1 .taken)))
     (λ c κs. search needs)
     (λ c κs. search needs)
     (λ c.
     let d = c .before .before in
     let n = d .before .before .before in
-    row-ends (sum-begins _ _ same same same-again _ _ _ (n .before .product .ensures)) (said-value _ (n .next-of .ensures) refl (d .before .before .if1 .left)) (d .token-at .ensures .0) (c .before .is-term .ensures) (c .if2 .taken))
+    row-ends (sum-begins _ _ _ _ _ (n .before .product .ensures)) (said-value _ (n .next-of .ensures) refl (d .before .before .if1 .left)) (d .token-at .ensures .0) (c .before .is-term .ensures) (c .if2 .taken))
     (λ c κs. omega arith)
-    (λ c. c .terms .ensures ∙ sum-begins _ _ same same same-again _ _ _ (c .before .before .before .before .before .before .before .product .ensures) .is-whole))
+    (λ c. sum-is _ _ _ _ _ (c .before .before .before .before .before .before .before .product .ensures) (c .terms .ensures)))
     -- terms
-    λ t. terms-lts.spec (_, next-of.Learnt, _, token-at.Learnt, _, is-term.Learnt, _, value-of.Learnt, _, product.Post, _, join-term.Learnt) _ terms.Post terms-Inv (λ code r cells w left a₀ turns₀ a turns. turns)
-    (λ c. record { is-whole = refl; is-told = refl })
+    λ t. terms-lts.spec (_, next-of.Learnt, _, token-at.Learnt, _, is-term.Learnt, _, value-of.Learnt, _, product.Post, _, join-term.Learnt) _ terms.Post terms-Inv (λ code r cells w left a₀ rounds₀ a rounds. rounds)
+    (λ c. record { is-whole = refl })
     (λ c κs. search needs)
     (λ c. let i = c .before .before .before .loop in row-stops (i .inv) (said-stop (i .a) (c .before .next-of .ensures) (c .if1 .taken)))
     (λ c κs. search needs)
@@ -254,5 +252,5 @@ unfolding valueOver
     let d = v .before .before .before in
     let n = d .before .before .before in
     let i = n .before .before .loop in
-    row-goes (i .inv) same-again (said-value (i .a) (n .next-of .ensures) (back w32 (record { sfits = v .value-of .ok }) ∙ v .value-of .ensures) (d .before .before .if1 .left)) (d .token-at .ensures .0) (v .before .before .is-term .ensures) (v .before .if2 .left) (omega arith) (c .before .product .ensures) (c .join-term .ensures))
+    row-goes (i .inv) (said-value (i .a) (n .next-of .ensures) (back w32 (record { sfits = v .value-of .ok }) ∙ v .value-of .ensures) (d .before .before .if1 .left)) (d .token-at .ensures .0) (v .before .before .is-term .ensures) (v .before .if2 .left) (omega arith) (c .before .product .ensures) (c .join-term .ensures))
     (λ c. row-spent (c .before .loop .inv) (omega arith))
