@@ -105,6 +105,6 @@ impl<'a> Session<'a> {
 }
 
 /// A checksum of all bytes that small arithmetic can work.
-fn checksum(bytes: &[u8]) -> u32 {
+pub fn checksum(bytes: &[u8]) -> u32 {
     bytes.iter().fold(0, |sum, byte| (sum * 31 + u32::from(*byte)) % 1_000_003)
 }

@@ -17,6 +17,7 @@ pub mod evaluate;
 pub mod fields;
 pub mod fifo;
 pub mod generate;
+pub mod host_calls;
 pub mod host_line;
 pub mod host_session;
 pub mod large;

@@ -3,12 +3,12 @@
 use crate::control::Control;
 use crate::seen::Seen;
 use crate::slip::Slip;
-use crate::{host_session, synrun};
+use crate::{host_calls, host_session, synrun};
 use std::io::{self, Read, Write};
 use std::path::PathBuf;
-use std::process::{Child, Command, Stdio};
+use std::process::{Child, ChildStdin, ChildStdout, Command, Stdio};
 use std::sync::mpsc;
-use std::thread;
+use std::thread::{self, JoinHandle};
 use std::time::Duration;
 
 /// An external program that runs longer has failed.
@@ -64,46 +64,58 @@ impl External {
             Form::Host => self.host.as_ref()?,
         };
         Some(
-            run_program(program, input).unwrap_or_else(|error| format!("cannot run: {error}\n").into_bytes()),
+            answered(program, form, input)
+                .unwrap_or_else(|error| format!("cannot run: {error}\n").into_bytes()),
         )
     }
 }
 
-fn run_program(program: &PathBuf, input: &[u8]) -> io::Result<Vec<u8>> {
+/// What the program of a form answers; then how it failed, if it did.
+fn answered(program: &PathBuf, form: Form, input: &[u8]) -> io::Result<Vec<u8>> {
     let mut child = Command::new(program).stdin(Stdio::piped()).stdout(Stdio::piped()).spawn()?;
-    feed(&mut child, input.to_vec());
-    let output = collect(&mut child);
-    match output.recv_timeout(PATIENCE) {
-        Err(_) => {
-            child.kill()?;
-            child.wait()?;
-            Ok(b"does not end\n".to_vec())
-        }
-        Ok(mut output) => {
-            let status = child.wait()?;
-            if !status.success() {
-                output.extend(format!("ended with {status}\n").into_bytes());
+    let stdin = child.stdin.take().ok_or(io::ErrorKind::BrokenPipe)?;
+    let stdout = child.stdout.take().ok_or(io::ErrorKind::BrokenPipe)?;
+    let watch = Watch::over(child);
+    let mut printed = match form {
+        Form::Synrun => fed(stdin, stdout, input.to_vec()),
+        Form::Host => host_calls::run(input, stdin, stdout),
+    };
+    printed.extend(watch.failure()?.into_bytes());
+    Ok(printed)
+}
+
+/// What a program prints for an input, which is fed from a thread: the program may end before it has read all.
+fn fed(mut stdin: ChildStdin, mut stdout: ChildStdout, input: Vec<u8>) -> Vec<u8> {
+    thread::spawn(move || stdin.write_all(&input).ok());
+    let mut output = Vec::new();
+    stdout.read_to_end(&mut output).ok();
+    output
+}
+
+/// A thread that ends a program which runs too long.
+struct Watch {
+    done: mpsc::Sender<()>,
+    failure: JoinHandle<io::Result<String>>,
+}
+
+impl Watch {
+    fn over(mut child: Child) -> Watch {
+        let (done, ended) = mpsc::channel();
+        let failure = thread::spawn(move || {
+            if ended.recv_timeout(PATIENCE).is_err() {
+                child.kill()?;
+                child.wait()?;
+                return Ok("does not end\n".into());
             }
-            Ok(output)
-        }
-    }
-}
-
-/// Feeds the input from a thread; a program may end before it has read all.
-fn feed(child: &mut Child, input: Vec<u8>) {
-    if let Some(mut stdin) = child.stdin.take() {
-        thread::spawn(move || stdin.write_all(&input).ok());
-    }
-}
-
-fn collect(child: &mut Child) -> mpsc::Receiver<Vec<u8>> {
-    let (sender, receiver) = mpsc::channel();
-    if let Some(mut stdout) = child.stdout.take() {
-        thread::spawn(move || {
-            let mut output = Vec::new();
-            stdout.read_to_end(&mut output).ok();
-            sender.send(output).ok();
+            let status = child.wait()?;
+            Ok(if status.success() { String::new() } else { format!("ended with {status}\n") })
         });
+        Watch { done, failure }
     }
-    receiver
+
+    /// How the program failed, once its pipes are closed; empty if it did not.
+    fn failure(self) -> io::Result<String> {
+        self.done.send(()).ok();
+        self.failure.join().expect("the watch ends")
+    }
 }

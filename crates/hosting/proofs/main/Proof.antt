@@ -1,4 +1,4 @@
--- `main` is safe: the array that the input is read into has its length.
+-- `main` is safe: the array that the set text is read into has its length.
 use borrow.Author.Needs.{needs}
 use mathlib.Core.Path.{sym}
 use Prim.Native.Nat.{ℕ}
@@ -10,10 +10,8 @@ pub main-spec : {M : Type 1} → statement M
 main-spec =
     tie.close
     (tie.spec
-    (λ c. sym (length-replicate {A = ℕ} 1000000 0))
     (λ c κs. search needs)
-    (λ c. search needs)
+    (λ c. sym (length-replicate {A = ℕ} 16384 0))
     (λ c κs. search needs)
-    (λ c. search needs)
     (λ c κs. search needs)
     (λ c. search needs))

@@ -1,14 +1,16 @@
--- `beats::list_of` ends: a place less is left at each turn.
+-- `requests::list_of` is safe: the list keeps its length; and ends: a place less is left at each turn.
 use borrow.Author.Needs.{needs}
 use Prim.Native.Nat.{_-_}
-use Rattle.hosting.proofs.beats.list_of.Statement.{statement}
-use Rattle.hosting.proofs.beats.list_of.Tie as tie
+use mathlib.Core.Path.{_≡_}
+use lib.ListN.{length}
+use Rattle.hosting.proofs.requests.list_of.Statement.{statement}
+use Rattle.hosting.proofs.requests.list_of.Tie as tie
 
 abbrev Inv-loop : tie.InvT-loop
-Inv-loop line given numbers₀ k₀ numbers k = Unit {0}
+Inv-loop request numbers₀ k₀ numbers k = length numbers ≡ 32
 
 abbrev μ-loop : tie.MeasureT-loop
-μ-loop line given numbers₀ k₀ numbers k = 32 - k
+μ-loop request numbers₀ k₀ numbers k = 32 - k
 
 pub list-of-spec : {M : Type 1} → statement M
 list-of-spec =
@@ -22,7 +24,7 @@ list-of-spec =
     (λ c κs. search needs)
     (λ c κs. search needs)
     (λ c. search needs)
-    (λ c κs. search needs)
+    (λ c. search needs)
     (λ c. search needs)
     (λ c. search needs)
     (λ c. search needs)

@@ -1,0 +1,153 @@
+// The requests of a session: loads, beats, host calls. Each answers by numbers and gives the state after it.
+use crate::numbers::OUT;
+use crate::numbers::REQUEST;
+use crate::numbers::answer;
+use crate::numbers::first;
+use crate::numbers::least;
+use crate::numbers::letter;
+use crate::numbers::value_of;
+use crate::numbers::word;
+use crate::numbers::write;
+use crate::places::dump;
+use crate::places::put;
+use crate::places::with_value;
+use crate::places::write_set;
+use calls::host::Called;
+use calls::host::cancel;
+use calls::host::lock;
+use calls::host::reset;
+use calls::host::unlock;
+use engine::beat::Beaten;
+use engine::beat::beat;
+use reader::load::load;
+use state::state::State;
+use tokens::token::SIZE;
+
+// The byte that fills the order buffer before each beat.
+const FILL: u8 = 170;
+// The bytes that hold the set text.
+pub const TEXT: usize = 16384;
+// The longest list that a beat may be lent, and its place in a request.
+const LIST: usize = 32;
+
+const LIST_AT: usize = 20;
+
+fn first_text(text: &[u8; TEXT], n: u32) -> &[u8] {
+    let all = &text[..];
+    first(all, n as usize)
+}
+
+// Loads the first bytes of the set text; answers code and line.
+fn load_first(request: &[u8; REQUEST], text: &[u8; TEXT], set: &mut [u32; SIZE]) -> State {
+    let l = load(first_text(text, word(request, 4)), set);
+    answer(l.code as u32, l.line, 0);
+    l.state
+}
+
+// ---- beats
+
+fn list_of(request: &[u8; REQUEST]) -> [i32; LIST] {
+    let mut numbers = [0i32; LIST];
+    let mut k: usize = 0;
+    while k < LIST {
+        numbers[k] = value_of(word(request, LIST_AT + 4 * k));
+        k += 1;
+    }
+    numbers
+}
+
+// What a beat is lent: the mode, the input word, the numbers.
+fn is_automatic(request: &[u8; REQUEST]) -> bool {
+    word(request, 4) == 1
+}
+
+fn input_of(request: &[u8; REQUEST]) -> u16 {
+    (word(request, 8) % 65536) as u16
+}
+
+fn lent(list: &[i32], n: u32) -> &[i32] {
+    let from: usize = 0;
+    let count = least(n as usize, list.len());
+    &list[from..count]
+}
+
+// A beat over the lent part of a buffer.
+fn beat_over(
+    request: &[u8; REQUEST],
+    set: &[u32; SIZE],
+    state: State,
+    list: &[i32],
+    buffer: &mut [u8],
+) -> Beaten {
+    let from: usize = 0;
+    let bytes = least(word(request, 12) as usize, buffer.len());
+    beat(
+        set,
+        state,
+        is_automatic(request),
+        input_of(request),
+        list,
+        &mut buffer[from..bytes],
+    )
+}
+
+// Answers code, orders, the word of the lines that acted, and the buffer.
+fn work_beat(request: &[u8; REQUEST], set: &[u32; SIZE], state: State) -> State {
+    let list = list_of(request);
+    let mut buffer = [FILL; OUT];
+    let b = beat_over(
+        request,
+        set,
+        state,
+        lent(&list, word(request, 16)),
+        &mut buffer,
+    );
+    answer(b.code as u32, b.orders, b.acted);
+    write(&buffer, word(request, 12) as usize);
+    b.state
+}
+
+// ---- host calls
+
+// Answers the code.
+fn called(c: Called) -> State {
+    answer(c.code as u32, 0, 0);
+    c.state
+}
+
+// Lock, unlock and cancel of a line; reset.
+fn host_call(request: &[u8; REQUEST], set: &[u32; SIZE], state: State) -> Called {
+    let n = word(request, 4);
+    match letter(request) {
+        b'L' => lock(set, state, n),
+        b'U' => unlock(set, state, n),
+        b'C' => cancel(set, state, n),
+        _ => reset(set, state),
+    }
+}
+
+// ---- requests by their letters
+
+// A request is worked. One of another letter than these is a host call.
+pub fn work(
+    request: &[u8; REQUEST],
+    text: &[u8; TEXT],
+    set: &mut [u32; SIZE],
+    state: State,
+) -> State {
+    match letter(request) {
+        b'N' => load_first(request, text, set),
+        b'B' => work_beat(request, set, state),
+        b'V' => with_value(request, state),
+        b'D' => dump(state),
+        b'P' => {
+            put(request, set);
+            state
+        }
+        b'W' => {
+            write_set(request, set);
+            state
+        }
+        _ => called(host_call(request, set, state)),
+    }
+}
