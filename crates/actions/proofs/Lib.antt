@@ -1,3 +1,2 @@
--- Laws that several proofs cite: HeldLaws on how the code holds a beat under way, ActionLaws on actions.
-pub mod HeldLaws
-pub mod ActionLaws
+-- Laws that several proofs cite: ActionsLaws on actions in a row.
+pub mod ActionsLaws

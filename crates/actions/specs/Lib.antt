@@ -1,3 +1,2 @@
--- Action what the actions of a line make of the beat under way, Held how the code holds it. Definitions only.
-pub mod Action
-pub mod Held
+-- Actions what the actions of a line in a row make of the beat under way. Definitions only.
+pub mod Actions

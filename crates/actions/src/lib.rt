@@ -1,4 +1,4 @@
-// The actions of a line.
+// The actions of a line in a row.
 //
 // No public call asks anything of its caller.
-pub mod action;
+pub mod actions;

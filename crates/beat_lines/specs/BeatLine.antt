@@ -7,7 +7,7 @@ use lib.Dec.{eqb, leb}
 use lib.IntN.{ℤ, pos, negsuc}
 use lib.ListN.{length, take, replicate}
 use Rattle.text.specs.Byte.{bytes, SPACE, isDigit}
-use Rattle.text.specs.Lines.{split}
+use Rattle.lines.specs.Lines.{split}
 use Rattle.words.specs.Word.{sameBytes}
 use Rattle.text.specs.Number.{digitsValue}
 

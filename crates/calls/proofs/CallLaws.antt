@@ -1,80 +1,23 @@
--- Laws of the host's calls: the line that a call names, what a call answers, and the turns of reset's two loops.
+-- Laws of the host's calls: what a call answers, and the turns of reset's two loops.
 use mathlib.Core.Path.{_≡_, refl, sym, ap, _∙_}
 use mathlib.Core.Bool.{Bool, true, false, or-true, or-false}
 use mathlib.Core.List.{List, _++_, append-assoc}
 use Prim.Native.Nat.{ℕ, zero, suc, _+_, _-_, _<_, _≤_}
 use native.Mathlib.Omega.{arith}
 use native.Mathlib.Numerals.{add-one}
-use lib.Dec.{ltb}
 use lib.IntN.{ℤ, pos}
 use lib.ListN.{length, take, drop, getD, set, replicate, length-append, length-replicate, take-append-drop}
 use lib.Seq.{length-take-le, set-getD, getD-set-other}
-use borrow.Author.Tests.{ltb-true, ltb-false, lt-ltb, le-ltb, eq-eqb, ne-eqb}
-use Rattle.buffers.proofs.Lists.{put, replicate-more}
+use borrow.Author.Tests.{eq-eqb, ne-eqb}
+use Rattle.fifo.proofs.Lists.{put, replicate-more}
 use Rattle.code.specs.declared.check.Line.{Line}
 use Rattle.set.specs.declared.set.Lines.{Lines}
 use Rattle.state.specs.declared.state.State.{State}
 use Rattle.calls.specs.declared.host.Called.{Called}
-use Rattle.calls.specs.declared.host.Found.{Found}
-use Rattle.set.specs.Set.{noLine, rankIn, soundLines}
+use Rattle.state.specs.declared.find.Found.{Found}
+use Rattle.set.specs.Set.{noLine, soundLines}
 use Rattle.state.specs.Sound.{isSound}
-use Rattle.calls.specs.Calls.{foundAt, found, called, resetCancelled, zeroed, resetState, resetCall}
-use Rattle.set.proofs.SetLaws.{sound-count}
-
--- ---- the line that a call names
-
-abbrev refused : ℕ → Found
-refused k = record { code = k; rank = 0 }
-
-module _ (count : ℕ) (cancelled : List Bool) (k : ℕ) where
-  at-none : count ≤ k → foundAt count cancelled k ≡ refused 40
-  unfolding foundAt
-  at-none h = rw (foundAt, le-ltb k count h)
-
-  at-cancelled : k < count → getD cancelled k false ≡ true → foundAt count cancelled k ≡ refused 40
-  unfolding foundAt
-  at-cancelled h z = simp (foundAt, lt-ltb k count h, z)
-
-  at-rank : k < count → getD cancelled k false ≡ false → foundAt count cancelled k ≡ record { code = 0; rank = k }
-  unfolding foundAt
-  at-rank h z = simp (foundAt, lt-ltb k count h, z)
-
-module _ (s : List ℕ) (st : State) (n : ℕ) where
-  pub found-unsound : isSound s st ≡ false → found s st n ≡ refused 22
-  unfolding found
-  found-unsound z = rw (found, z)
-
-  -- the lines of the set are l, and the number's rank is k
-  module _ (z : isSound s st ≡ true) (l : Lines) (e : l ≡ soundLines s) (k : ℕ) (g : k ≡ rankIn (l .numbers) n 0) where
-    at : found s st n ≡ foundAt (l .count) (st .cancelled) k
-    unfolding found
-    at = rw (e, g ∙ ap (λ (y : Lines). rankIn (y .numbers) n 0) e) (rw (found, z))
-
-    pub found-none : l .count ≤ k → found s st n ≡ refused 40
-    found-none h = at ∙ at-none (l .count) (st .cancelled) k h
-
-    pub found-cancelled : k < l .count → getD (st .cancelled) k false ≡ true → found s st n ≡ refused 40
-    found-cancelled h c = at ∙ at-cancelled (l .count) (st .cancelled) k h c
-
-    pub found-rank : k < l .count → getD (st .cancelled) k false ≡ false → found s st n ≡ record { code = 0; rank = k }
-    found-rank h c = at ∙ at-rank (l .count) (st .cancelled) k h c
-
--- a rank that was found is below 32
-at-below : (count : ℕ) (cancelled : List Bool) (k : ℕ) → count ≤ 32 → foundAt count cancelled k .rank < 32
-at-below count cancelled k h = go (ltb k count) (getD cancelled k false) refl refl
-  where
-    go : (b d : Bool) → ltb k count ≡ b → getD cancelled k false ≡ d → foundAt count cancelled k .rank < 32
-    go true true e f = rw (at-cancelled count cancelled k (ltb-true k count e) f) (omega arith)
-    go true false e f = let l = ltb-true k count e in rw (at-rank count cancelled k l f) (omega arith)
-    go false d e f = rw (at-none count cancelled k (ltb-false k count e)) (omega arith)
-
-pub found-below : (s : List ℕ) (st : State) (n : ℕ) → found s st n .rank < 32
-unfolding found
-found-below s st n = go (isSound s st) refl
-  where
-    go : (b : Bool) → isSound s st ≡ b → found s st n .rank < 32
-    go true z = rw (found, z) (at-below (soundLines s .count) (st .cancelled) (rankIn (soundLines s .numbers) n 0) (sound-count s))
-    go false z = rw (found, z) (omega arith)
+use Rattle.calls.specs.Calls.{called, resetCancelled, zeroed, resetState, resetCall}
 
 -- ---- what a call answers
 

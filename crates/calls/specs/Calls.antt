@@ -1,20 +1,18 @@
 -- The host's calls lock, unlock, cancel and reset (document 01, "A beat" and "Codes"). Definitions only.
 use mathlib.Core.Bool.{Bool, true, false, not, _||_}
 use mathlib.Core.List.{List, _++_}
-use Prim.Native.Nat.{ℕ, zero, suc, _+_}
-use lib.Dec.{eqb, ltb}
+use Prim.Native.Nat.{ℕ, zero, suc}
+use lib.Dec.{eqb}
 use lib.IntN.{ℤ, pos}
 use lib.ListN.{getD, set, take, drop, replicate}
 use Rattle.code.specs.declared.check.Line.{Line}
 use Rattle.state.specs.declared.state.State.{State}
 use Rattle.calls.specs.declared.host.Called.{Called}
-use Rattle.calls.specs.declared.host.Found.{Found}
+use Rattle.state.specs.declared.find.Found.{Found}
+use Rattle.state.specs.Find.{found}
 use Rattle.tokens.specs.Token.{maxLines}
-use Rattle.set.specs.Set.{noLine, rankIn, soundLines}
+use Rattle.set.specs.Set.{noLine, soundLines}
 use Rattle.state.specs.Sound.{unsoundCode, isSound}
-
-abbrev pub unknownLine : ℕ
-unknownLine = 40
 
 abbrev pub withLocked : State → ℕ → Bool → State
 withLocked st k b = record { r = st .r; cells = st .cells; runs = st .runs; locked = set (st .locked) k b; cancelled = st .cancelled; memory = st .memory }
@@ -29,21 +27,6 @@ withCancelled st k = record {
   cancelled = set (st .cancelled) k true;
   memory = set (st .memory) k false;
 }
-
--- the line that a call names, by its rank: 22, then 40 for a line not in the set or cancelled
-unfoldable pub foundAt : ℕ → List Bool → ℕ → Found
-foundAt count cancelled k =
-    elim (ltb k count) [
-      | true ↦ elim (getD cancelled k false) [ true ↦ record { code = unknownLine; rank = 0 } | false ↦ record { code = 0; rank = k } ]
-      | false ↦ record { code = unknownLine; rank = 0 }
-    ]
-
-unfoldable pub found : List ℕ → State → ℕ → Found
-found s st n =
-    elim (isSound s st) [
-      | true ↦ foundAt (soundLines s .count) (st .cancelled) (rankIn (soundLines s .numbers) n 0)
-      | false ↦ record { code = unsoundCode; rank = 0 }
-    ]
 
 -- the state that `change` gives for its rank; refused, the state as given
 unfoldable pub called : State → Found → (ℕ → State) → Called

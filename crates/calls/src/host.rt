@@ -2,69 +2,25 @@
 ghost use mathlib.Core.Path.{_≡_};
 ghost use Prim.Native.Nat.{_≤_};
 ghost use lib.ListN.{length};
-ghost use Rattle.calls.specs.Calls.{lockCall, unlockCall, cancelCall, resetCancelled, resetCall, found, lockedCall, zeroed};
+ghost use Rattle.calls.specs.Calls.{lockCall, unlockCall, cancelCall, resetCancelled, resetCall, lockedCall, zeroed};
 ghost use Rattle.tokens.specs.Token.{maxLines};
 use set::set::Lines;
-use set::set::rank_in;
 use set::set::sound_lines;
+use state::find::find;
 use state::sound::is_state_sound;
-use state::state::COUNT_AT;
-use state::state::MARKER_AT;
 use state::state::State;
-use state::state::TIMERS;
 use tokens::token::LINES;
 use tokens::token::SIZE;
+use variables::variables::COUNT_AT;
+use variables::variables::MARKER_AT;
+use variables::variables::TIMERS;
 
 pub const UNSOUND: u8 = 22;
-
-pub const UNKNOWN_LINE: u8 = 40;
 
 // What a call answers.
 pub struct Called {
     pub code: u8,
     pub state: State,
-}
-
-// The rank of the line that a call names, or the code that refuses it.
-pub struct Found {
-    pub code: u8,
-    pub rank: usize,
-}
-
-fn find(set: &[u32; SIZE], state: State, n: u32) -> Found
-    ensures { λ x. ⌜ x ≡ found (now (set .entry)) state n ⌝ }
-{
-    let lines = sound_lines(set);
-    let sound = lines.sound;
-    if !sound {
-        return Found {
-            code: UNSOUND,
-            rank: 0,
-        };
-    }
-    let count = lines.count;
-    if !is_state_sound(count, state) {
-        return Found {
-            code: UNSOUND,
-            rank: 0,
-        };
-    }
-    let numbers = lines.numbers;
-    let k = rank_in(&numbers, n);
-    if count <= k {
-        return Found {
-            code: UNKNOWN_LINE,
-            rank: 0,
-        };
-    }
-    let cancelled = state.cancelled;
-    if cancelled[k] {
-        return Found {
-            code: UNKNOWN_LINE,
-            rank: 0,
-        };
-    }
-    Found { code: 0, rank: k }
 }
 
 fn set_lock(set: &[u32; SIZE], state: State, n: u32, on: bool) -> Called

@@ -11,9 +11,9 @@ use borrow.Author.Tests.{eqb-true, leb-true}
 use Rattle.values.specs.Choice.{both}
 use Rattle.tokens.specs.Token.{ID, IDS, isId, EQUALS, OPEN, CLOSE, MINUS, LEFT, RIGHT, X, W, NUMBER, hasAxis, isAxis, isWhole, between}
 use Rattle.tokens.specs.Reading.{isIndex, isIndexed}
-use Rattle.tokens.specs.SingleFault.{bracketsOpen, opensTooMany}
+use Rattle.faults.specs.SingleFault.{bracketsOpen, opensTooMany}
 use Rattle.tokens.proofs.Between.{inside}
-use Rattle.tokens.proofs.BracketLaws.{bracket-open, bracket-close, bracket-other}
+use Rattle.faults.proofs.BracketLaws.{bracket-open, bracket-close, bracket-other}
 use Rattle.code.specs.Seen.{nextOf, depthOf, signsBehind}
 use Rattle.code.specs.Brackets.{Plain, CountsOn, InGrammar, Counted, Onward, InBrackets, SameEnd, Joined}
 

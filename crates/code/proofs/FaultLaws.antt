@@ -11,7 +11,7 @@ use Rattle.code.specs.declared.check.Line.{Line}
 use Rattle.tokens.specs.Token.{setSize, FIFO1, FIFO4, END, EQUALS, OPEN, CLOSE, IDS, DO, M, isFactor, isTerm, isFifo, isCall, isKeyword, isWhole, whole}
 use Rattle.tokens.specs.Reading.{Read, read, ends, then, isIndexed, indexAt, expressionAt}
 use Rattle.code.specs.Fault.{sight, faultFor, isRemoval, assignmentAt, commandAt, actionAt, countFault, actionsAt, numberOf, faultyLine, judged, lineParts, bodyAt, restAt}
-use Rattle.tokens.specs.SingleFault.{notInGrammar, tooDeep, lower, codeFault, callFault, opensTooMany}
+use Rattle.faults.specs.SingleFault.{notInGrammar, tooDeep, lower, codeFault, callFault, opensTooMany}
 use Rattle.values.specs.Choice.{both, chosen, refused}
 use Rattle.tokens.proofs.Between.{tested}
 use Rattle.code.specs.Seen.{nextOf, faultOf, faulted, bodyFrom}

@@ -7,7 +7,7 @@ use lib.Dec.{eqb}
 use borrow.Author.Tests.{eqb-true, eq-eqb, ne-eqb}
 use Rattle.tokens.specs.Token.{setSize, SAME, ATLEAST, PLUS, MINUS, TIMES, OVER, AND, XOR, isFactor, isTerm, isCompare, isLogic}
 use Rattle.tokens.specs.Reading.{Read, read, ends, then}
-use Rattle.tokens.specs.SingleFault.{notInGrammar, lower, wantingFault}
+use Rattle.faults.specs.SingleFault.{notInGrammar, lower, wantingFault}
 use Rattle.tokens.proofs.Answers as answers
 use Rattle.tokens.proofs.Between.{inside, outside}
 use Rattle.code.specs.Fault.{Sight, joinSights, faultFor, lowest}

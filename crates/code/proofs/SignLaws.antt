@@ -9,7 +9,7 @@ use lib.ListN.{getD}
 use borrow.Author.Tests.{eqb-true, eq-eqb, ne-eqb}
 use Rattle.tokens.specs.Token.{MINUS}
 use Rattle.tokens.specs.Reading.{Read, read, ends, then, readOperand}
-use Rattle.tokens.specs.SingleFault.{lower, wantingFault}
+use Rattle.faults.specs.SingleFault.{lower, wantingFault}
 use Rattle.code.specs.Fault.{Sight, sight}
 use Rattle.code.specs.Seen.{signedSight, signsBehind}
 use Rattle.tokens.proofs.Arms.{minus-arm}

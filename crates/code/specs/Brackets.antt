@@ -4,7 +4,7 @@ use mathlib.Core.List.{List}
 use Prim.Native.Nat.{ℕ, _+_, _≤_}
 use lib.ListN.{drop, getD}
 use Rattle.tokens.specs.Token.{END, OPEN, CLOSE}
-use Rattle.tokens.specs.SingleFault.{bracketsOpen, opensTooMany}
+use Rattle.faults.specs.SingleFault.{bracketsOpen, opensTooMany}
 use Rattle.code.specs.Seen.{nextOf, depthOf}
 
 -- a token that the count passes over

@@ -7,7 +7,7 @@ use lib.ListN.{drop}
 use Rattle.code.specs.declared.check.Line.{Line}
 use Rattle.tokens.specs.Token.{setSize, END, EQUALS, OPEN, CLOSE, IDS, DO, M, isVariable, isFifo, isDrive, isCall, isKeyword, isId, isFactor, isTerm, isLogic, isWhole, whole, maxActions}
 use Rattle.tokens.specs.Reading.{token, good, Read, read, ends, then, Meaning, isIndexed, indexAt, sumAt, expressionAt}
-use Rattle.tokens.specs.SingleFault.{callFault, codeFault, idFault, lower, notInGrammar, numberFault, opensTooMany, readFault, tooDeep, tooMany, unless, wantingFault, writeFault}
+use Rattle.faults.specs.SingleFault.{callFault, codeFault, idFault, lower, notInGrammar, numberFault, opensTooMany, readFault, tooDeep, tooMany, unless, wantingFault, writeFault}
 
 -- ---- 5 to 8 in an expression
 

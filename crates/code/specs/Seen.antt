@@ -6,7 +6,7 @@ use lib.Dec.{eqb}
 use lib.ListN.{getD}
 use Rattle.tokens.specs.Token.{room, MINUS}
 use Rattle.tokens.specs.Reading.{Read, read, ends}
-use Rattle.tokens.specs.SingleFault.{notInGrammar}
+use Rattle.faults.specs.SingleFault.{notInGrammar}
 use Rattle.code.specs.declared.check.Line.{Line}
 use Rattle.code.specs.Fault.{Sight, signed, bodyAt, faultyLine}
 

@@ -12,7 +12,8 @@ use Rattle.tokens.specs.Token.{END, M, SETAL, LOCK, isVariable, isDrive, whole,
 use Rattle.tokens.specs.Reading.{Answer, good, stop, _>>=_, indexAt}
 use Rattle.working.specs.Working.{rightValue}
 use Rattle.set.specs.Set.{rankIn}
-use Rattle.actions.specs.Action.{World, Note, Did, fromGot, takenAt, assignmentOf, lockOf, commandOf, driveOf, actionOf, actionsOf}
+use Rattle.action.specs.Action.{World, Note, Did, fromGot, takenAt, assignmentOf, lockOf, commandOf, driveOf, actionOf}
+use Rattle.actions.specs.Actions.{actionsOf}
 use Rattle.writing.specs.Drive.{driveOrder}
 use Rattle.writing.specs.Write.{writeTo}
 use Rattle.soundness.specs.GoodAnswers.{Ok, is-ok, bind-ok}

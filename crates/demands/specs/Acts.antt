@@ -5,9 +5,10 @@ use Prim.Native.Nat.{ℕ, _/_, _%_, _^_}
 use lib.Dec.{eqb}
 use lib.IntN.{ℤ}
 use Rattle.tokens.specs.Reading.{Answer, good, stop}
-use Rattle.working.specs.Working.{isYes, conditionValue}
+use Rattle.operators.specs.Operators.{isYes}
+use Rattle.working.specs.Working.{conditionValue}
 use Rattle.code.specs.declared.check.Line.{Line}
-use Rattle.actions.specs.Action.{World, fromGot}
+use Rattle.action.specs.Action.{World, fromGot}
 use Rattle.demands.specs.Record.{Record, takesByRule, triesByRule, actsByRule}
 use Rattle.soundness.specs.Call.{Call, doBeat, doLock, doUnlock, doCancel, doReset}
 use Rattle.demands.specs.Run.{Reply}

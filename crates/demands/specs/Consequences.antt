@@ -13,19 +13,22 @@ use Rattle.values.specs.Numbers.{clash}
 use Rattle.values.specs.Choice.{either}
 use Rattle.tokens.specs.Token.{WHEN, EVERY}
 use Rattle.tokens.specs.Reading.{Answer, good, stop, _>>=_}
-use Rattle.working.specs.Working.{isYes, conditionValue}
+use Rattle.operators.specs.Operators.{isYes}
+use Rattle.working.specs.Working.{conditionValue}
 use Rattle.code.specs.declared.check.Line.{Line}
 use Rattle.set.specs.declared.set.Lines.{Lines}
 use Rattle.state.specs.declared.state.State.{State}
-use Rattle.calls.specs.declared.host.Found.{Found}
+use Rattle.state.specs.declared.find.Found.{Found}
 use Rattle.calls.specs.declared.host.Called.{Called}
 use Rattle.set.specs.Set.{noLine, soundLines}
 use Rattle.state.specs.Sound.{isSound}
 use Rattle.writing.specs.Write.{Vars}
-use Rattle.actions.specs.Action.{World, Note, Did, fromGot, actionsOf}
+use Rattle.action.specs.Action.{World, Note, Did, fromGot}
+use Rattle.actions.specs.Actions.{actionsOf}
 use Rattle.turns.specs.Turn.{Entry, beatIn, worked, locks, cancels, resets, Turned, counted, doTurn, turnsFrom}
 use Rattle.engine.specs.Beat.{bufferSize, areInputs, begun, beatOf, answered, beatAnswer}
-use Rattle.calls.specs.Calls.{withLocked, found, called, lockedCall, lockCall, unlockCall}
+use Rattle.state.specs.Find.{found}
+use Rattle.calls.specs.Calls.{withLocked, called, lockedCall, lockCall, unlockCall}
 use Rattle.set.proofs.SetLaws.{sound-count}
 use Rattle.demands.specs.Record.{Record, after, isAutomatic, everTrue, wasTrue, takesByRule, triesByRule, actsByRule}
 use Rattle.soundness.specs.Call.{Call, doBeat, doLock, doUnlock, doCancel, doReset}

@@ -13,7 +13,7 @@ use Rattle.values.specs.Choice.{either}
 use Rattle.tokens.specs.Reading.{Answer, good, stop, _>>=_}
 use Rattle.set.specs.declared.set.Lines.{Lines}
 use Rattle.state.specs.declared.state.State.{State}
-use Rattle.calls.specs.declared.host.Found.{Found}
+use Rattle.state.specs.declared.find.Found.{Found}
 use Rattle.calls.specs.declared.host.Called.{Called}
 use Rattle.set.specs.Set.{noLine, soundLines}
 use Rattle.state.specs.State.{powerOn}
@@ -21,7 +21,8 @@ use Rattle.state.specs.Sound.{unsoundCode, isSound}
 use Rattle.writing.specs.Write.{Vars}
 use Rattle.turns.specs.Turn.{Entry, beatIn, locks, cancels, resets, Turned}
 use Rattle.engine.specs.Beat.{bufferSize, areInputs, begun, ended, beatOf, answered, buffered, beatAnswer, beatBuffer}
-use Rattle.calls.specs.Calls.{unknownLine, withLocked, withCancelled, foundAt, found, called, lockedCall, lockCall, unlockCall, cancelCall, resetState, resetCall}
+use Rattle.state.specs.Find.{unknownLine, foundAt, found}
+use Rattle.calls.specs.Calls.{withLocked, withCancelled, called, lockedCall, lockCall, unlockCall, cancelCall, resetState, resetCall}
 use Rattle.set.proofs.SetLaws.{sound-count}
 use Rattle.demands.specs.Record.{Record, after, isCancelled, isLocked}
 use Rattle.soundness.specs.Call.{Call, doBeat, doLock, doUnlock, doCancel, doReset}

@@ -13,7 +13,7 @@ use Rattle.tokens.specs.Token.{WHEN, FROM, EVERY, maxLines}
 use Rattle.set.specs.declared.set.Lines.{Lines}
 use Rattle.set.specs.Set.{noLine}
 use Rattle.turns.specs.Turn.{worked, locks, cancels, resets}
-use Rattle.state.specs.Keyword.{remembers}
+use Rattle.keyword.specs.Keyword.{remembers}
 use Rattle.calls.specs.Calls.{resetCancelled}
 use Rattle.demands.specs.Record.{Record, only, orElse, isCancelled, isLocked, wasTrue, everTrue}
 use Rattle.demands.specs.Run.{ranks, byRank, cancelledBy, lockedBy, remembersBy, memoryBy}

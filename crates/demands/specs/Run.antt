@@ -8,7 +8,8 @@ use lib.IntN.{ℤ}
 use lib.ListN.{length, getD, drop}
 use Rattle.tokens.specs.Token.{WHEN, FROM, EVERY, maxLines}
 use Rattle.tokens.specs.Reading.{Answer, good, stop, _>>=_}
-use Rattle.working.specs.Working.{isYes, conditionValue}
+use Rattle.operators.specs.Operators.{isYes}
+use Rattle.working.specs.Working.{conditionValue}
 use Rattle.code.specs.declared.check.Line.{Line}
 use Rattle.set.specs.declared.set.Lines.{Lines}
 use Rattle.state.specs.declared.state.State.{State}
@@ -19,10 +20,11 @@ use Rattle.state.specs.State.{powerOn}
 use Rattle.engine.specs.Cells.{inputCount, beatCells}
 use Rattle.state.specs.Sound.{unsoundCode, isSound}
 use Rattle.writing.specs.Write.{Vars}
-use Rattle.actions.specs.Action.{World, fromGot}
+use Rattle.action.specs.Action.{World, fromGot}
 use Rattle.turns.specs.Turn.{Entry, beatIn, worked, locks, cancels, resets, Turned, doTurn}
 use Rattle.engine.specs.Beat.{shortBuffer, wrongNumbers, bufferSize, areInputs, beatOf, buffered, beatAnswer, beatBuffer}
-use Rattle.calls.specs.Calls.{unknownLine, lockCall, unlockCall, cancelCall, resetState, resetCall}
+use Rattle.state.specs.Find.{unknownLine}
+use Rattle.calls.specs.Calls.{lockCall, unlockCall, cancelCall, resetState, resetCall}
 use Rattle.soundness.specs.Call.{Call, doBeat, doLock, doUnlock, doCancel, doReset}
 use Rattle.demands.specs.Record.{Record, after, isCancelled, isLocked, wasTrue, everTrue, isAutomatic, takesByRule, triesByRule, actsByRule}
 

@@ -1,3 +1,2 @@
--- Laws that the proofs of the functions cite: LineLaws on the lines and tokens of a text, DraftLaws on the draft.
-pub mod LineLaws
+-- Laws that the proofs of the functions cite: DraftLaws on the draft.
 pub mod DraftLaws

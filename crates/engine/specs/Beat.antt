@@ -11,7 +11,7 @@ use Rattle.engine.specs.declared.beat.Beaten.{Beaten}
 use Rattle.set.specs.Set.{soundLines}
 use Rattle.engine.specs.Cells.{inputCount, beatCells}
 use Rattle.state.specs.Sound.{unsoundCode, isSound, allRanged}
-use Rattle.actions.specs.Action.{World}
+use Rattle.action.specs.Action.{World}
 use Rattle.turns.specs.Turn.{beatIn, Turned, turnsFrom}
 
 abbrev pub shortBuffer : ℕ

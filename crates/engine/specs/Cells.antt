@@ -5,7 +5,7 @@ use Prim.Native.Nat.{ℕ, zero, suc, _+_, _/_, _%_, _^_}
 use lib.Dec.{eqb}
 use lib.IntN.{ℤ, pos}
 use Rattle.values.specs.Value.{unit}
-use Rattle.state.specs.Timers.{grownCells}
+use Rattle.variables.specs.Timers.{grownCells}
 
 abbrev pub inputCount : ℕ
 inputCount = 30

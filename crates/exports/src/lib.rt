@@ -8,8 +8,8 @@ ghost use Rattle.exports.specs.Packed.{packed, packedLoad};
 use code::check;
 use reader::load;
 use tokens::token::SIZE;
-use working::variables::CELLS;
-use working::variables::RS;
+use variables::variables::CELLS;
+use variables::variables::RS;
 use working::work;
 use working::work::Got;
 

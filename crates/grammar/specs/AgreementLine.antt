@@ -14,7 +14,7 @@ use Rattle.tokens.specs.Token.{setSize, END, EQUALS, LEFT, RIGHT, DO, IM, isVar
 use Rattle.grammar.specs.Tree.{variable, product, noFactor, Sum, sum, noTerm, Action, assign, assignPosition, drive, code, call, Condition, always, under, Line, line, sumTokens, actionTokens, actionsTokens, conditionTokens, lineTokens}
 use Rattle.tokens.specs.Reading.{token, Read, read, ends, isIndexed, indexAt, sumAt, expressionAt}
 use Rattle.grammar.specs.Meaning.{Stands}
-use Rattle.tokens.specs.SingleFault.{tooDeep, notInGrammar, lower, opensTooMany}
+use Rattle.faults.specs.SingleFault.{tooDeep, notInGrammar, lower, opensTooMany}
 use Rattle.code.specs.Fault.{Sight, sight, faultFor, isRemoval, assignedAt, assignmentAt, commandAt, actionAt, actionsAt, lineParts, bodyAt, restAt, lineAt}
 use Rattle.grammar.specs.TreeFault.{lineFault, Proper, partsFrom, toldFrom}
 use Rattle.grammar.specs.AgreementLaws.{bounds, within, ends-read, then-read, stands-join, whole-written, number-written, axis-written, variable-kind}

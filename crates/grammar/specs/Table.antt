@@ -6,7 +6,7 @@ use Rattle.tokens.specs.Token.{END, EQUALS, SAME, LESS, MORE, ATLEAST, PLUS, TI
 use Rattle.tokens.specs.Reading.{isIndex, indexOf, isIndexed, indexAt, joined, more, readProduct, readSum, readRest, readExpression, readClose, readVariable, readTruth, operandFrom, readOperand, sumAt, expressionAt}
 use Rattle.tokens.specs.Index.{isInside}
 use Rattle.code.specs.Fault.{lineAt, restAt, bodyAt, lineParts, actionsAt, actionAt, assignmentAt, commandAt, countFault, numberOf, assignedAt, isRemoval, sight, joinSights}
-use Rattle.tokens.specs.SingleFault.{idFault, opensTooMany, wantingFault, writeFault, isWritable, codeFault, callFault, readFault, numberFault, lower}
+use Rattle.faults.specs.SingleFault.{idFault, opensTooMany, wantingFault, writeFault, isWritable, codeFault, callFault, readFault, numberFault, lower}
 
 -- the tokens of a number without and with a point, the second by its thousandths
 abbrev pub n : ℕ → ℕ

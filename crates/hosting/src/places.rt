@@ -5,14 +5,14 @@ use crate::numbers::put_word;
 use crate::numbers::value_of;
 use crate::numbers::word;
 use crate::numbers::write;
-use buffers::order::twos_complement;
-use state::state::STATE_CELLS;
+use orders::order::twos_complement;
 use state::state::State;
-use state::state::TIMERS;
 use tokens::token::LINES;
 use tokens::token::SIZE;
 use tokens::token::token_at;
-use working::variables::RS;
+use variables::variables::RS;
+use variables::variables::STATE_CELLS;
+use variables::variables::TIMERS;
 
 // The places of a set that are answered at once.
 const PLACES: usize = 1024;

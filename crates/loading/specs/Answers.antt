@@ -14,7 +14,7 @@ use Rattle.values.specs.Numbers.{clash}
 use Rattle.values.specs.Unique.{unique}
 use Rattle.code.specs.declared.check.Line.{Line as Told}
 use Rattle.tokens.specs.Token.{END, setSize, maxLines, textSize}
-use Rattle.tokens.specs.SingleFault.{tooDeep, notInGrammar, opensTooMany}
+use Rattle.faults.specs.SingleFault.{tooDeep, notInGrammar, opensTooMany}
 use Rattle.code.specs.Fault.{lineAt}
 use Rattle.grammar.specs.TreeFault.{lineFault, Proper}
 use Rattle.grammar.specs.TreeFaultLaws.{line-proper}
@@ -22,10 +22,11 @@ use Rattle.grammar.specs.AgreementLine.{line-found, line-fault}
 use Rattle.set.specs.Set.{isKnown, emptySet}
 use Rattle.state.specs.State.{powerOn}
 use Rattle.text.specs.Byte.{run}
-use Rattle.words.specs.Tokens.{Tokens, tokensOf}
-use Rattle.text.specs.Lines.{Numbered, tokenLines, numbered, bodies, split, withoutComment, isBlank}
+use Rattle.scan.specs.Tokens.{Tokens, tokensOf}
+use Rattle.lines.specs.Lines.{Numbered, tokenLines, numbered, bodies, split, withoutComment, isBlank}
 use Rattle.reader.specs.declared.load.Loaded.{Loaded}
-use Rattle.draft.specs.Row.{Row, ended, byNumber, setOf, numbersOf}
+use Rattle.draft.specs.Row.{Row, byNumber, setOf, numbersOf}
+use Rattle.token_lines.specs.LineTokens.{ended}
 use Rattle.reader.specs.Load.{Outcome, taken, refused, numberIn, tokensFault, faultBelow, rowOf, rowsFrom, firstUnknown, named, outcome, loadAnswer, loadSet}
 use Rattle.draft.specs.Codes.{tooLong, tooManyLines, notInSet}
 use Rattle.reader.specs.RisingLaws.{next-row}

@@ -10,9 +10,10 @@ use Rattle.values.specs.Choice.{choice, chosen, refused as not-chosen}
 use Rattle.values.specs.Numbers.{clash}
 use Rattle.tokens.specs.Token.{setSize, maxLines, textSize}
 use Rattle.set.specs.Set.{namesKnown}
-use Rattle.words.specs.Tokens.{tokensOf}
-use Rattle.text.specs.Lines.{Numbered, tokenLines}
-use Rattle.draft.specs.Row.{Row, ended, numbersOf}
+use Rattle.scan.specs.Tokens.{tokensOf}
+use Rattle.lines.specs.Lines.{Numbered, tokenLines}
+use Rattle.draft.specs.Row.{Row, numbersOf}
+use Rattle.token_lines.specs.LineTokens.{ended}
 use Rattle.reader.specs.Load.{taken, refused, faultBelow, rowOf, rowsFrom, firstUnknown, outcome, loadAnswer}
 use Rattle.draft.specs.Codes.{tooLong, tooManyLines, notInSet}
 use Rattle.reader.specs.RisingLaws.{next-row}

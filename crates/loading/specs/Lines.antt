@@ -10,8 +10,9 @@ use Rattle.grammar.specs.Meaning.{Stands}
 use Rattle.grammar.specs.AgreementLaws.{stands-place}
 use Rattle.grammar.specs.TreeFault.{lineFault, partsFrom}
 use Rattle.set.specs.Set.{lineCount, lineOf}
-use Rattle.text.specs.Lines.{tokenLines}
-use Rattle.draft.specs.Row.{Row, ended, noRow, byNumber, setOf}
+use Rattle.lines.specs.Lines.{tokenLines}
+use Rattle.draft.specs.Row.{Row, noRow, byNumber, setOf}
+use Rattle.token_lines.specs.LineTokens.{ended}
 use Rattle.reader.specs.Load.{taken, rowOf, outcome, loadSet}
 use Rattle.loading.specs.Plain.{plainTree}
 use Rattle.loading.specs.Answers.{taken-answer}

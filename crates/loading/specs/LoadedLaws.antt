@@ -11,7 +11,7 @@ use Rattle.tokens.specs.Token.{setSize, maxLines}
 use Rattle.set.specs.declared.set.Lines.{Lines}
 use Rattle.set.specs.Set.{rankIn, isKnown, soundLines}
 use Rattle.soundness.specs.SetLaws.{rank-number}
-use Rattle.text.specs.Lines.{tokenLines}
+use Rattle.lines.specs.Lines.{tokenLines}
 use Rattle.draft.specs.Row.{Row, numbersOf, total, noRow, byNumber, setOf}
 use Rattle.reader.specs.Load.{taken, outcome}
 use Rattle.reader.specs.RisingLaws.{Apart, number-at, numbers-length, taken-apart}

@@ -9,9 +9,11 @@ use Rattle.tokens.specs.Token.{END, setSize, maxLines}
 use Rattle.grammar.specs.Meaning.{Stands}
 use Rattle.set.specs.Set.{emptySet}
 use Rattle.reader.specs.PlaceLaws.{stands-same}
-use Rattle.draft.specs.PutLaws.{put-length, put-before}
+use Rattle.text.specs.PutLaws.{put-length, put-before}
 use Rattle.reader.specs.StandLaws.{put-stands}
-use Rattle.draft.specs.Row.{Row, ended, total, plain, putAt, placed, firstPlace, setOf}
+use Rattle.draft.specs.Row.{Row, total, plain, placed, firstPlace, setOf}
+use Rattle.token_lines.specs.LineTokens.{ended}
+use Rattle.text.specs.PutAt.{putAt}
 
 -- ---- lines that are placed
 

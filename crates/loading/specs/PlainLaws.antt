@@ -13,7 +13,7 @@ use Rattle.grammar.specs.Tree.{Operand, number, variable, position, truth, brac
 use Rattle.tokens.specs.Reading.{Answer, good, stop, _>>=_, Meaning}
 use Rattle.grammar.specs.Meaning.{operandMeaning, productMeaning, factorsMeaning, sumMeaning, termsMeaning, expressionMeaning, sumsMeaning}
 use Rattle.code.specs.Fault.{sight}
-use Rattle.tokens.specs.SingleFault.{numberFault}
+use Rattle.faults.specs.SingleFault.{numberFault}
 use Rattle.working.specs.Working.{valueOver}
 use Rattle.grammar.specs.TreeFault.{rightFault, isFifoZero, isAlone, isRemovalTree, assignedFault, actionFault, actionsFault, keywordOf, conditionFault, lineFault}
 use Rattle.grammar.specs.AgreementLaws.{bounds}

@@ -12,10 +12,11 @@ use Rattle.values.specs.Numbers.{clash}
 use Rattle.tokens.specs.Token.{setSize, AllReal, maxLines, textSize}
 use Rattle.code.specs.Fault.{lineAt}
 use Rattle.set.specs.Set.{namesKnown}
-use Rattle.words.specs.Tokens.{tokensOf}
-use Rattle.words.specs.TokensLaws.{tokens-real}
-use Rattle.text.specs.Lines.{Numbered, textLines, bodies, isBlank, numbered, tokenLines}
-use Rattle.draft.specs.Row.{Row, ended, numbersOf, total, noRow}
+use Rattle.scan.specs.Tokens.{tokensOf}
+use Rattle.scan.specs.TokensLaws.{tokens-real}
+use Rattle.lines.specs.Lines.{Numbered, textLines, bodies, isBlank, numbered, tokenLines}
+use Rattle.draft.specs.Row.{Row, numbersOf, total, noRow}
+use Rattle.token_lines.specs.LineTokens.{ended}
 use Rattle.reader.specs.RisingLaws.{next-row, no-fault}
 use Rattle.reader.specs.Load.{Outcome, taken, refused, rowOf, rowsFrom, firstUnknown, named, outcome}
 

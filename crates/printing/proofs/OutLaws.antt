@@ -7,8 +7,8 @@ use native.Mathlib.Numerals.{add-one}
 use borrow.Author.Tests.{lt-ltb, le-ltb, le-leb, lt-leb}
 use lib.ListN.{length, getD, set, drop, length-append, drop-of-length-le}
 use lib.Seq.{set-out, drop-cons, append-snoc, getD-drop, drop-drop}
-use Rattle.draft.specs.Row.{putAt}
-use Rattle.draft.specs.PutLaws.{put-join}
+use Rattle.text.specs.PutAt.{putAt}
+use Rattle.text.specs.PutLaws.{put-join}
 use Rattle.printing.specs.Output.{digitsUp, decimal, fourOf, signedText, orderLine, orderLines}
 use Rattle.printing.specs.Put.{IsPut, furthest, inReach}
 

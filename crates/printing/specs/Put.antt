@@ -5,7 +5,7 @@ use mathlib.Core.List.{List, []}
 use lib.Dec.{leb}
 use Prim.Native.Nat.{ℕ, _+_}
 use lib.ListN.{length}
-use Rattle.draft.specs.Row.{putAt}
+use Rattle.text.specs.PutAt.{putAt}
 
 -- a text is put into a buffer at a place, past whose end nothing is written; the place behind the text is `end`
 pub record IsPut (buffer : List ℕ) (at : ℕ) (text exit : List ℕ) (end : ℕ) : Type 0 where

@@ -6,7 +6,7 @@ ghost use lib.ListN.{getD, drop};
 ghost use Rattle.printing.specs.Output.{digitsUp, decimal, fourOf, signedText, loadLine, errorLine, codeLine, orderLine, orderLines, endLine};
 ghost use Rattle.printing.specs.Put.{IsPut, inReach};
 use crate::out::put;
-use buffers::order::ORDER_BYTES;
+use orders::order::ORDER_BYTES;
 use text::bytes::LF;
 use text::bytes::SPACE;
 

@@ -10,12 +10,15 @@ use borrow.Author.Tests.{ltb-false}
 use Rattle.values.specs.Choice.{eitherBoth}
 use Rattle.tokens.specs.Token.{setSize, maxLines, textSize}
 use Rattle.set.specs.Set.{namesKnown, emptySet}
-use Rattle.text.specs.Lines.{Numbered, tokenLines}
+use Rattle.lines.specs.Lines.{Numbered, tokenLines}
 use Rattle.reader.specs.declared.load.Loaded.{Loaded}
-use Rattle.draft.specs.Row.{Row, ended, numbersOf, total, leastAbove, noRow, rising, byNumber, plain, putAt, placed, firstPlace, setOf}
+use Rattle.draft.specs.Row.{Row, numbersOf, total, leastAbove, noRow, rising, byNumber, plain, placed, firstPlace, setOf}
+use Rattle.token_lines.specs.LineTokens.{ended}
+use Rattle.text.specs.PutAt.{putAt}
 use Rattle.draft.specs.Codes.{notInSet}
 use Rattle.reader.specs.Load.{Outcome, taken, refused, rowsFrom, firstUnknown, named, outcome, loadAnswer, loadSet}
-use Rattle.draft.specs.Draft.{Drafted, noDraft, draftOf}
+use Rattle.draft.specs.Draft.{Drafted, noDraft}
+use Rattle.text_draft.specs.TextDraft.{draftOf}
 use Rattle.ranking.specs.Arrange.{unknownFrom, lineIn, arranged, arrangedSet, unknownIn}
 use Rattle.reader.specs.DraftLoad.{answered, draftAnswer, draftSet, workedAnswer, workedSet}
 use Rattle.reader.specs.PlaceLaws.{stands-self, names-same}

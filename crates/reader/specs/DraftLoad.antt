@@ -7,10 +7,11 @@ use lib.ListN.{length}
 use Rattle.tokens.specs.Token.{maxLines, textSize}
 use Rattle.set.specs.Set.{emptySet}
 use Rattle.state.specs.State.{powerOn}
-use Rattle.text.specs.Lines.{tokenLines}
+use Rattle.lines.specs.Lines.{tokenLines}
 use Rattle.reader.specs.declared.load.Loaded.{Loaded}
 use Rattle.draft.specs.Codes.{tooLong, tooManyLines, notInSet}
-use Rattle.draft.specs.Draft.{Drafted, draftOf}
+use Rattle.draft.specs.Draft.{Drafted}
+use Rattle.text_draft.specs.TextDraft.{draftOf}
 use Rattle.ranking.specs.Arrange.{arrangedSet, unknownIn}
 
 abbrev pub answered : ℕ → ℕ → Loaded

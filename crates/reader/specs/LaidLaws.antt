@@ -14,17 +14,20 @@ use Rattle.grammar.specs.Meaning.{Stands}
 use Rattle.grammar.specs.LineTokens.{Closed}
 use Rattle.code.specs.Fault.{lineAt}
 use Rattle.set.specs.Set.{isKnown}
-use Rattle.words.specs.Tokens.{Tokens, tokensOf}
-use Rattle.words.specs.TokensLaws.{tokens-real}
-use Rattle.text.specs.Lines.{Numbered}
+use Rattle.scan.specs.Tokens.{Tokens, tokensOf}
+use Rattle.scan.specs.TokensLaws.{tokens-real}
+use Rattle.lines.specs.Lines.{Numbered}
 use Rattle.draft.specs.declared.draft.Draft.{Draft}
-use Rattle.draft.specs.Row.{Row, ended, numbersOf, total, noRow, putAt, firstPlace}
+use Rattle.draft.specs.Row.{Row, numbersOf, total, noRow, firstPlace}
+use Rattle.token_lines.specs.LineTokens.{ended}
+use Rattle.text.specs.PutAt.{putAt}
 use Rattle.draft.specs.Codes.{badToken, usedAbove}
 use Rattle.reader.specs.Load.{numberIn, tokensFault, faultBelow, Outcome, taken, refused, rowOf, rowsFrom}
-use Rattle.draft.specs.Draft.{Drafted, refusedAt, grownBy, keptLine, addedLine, draftFrom}
+use Rattle.draft.specs.Draft.{Drafted, refusedAt, grownBy, keptLine, addedLine}
+use Rattle.text_draft.specs.TextDraft.{draftFrom}
 use Rattle.ranking.specs.Arrange.{lineIn}
 use Rattle.reader.specs.PlaceLaws.{stands-self, stands-same, up-to-end, line-same, faultless-closed}
-use Rattle.draft.specs.PutLaws.{put-length, put-before}
+use Rattle.text.specs.PutLaws.{put-length, put-before}
 use Rattle.reader.specs.StandLaws.{put-stands}
 use Rattle.reader.specs.RisingLaws.{number-at, numbers-length}
 use Rattle.reader.specs.RoomLaws.{roomOf, total-last}

@@ -8,10 +8,11 @@ use Rattle.code.specs.Fault.{lineAt}
 use Rattle.tokens.specs.Token.{setSize, maxLines, textSize}
 use Rattle.set.specs.Set.{isKnown, namesKnown, emptySet}
 use Rattle.state.specs.State.{powerOn}
-use Rattle.words.specs.Tokens.{Tokens, tokensOf}
-use Rattle.text.specs.Lines.{Numbered, tokenLines}
+use Rattle.scan.specs.Tokens.{Tokens, tokensOf}
+use Rattle.lines.specs.Lines.{Numbered, tokenLines}
 use Rattle.reader.specs.declared.load.Loaded.{Loaded}
-use Rattle.draft.specs.Row.{Row, ended, numbersOf, byNumber, setOf}
+use Rattle.draft.specs.Row.{Row, numbersOf, byNumber, setOf}
+use Rattle.token_lines.specs.LineTokens.{ended}
 use Rattle.draft.specs.Codes.{badToken, notInSet, tooLong, tooManyLines, usedAbove}
 
 -- ---- a line: its lowest fault of 3 to 11

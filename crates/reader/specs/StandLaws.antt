@@ -6,8 +6,8 @@ use native.Mathlib.Omega.{arith}
 use lib.ListN.{length, set, length-set}
 use lib.Seq.{getD-set-same}
 use Rattle.grammar.specs.Meaning.{Stands}
-use Rattle.draft.specs.Row.{putAt}
-use Rattle.draft.specs.PutLaws.{put-before}
+use Rattle.text.specs.PutAt.{putAt}
+use Rattle.text.specs.PutLaws.{put-before}
 
 -- what is put stands there, if it fits
 pub put-stands : (l s : List ℕ) (p q : ℕ) → p + length l ≡ q → q ≤ length s → Stands (putAt s p l) p l q

@@ -2,13 +2,13 @@
 ghost use mathlib.Core.Path.{_≡_};
 ghost use Rattle.reader.specs.Load.{loadAnswer, loadSet};
 ghost use Rattle.reader.specs.DraftLoad.{answered};
-use draft::draft::put;
-use draft::draft::read_text;
 use ranking::arrange::arrange;
 use ranking::arrange::first_unknown;
 use set::set::empty_set;
 use state::state::State;
 use state::state::power_on;
+use text_draft::read::read_text;
+use token_lines::put::put;
 use tokens::token::SIZE;
 
 pub const NOT_IN_SET: u8 = 12;

@@ -14,13 +14,14 @@ use Rattle.values.specs.Numbers.{clash}
 use Rattle.engine.specs.declared.beat.Beaten.{Beaten}
 use Rattle.text.specs.Byte.{bytes, LF, SPACE}
 use Rattle.words.specs.Word.{sameBytes}
-use Rattle.text.specs.Lines.{before, split, textLines}
+use Rattle.lines.specs.Lines.{before, split, textLines}
 use Rattle.reader.specs.Load.{loadAnswer, loadSet}
 use Rattle.transcript.specs.Input.{inputOf}
 use Rattle.beat_lines.specs.BeatLine.{Lent, fields, lineLent}
 use Rattle.printing.specs.Output.{digitsUp, decimal, signedText, fourOf, codeLine, orderLine, orderLines, errorLine, endLine}
-use Rattle.tally.specs.declared.tally.Totals.{Totals}
-use Rattle.tally.specs.Tally.{maxBeats, noTotals, ended, oneIf, counted, answerOf, bufferOf, beatText}
+use Rattle.totals.specs.declared.totals.Totals.{Totals}
+use Rattle.totals.specs.Totals.{maxBeats, noTotals, ended, oneIf}
+use Rattle.tally.specs.Tally.{counted, answerOf, bufferOf, beatText}
 use Rattle.transcript.specs.Run.{beatsText, synrun}
 use Rattle.transcript.specs.RoomLaws.{byLent}
 use Rattle.sessions.specs.SessionLaws.{beats-over, beats-some, loaded-zero}

@@ -11,15 +11,16 @@ use borrow.Author.Tests.{leb-true, leb-false, eqb-true}
 use Rattle.values.specs.Choice.{decide, either, eitherBoth}
 use Rattle.values.specs.Numbers.{clash}
 use Rattle.text.specs.Byte.{LF}
-use Rattle.text.specs.Lines.{before, split, textLines}
-use Rattle.text.specs.LinesLaws.{split-some}
-use Rattle.draft.specs.Row.{putAt}
-use Rattle.draft.specs.PutLaws.{put-length, put-join}
+use Rattle.lines.specs.Lines.{before, split, textLines}
+use Rattle.lines.specs.LinesLaws.{split-some}
+use Rattle.text.specs.PutAt.{putAt}
+use Rattle.text.specs.PutLaws.{put-length, put-join}
 use Rattle.transcript.specs.declared.session.Place.{Place}
 use Rattle.beat_lines.specs.declared.beat_line.Reading.{Reading}
 use Rattle.reader.specs.Load.{loadAnswer}
 use Rattle.beat_lines.specs.Reading.{readByte, readOn, withoutCR, readLent}
-use Rattle.tally.specs.Tally.{maxBeats, counted, answerOf}
+use Rattle.totals.specs.Totals.{maxBeats}
+use Rattle.tally.specs.Tally.{counted, answerOf}
 use Rattle.transcript.specs.Machine.{TEXT, BEATS, keptSize, Machine, Fed, withPlace, withReading, starAfter, starOn, placeOn, opened, textEnd, beatOf, beatEnd, chunk, lineEnd, behind, fedLines}
 use Rattle.transcript.specs.RoomLaws.{byCode, byLent}
 

@@ -13,10 +13,10 @@ use Rattle.values.specs.Choice.{decide, refused, either}
 use Rattle.values.specs.Numbers.{clash}
 use Rattle.text.specs.Byte.{LF, inLine, run}
 use Rattle.text.specs.ByteLaws.{run-within}
-use Rattle.text.specs.Lines.{before, split, textLines}
-use Rattle.text.specs.LinesLaws.{line-end, line-on, run-end, run-more, lines-last, split-some}
+use Rattle.lines.specs.Lines.{before, split, textLines}
+use Rattle.lines.specs.LinesLaws.{line-end, line-on, run-end, run-more, lines-last, split-some}
 use Rattle.transcript.specs.declared.session.Place.{Place}
-use Rattle.tally.specs.Taken.{areFit}
+use Rattle.totals.specs.Totals.{areFit}
 use Rattle.transcript.specs.Run.{synrun}
 use Rattle.transcript.specs.Machine.{TEXT, BEATS, keptSize, Machine, Fed, begun, withPlace, isFit, placeOn, starOn, chunk, lineEnd, behind, fedLines, finished, finishedText, outSize, lineRoom, Work, workFrom, worked}
 use Rattle.beat_lines.specs.Reading.{readOn}

@@ -15,8 +15,8 @@ use Rattle.values.specs.Choice.{decide, either, eitherBoth, both, and-true}
 use Rattle.values.specs.Numbers.{clash}
 use Rattle.text.specs.Byte.{CR, SPACE, isDigit}
 use Rattle.text.specs.Number.{digitsValue}
-use Rattle.text.specs.Lines.{before as startOf, split, withoutReturn}
-use Rattle.text.specs.LinesLaws.{split-some}
+use Rattle.lines.specs.Lines.{before as startOf, split, withoutReturn}
+use Rattle.lines.specs.LinesLaws.{split-some}
 use Rattle.beat_lines.specs.declared.beat_line.Reading.{Reading}
 use Rattle.beat_lines.specs.BeatLine.{Lent, fields, modeOf, allDigits, areDigits, wholeOf, wordOf, positive, negative, lentNumber, withNumber, lentNumbers, lentOf, fieldsLent, lineLent}
 use Rattle.transcript.specs.RoomLaws.{closed-field}

@@ -13,12 +13,13 @@ use Rattle.values.specs.Value.{notAllowed, inRange, lessThan, feedOf}
 use Rattle.values.specs.Numbers.{clash}
 use Rattle.tokens.specs.Token.{END, EQUALS, OPEN, CLOSE, LEFT, RIGHT, IN, IM, POS, FA, MOV, M, SETAL, LOCK, UNLOCK, X, W, between, isVariable, isAxis, hasAxis, isFifo, isDrive, isCall, isWhole, whole, setSize, maxLines}
 use Rattle.tokens.specs.Reading.{token, Answer, good, stop, _>>=_, Read, read, ends, then, isIndex, indexOf, isIndexed, indexAt, sumAt, expressionAt}
-use Rattle.tokens.specs.SingleFault.{outside, lower, writeFault, idFault, callFault}
+use Rattle.faults.specs.SingleFault.{outside, lower, writeFault, idFault, callFault}
 use Rattle.code.specs.Fault.{Sight, wanting, sight, faultFor, isRemoval, assignedAt, assignmentAt, commandAt, actionAt}
-use Rattle.working.specs.Working.{fromWorked, told, valueOver, rightValue, conditionValue}
+use Rattle.operators.specs.Operators.{fromWorked}
+use Rattle.working.specs.Working.{told, valueOver, rightValue, conditionValue}
 use Rattle.set.specs.Set.{rankIn, isKnown, isLock, soundLines}
 use Rattle.writing.specs.Write.{Vars, changeFifo, writeTo}
-use Rattle.actions.specs.Action.{World, Taken, Did, fromGot, lockOf, takenAt, assignmentOf, driveOf, commandOf, actionOf}
+use Rattle.action.specs.Action.{World, Taken, Did, fromGot, lockOf, takenAt, assignmentOf, driveOf, commandOf, actionOf}
 use Rattle.writing.specs.Drive.{driveOrder}
 use Rattle.soundness.specs.GoodAnswers.{Holds, holds-then}
 use Rattle.soundness.specs.SetLaws.{rank-inside}

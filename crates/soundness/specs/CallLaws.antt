@@ -14,15 +14,16 @@ use borrow.Author.Tests.{eqb-true, ltb-true}
 use Rattle.values.specs.Choice.{either, ifNot}
 use Rattle.values.specs.Numbers.{clash}
 use Rattle.code.specs.declared.check.Line.{Line}
-use Rattle.buffers.specs.FifoLaws.{same-each}
+use Rattle.fifo.specs.FifoLaws.{same-each}
 use Rattle.state.specs.declared.state.State.{State}
 use Rattle.calls.specs.declared.host.Called.{Called}
-use Rattle.calls.specs.declared.host.Found.{Found}
+use Rattle.state.specs.declared.find.Found.{Found}
 use Rattle.tokens.specs.Token.{maxLines}
 use Rattle.set.specs.Set.{rankIn, soundLines}
 use Rattle.state.specs.State.{stateCells}
 use Rattle.state.specs.Sound.{isSound, isCell, isFlag}
-use Rattle.calls.specs.Calls.{withLocked, withCancelled, foundAt, found, called, lockedCall, lockCall, unlockCall, cancelCall, resetCancelled, zeroed, resetState, resetCall}
+use Rattle.state.specs.Find.{foundAt, found}
+use Rattle.calls.specs.Calls.{withLocked, withCancelled, called, lockedCall, lockCall, unlockCall, cancelCall, resetCancelled, zeroed, resetState, resetCall}
 use Rattle.calls.proofs.CallLaws.{reset-keeps}
 use Rattle.soundness.specs.GoodAnswers.{Not22}
 use Rattle.soundness.specs.CellLaws.{append-behind, CellsRight, FlagsRight, zero-cell, set-sound, state-right, right-state, flag-clear, flag-none, flag-beyond, lock-keeps, cancel-keeps, cells-swapped}

@@ -13,11 +13,11 @@ use borrow.Author.Tests.{lt-ltb, le-ltb, le-leb, leb-true, not-true}
 use Rattle.values.specs.Choice.{both, and-true}
 use Rattle.values.specs.Value.{inRange, lessThan, equalTo, wholeUnits, outputOf}
 use Rattle.values.specs.ValueLaws.{abs-range, equal-same, same-equal}
-use Rattle.values.specs.TimeLaws.{Timed}
-use Rattle.buffers.specs.Fifo.{places, Unused}
-use Rattle.buffers.specs.FifoLaws.{PlacesRanged, set-each, same-each, zero-in-range}
+use Rattle.time.specs.TimeLaws.{Timed}
+use Rattle.fifo.specs.Fifo.{places, Unused}
+use Rattle.fifo.specs.FifoLaws.{PlacesRanged, set-each, same-each, zero-in-range}
 use Rattle.values.specs.Numbers.{clash}
-use Rattle.working.specs.Variables.{asCount}
+use Rattle.variables.specs.Variables.{asCount}
 use Rattle.state.specs.declared.state.State.{State}
 use Rattle.set.specs.Set.{soundLines}
 use Rattle.state.specs.State.{stateCells, powerOn}

@@ -13,21 +13,21 @@ use borrow.Author.Tests.{eqb-true, eqb-false, leb-true, ltb-true}
 use Rattle.values.specs.Choice.{either, ifNot, either-cond, both}
 use Rattle.values.specs.Value.{unit, notAllowed, inRange, equalTo, wholeUnits, outputOf}
 use Rattle.values.specs.ValueLaws.{abs-range, whole-in-range, whole-whole, output-either, output-same}
-use Rattle.values.specs.Time.{timer}
-use Rattle.values.specs.TimeLaws.{written-keeps}
-use Rattle.buffers.specs.Fifo.{places, Unused, countAfter, fits, appendAnswer, appended, removeAnswer, removed, emptyAnswer, emptied}
-use Rattle.buffers.specs.FifoLaws.{fits-holds, PlacesRanged, append-length, append-count, append-unused, append-ranged, remove-length, remove-count, remove-unused, remove-ranged, removed-in-range, empty-length, empty-count, empty-unused, empty-ranged, set-each, zero-in-range}
+use Rattle.time.specs.Time.{timer}
+use Rattle.time.specs.TimeLaws.{written-keeps}
+use Rattle.fifo.specs.Fifo.{places, Unused, countAfter, fits, appendAnswer, appended, removeAnswer, removed, emptyAnswer, emptied}
+use Rattle.fifo.specs.FifoLaws.{fits-holds, PlacesRanged, append-length, append-count, append-unused, append-ranged, remove-length, remove-count, remove-unused, remove-ranged, removed-in-range, empty-length, empty-count, empty-unused, empty-ranged, set-each, zero-in-range}
 use Rattle.values.specs.Numbers.{clash}
 use Rattle.values.specs.declared.arithmetic.Worked.{Worked}
 use Rattle.values.specs.declared.arithmetic.Worked.the-variants as W
-use Rattle.buffers.specs.declared.fifo.Moved.{Moved}
-use Rattle.buffers.specs.declared.fifo.Moved.the-variants as M
+use Rattle.fifo.specs.declared.fifo.Moved.{Moved}
+use Rattle.fifo.specs.declared.fifo.Moved.the-variants as M
 use Rattle.tokens.specs.Token.{OUT, MARKER, PARAM, R, TIMER, FIFO1, isFifo}
 use Rattle.tokens.specs.Reading.{good, _>>=_}
 use Rattle.tokens.specs.Index.{firstIndex, lastIndex, isInside}
-use Rattle.working.specs.Variables.{runStart, cellOf, cellCount, counts, countAt, run, asCount}
-use Rattle.tokens.specs.SingleFault.{outside, readOnly, lower, unless, isWritable, writeFault}
-use Rattle.working.specs.Working.{fromWorked}
+use Rattle.variables.specs.Variables.{runStart, cellOf, cellCount, counts, countAt, run, asCount}
+use Rattle.faults.specs.SingleFault.{outside, readOnly, lower, unless, isWritable, writeFault}
+use Rattle.operators.specs.Operators.{fromWorked}
 use Rattle.state.specs.State.{stateCells}
 use Rattle.engine.specs.Cells.{inputCount}
 use Rattle.state.specs.Sound.{isCell, isOutput}

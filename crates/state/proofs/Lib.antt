@@ -1,3 +1,3 @@
--- Laws that several proofs cite: SoundLaws on tests of each element and of each rank, TimerLaws on timers that grow.
+-- SoundLaws: tests of each element and of each rank. FindLaws: the line that a call names.
 pub mod SoundLaws
-pub mod TimerLaws
+pub mod FindLaws

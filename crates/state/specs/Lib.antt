@@ -1,5 +1,4 @@
--- A state and when it is sound with its set, the timers among its cells, and what a keyword makes of a line's memory. Definitions only.
+-- State what a state is, Sound when it is sound with its set, Find the line that a call names. Definitions only.
 pub mod State
 pub mod Sound
-pub mod Timers
-pub mod Keyword
+pub mod Find

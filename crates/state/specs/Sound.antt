@@ -6,8 +6,8 @@ use lib.Dec.{eqb, leb, ltb}
 use lib.IntN.{ℤ, pos}
 use lib.ListN.{getD, take, drop}
 use Rattle.values.specs.Value.{inRange, lessThan, equalTo, wholeUnits, outputOf, codeOf}
-use Rattle.buffers.specs.Fifo.{places}
-use Rattle.working.specs.Variables.{asCount}
+use Rattle.fifo.specs.Fifo.{places}
+use Rattle.variables.specs.Variables.{asCount}
 use Rattle.state.specs.declared.state.State.{State}
 use Rattle.set.specs.Set.{soundLines}
 

@@ -2,19 +2,9 @@
 ghost use mathlib.Core.Path.{_≡_};
 ghost use Rattle.state.specs.State.{powerOn};
 use tokens::token::LINES;
-use working::variables::RS;
-
-// The cells of a state: outputs 0..15, markers 16..47, parameters 48..79, timers 80..87, counts of the FIFOs 88..91. In a beat the input cells stand
-// before them: inputs, analogues, positions.
-pub const STATE_CELLS: usize = 92;
-
-pub const MARKER_AT: usize = 16;
-
-pub const TIMER_AT: usize = 80;
-
-pub const COUNT_AT: usize = 88;
-
-pub const TIMERS: usize = 8;
+use variables::variables::RS;
+use variables::variables::STATE_CELLS;
+use variables::variables::TIMERS;
 
 pub struct State {
     pub r: [i32; RS],

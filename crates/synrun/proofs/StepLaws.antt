@@ -9,8 +9,8 @@ use Rattle.transcript.specs.declared.session.Stepped.{Stepped}
 use Rattle.transcript.specs.Machine.{Machine, worked, finishedText, outSize}
 use Rattle.transcript.specs.Held.{IsWork}
 use Rattle.transcript.specs.RoomLaws.{finished-text-room}
-use Rattle.draft.specs.Row.{putAt}
-use Rattle.draft.specs.PutLaws.{put-length}
+use Rattle.text.specs.PutAt.{putAt}
+use Rattle.text.specs.PutLaws.{put-length}
 use Rattle.sessions.specs.PieceLaws.{worked-room, taken-within, taken-some}
 
 -- what is left of a piece behind k bytes

@@ -1,2 +1,2 @@
--- BeatLaws: what the tests of totals come to, and a beat as it is put.
+-- BeatLaws: a beat as it is put.
 pub mod BeatLaws

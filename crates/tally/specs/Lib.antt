@@ -1,5 +1,4 @@
--- Tally the beats of a session, counted and printed, in document 01's words; Taken what the calls come to for any argument. Definitions only.
--- The laws: TallyLaws, totals that are fit, and a beat that is taken.
+-- Tally a beat of a session, counted and printed, in document 01's words, and what the call comes to for any argument. Definitions only.
+-- The laws: TallyLaws, a beat that is taken, and one that is not.
 pub mod Tally
-pub mod Taken
 pub mod TallyLaws

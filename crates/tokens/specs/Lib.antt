@@ -1,5 +1,4 @@
--- Token what a token is, Index which indices a variable has, Reading how tokens are read, in any meaning, SingleFault the faults of single things. Definitions only.
+-- Token what a token is, Index which indices a variable has, Reading how tokens are read, in any meaning. Definitions only.
 pub mod Token
 pub mod Index
 pub mod Reading
-pub mod SingleFault

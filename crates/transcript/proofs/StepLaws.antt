@@ -14,7 +14,7 @@ use lib.Seq.{drop-cons}
 use Rattle.tokens.proofs.Between.{never}
 use Rattle.text.specs.Byte.{LF, CR}
 use Rattle.reader.specs.declared.load.Loaded.{Loaded}
-use Rattle.draft.specs.Row.{putAt}
+use Rattle.text.specs.PutAt.{putAt}
 use Rattle.reader.specs.Load.{loadAnswer, loadSet}
 use Rattle.transcript.specs.declared.session.Place.{Place}
 use Rattle.transcript.specs.declared.session.Session.{Session}
@@ -24,10 +24,11 @@ use Rattle.beat_lines.specs.declared.beat_line.Told.{Told}
 use Rattle.beat_lines.specs.BeatLine.{Lent}
 use Rattle.printing.specs.Output.{loadLine, errorLine}
 use Rattle.beat_lines.specs.Reading.{noReading, readOn, readLent, withoutCR}
-use Rattle.tally.specs.declared.tally.Totals.{Totals}
-use Rattle.tally.specs.Tally.{maxBeats, counted, ended, answerOf, beatText}
-use Rattle.tally.specs.Taken.{areFit, Tally, tallied, errorText}
-use Rattle.tally.specs.TallyLaws.{taken-fit, error-some}
+use Rattle.totals.specs.declared.totals.Totals.{Totals}
+use Rattle.totals.specs.Totals.{maxBeats, ended, areFit, errorText}
+use Rattle.totals.specs.TotalsLaws.{error-some}
+use Rattle.tally.specs.Tally.{counted, answerOf, beatText, Tally, tallied}
+use Rattle.tally.specs.TallyLaws.{taken-fit}
 use Rattle.transcript.specs.Machine.{TEXT, BEATS, OVER, keptSize, Fed, isFit, withPhase, withPlace, withReading, starAfter, starOn, placeOn, placeEnd, opened, textEnd, beatOf, beatEnd, chunk, lineEnd}
 use Rattle.printing.specs.Put.{IsPut, furthest}
 use Rattle.transcript.specs.Held.{IsFed, machineOf}

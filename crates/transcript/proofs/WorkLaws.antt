@@ -12,13 +12,13 @@ use lib.Seq.{drop-drop}
 use Rattle.text.specs.Byte.{inLine, run}
 use Rattle.text.specs.ByteLaws.{run-within}
 use Rattle.reader.specs.declared.load.Loaded.{Loaded}
-use Rattle.draft.specs.Row.{putAt}
+use Rattle.text.specs.PutAt.{putAt}
 use Rattle.reader.specs.Load.{loadAnswer}
 use Rattle.transcript.specs.declared.session.Session.{Session}
 use Rattle.transcript.specs.declared.session.Ended.{Ended}
 use Rattle.printing.specs.Output.{loadLine}
 use Rattle.beat_lines.specs.Reading.{isUntouched}
-use Rattle.tally.specs.Tally.{ended}
+use Rattle.totals.specs.Totals.{ended}
 use Rattle.transcript.specs.Machine.{TEXT, BEATS, Machine, Fed, Work, isFit, beatEnd, chunk, lineEnd, textOver, lastOver, finished, finishedText, workFrom, worked}
 use Rattle.printing.specs.Put.{IsPut}
 use Rattle.transcript.specs.Held.{IsFed, IsWork, machineOf}

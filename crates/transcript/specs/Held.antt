@@ -3,7 +3,7 @@ use mathlib.Core.Path.{_≡_}
 use mathlib.Core.List.{List}
 use Prim.Native.Nat.{ℕ}
 use lib.ListN.{length}
-use Rattle.draft.specs.Row.{putAt}
+use Rattle.text.specs.PutAt.{putAt}
 use Rattle.transcript.specs.declared.session.Session.{Session}
 use Rattle.transcript.specs.declared.session.Stepped.{Stepped}
 use Rattle.transcript.specs.declared.session.Ended.{Ended}

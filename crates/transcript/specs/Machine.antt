@@ -7,16 +7,16 @@ use lib.Dec.{eqb, leb, ltb}
 use lib.ListN.{length, set, take, drop}
 use Rattle.tokens.specs.Token.{textSize}
 use Rattle.text.specs.Byte.{LF, CR, inLine, run}
-use Rattle.draft.specs.Row.{putAt}
+use Rattle.text.specs.PutAt.{putAt}
 use Rattle.reader.specs.Load.{loadAnswer, loadSet}
 use Rattle.transcript.specs.declared.session.Place.{Place}
 use Rattle.transcript.specs.declared.session.Session.{Session}
 use Rattle.beat_lines.specs.declared.beat_line.Reading.{Reading}
 use Rattle.beat_lines.specs.BeatLine.{Lent}
 use Rattle.printing.specs.Output.{loadLine, errorLine}
-use Rattle.tally.specs.declared.tally.Totals.{Totals}
-use Rattle.tally.specs.Tally.{maxBeats, noTotals, ended, counted, answerOf, beatText}
-use Rattle.tally.specs.Taken.{areFit}
+use Rattle.totals.specs.declared.totals.Totals.{Totals}
+use Rattle.totals.specs.Totals.{maxBeats, noTotals, ended, areFit}
+use Rattle.tally.specs.Tally.{counted, answerOf, beatText}
 use Rattle.beat_lines.specs.Reading.{noReading, readOn, isUntouched, withoutCR, readLent}
 
 -- the phases: set text, beat lines, over

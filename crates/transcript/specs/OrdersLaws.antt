@@ -7,22 +7,24 @@ use lib.Dec.{eqb, ltb}
 use lib.IntN.{ℤ}
 use lib.ListN.{length, getD, length-append}
 use Rattle.values.specs.Choice.{either}
-use Rattle.buffers.specs.OrderLaws.{eight-bytes}
-use Rattle.buffers.specs.declared.order.Order.{Order}
+use Rattle.orders.specs.OrderLaws.{eight-bytes}
+use Rattle.orders.specs.declared.order.Order.{Order}
 use Rattle.tokens.specs.Token.{END, M, SETAL, LOCK, isVariable, isDrive, whole, maxLines}
 use Rattle.tokens.specs.Reading.{Answer, good, stop, indexAt}
-use Rattle.working.specs.Working.{rightValue, conditionValue, isYes}
+use Rattle.operators.specs.Operators.{isYes}
+use Rattle.working.specs.Working.{rightValue, conditionValue}
 use Rattle.code.specs.declared.check.Line.{Line}
 use Rattle.state.specs.declared.state.State.{State}
 use Rattle.set.specs.Set.{rankIn, noLine, soundLines}
 use Rattle.soundness.specs.GoodAnswers.{Ok, bind-ok, ok-then}
 use Rattle.soundness.specs.SetLaws.{lines-lined}
 use Rattle.state.specs.Sound.{isSound}
-use Rattle.actions.specs.Action.{World, Did, ordered, fromGot, lockOf, takenAt, assignmentOf, driveOf, commandOf, actionOf, actionsOf}
+use Rattle.action.specs.Action.{World, Did, ordered, fromGot, lockOf, takenAt, assignmentOf, driveOf, commandOf, actionOf}
+use Rattle.actions.specs.Actions.{actionsOf}
 use Rattle.writing.specs.Drive.{driveOrder}
 use Rattle.writing.specs.Write.{writeTo}
 use Rattle.turns.specs.Turn.{Entry, Turned, worked, remembered, counted, takesTurn, doTurn, tryTurn, turnOf, turnsFrom}
-use Rattle.state.specs.Keyword.{tries, acts, remembers}
+use Rattle.keyword.specs.Keyword.{tries, acts, remembers}
 use Rattle.engine.specs.Beat.{bufferSize, areInputs, begun, beatOf, answered, beatAnswer}
 
 -- ---- the bytes of orders that are added

@@ -18,10 +18,10 @@ use Rattle.transcript.specs.declared.session.Session.{Session}
 use Rattle.beat_lines.specs.declared.beat_line.Reading.{Reading}
 use Rattle.beat_lines.specs.BeatLine.{Lent}
 use Rattle.printing.specs.Output.{digitsUp, decimal, signedText, fourOf, loadLine, errorLine, codeLine, orderLine, orderLines, endLine}
-use Rattle.tally.specs.declared.tally.Totals.{Totals}
-use Rattle.tally.specs.Tally.{maxBeats, counted, answerOf, bufferOf, beatText}
-use Rattle.tally.specs.Taken.{areFit}
-use Rattle.tally.specs.TallyLaws.{FitTotals, fit-totals, totals-fit, counted-fit}
+use Rattle.totals.specs.declared.totals.Totals.{Totals}
+use Rattle.totals.specs.Totals.{maxBeats, areFit}
+use Rattle.totals.specs.TotalsLaws.{FitTotals, fit-totals, totals-fit, counting-fit}
+use Rattle.tally.specs.Tally.{counted, answerOf, bufferOf, beatText}
 use Rattle.beat_lines.specs.Reading.{withField, closed, spaceAfter, modeByte, minusByte, digitByte, fieldByte, readByte, readOn, greatest, readLent, withoutCR, isUntouched}
 use Rattle.transcript.specs.Machine.{TEXT, BEATS, OVER, keptSize, Machine, Fed, isFit, placeOn, placeEnd, opened, textEnd, beatOf, beatEnd, chunk, lineEnd, textOver, lastOver, finished, finishedText, lineRoom}
 use Rattle.transcript.specs.OrdersLaws.{orders-within}
@@ -290,7 +290,7 @@ beatOf-fit m l f =
     let n = counted (x .totals) a in
     let o = beat-orders (m .lines) (x .totals) l in
     either FedLives (eqb (n .beats) maxBeats) (λ e. inr (refl, eqb-true (n .beats) maxBeats e))
-    (λ e. inl (record { size = f .size; start = f .start; field = omega arith; totals = counted-fit (x .totals) a (f .totals) o (eqb-false (n .beats) maxBeats e) }))
+    (λ e. inl (record { size = f .size; start = f .start; field = omega arith; totals = counting-fit (x .totals) (a .code) (a .orders) (a .state) (f .totals) o (eqb-false (n .beats) maxBeats e) }))
 
 beatEnd-fit : (m : Machine) (r : Reading) → Fit (m .session) → FedLives (beatEnd m r)
 unfolding beatEnd

@@ -7,8 +7,9 @@ use lib.Dec.{eqb}
 use Rattle.reader.specs.Load.{loadAnswer, loadSet}
 use Rattle.beat_lines.specs.BeatLine.{lineLent}
 use Rattle.printing.specs.Output.{loadLine, errorLine}
-use Rattle.tally.specs.declared.tally.Totals.{Totals}
-use Rattle.tally.specs.Tally.{maxBeats, noTotals, ended, counted, answerOf, beatText}
+use Rattle.totals.specs.declared.totals.Totals.{Totals}
+use Rattle.totals.specs.Totals.{maxBeats, noTotals, ended}
+use Rattle.tally.specs.Tally.{counted, answerOf, beatText}
 use Rattle.transcript.specs.Input.{Input, inputOf}
 
 -- the beats of the lines left

@@ -10,16 +10,17 @@ use borrow.Author.Tests.{lt-ltb, le-ltb}
 use lib.IntN.{ℤ}
 use lib.ListN.{getD}
 use Rattle.values.specs.Numbers.{clash}
-use Rattle.buffers.specs.Fifo.{unsound}
+use Rattle.fifo.specs.Fifo.{unsound}
 use Rattle.tokens.specs.Reading.{Answer, good, stop, _>>=_}
-use Rattle.working.specs.Working.{isYes, conditionValue}
+use Rattle.operators.specs.Operators.{isYes}
+use Rattle.working.specs.Working.{conditionValue}
 use Rattle.code.specs.declared.check.Line.{Line}
-use Rattle.actions.specs.declared.action.Done.{Done}
+use Rattle.action.specs.declared.action.Done.{Done}
 use Rattle.set.specs.Set.{noLine}
-use Rattle.actions.specs.Action.{World, Did, fromGot}
+use Rattle.action.specs.Action.{World, Did, fromGot}
 use Rattle.turns.specs.Turn.{Entry, worked, Turned, lockEntry, remembered, doTurn, tryTurn, turnOf, turnsFrom}
-use Rattle.state.specs.Keyword.{tries, acts, remembers}
-use Rattle.actions.specs.Held.{worldOf, IsDone}
+use Rattle.keyword.specs.Keyword.{tries, acts, remembers}
+use Rattle.action.specs.Held.{worldOf, IsDone}
 use Rattle.turns.specs.TurnHeld.{IsTurned, withLines}
 use Rattle.writing.proofs.WriteHeldLaws.{contrary}
 

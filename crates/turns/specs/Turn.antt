@@ -5,11 +5,13 @@ use Prim.Native.Nat.{ℕ, zero, suc, _+_, _^_}
 use lib.ListN.{getD, set}
 use Rattle.tokens.specs.Token.{maxActions}
 use Rattle.tokens.specs.Reading.{Answer, good, _>>=_}
-use Rattle.working.specs.Working.{isYes, conditionValue}
+use Rattle.operators.specs.Operators.{isYes}
+use Rattle.working.specs.Working.{conditionValue}
 use Rattle.code.specs.declared.check.Line.{Line}
 use Rattle.set.specs.Set.{noLine}
-use Rattle.actions.specs.Action.{World, Note, fromGot, actionsOf}
-use Rattle.state.specs.Keyword.{acts, remembers, tries}
+use Rattle.action.specs.Action.{World, Note, fromGot}
+use Rattle.actions.specs.Actions.{actionsOf}
+use Rattle.keyword.specs.Keyword.{acts, remembers, tries}
 
 -- what is written down: a beat began, in AUTOMATIC or not; the condition of the line of a rank was worked and gave this; it was locked or released;
 -- it was cancelled; a reset

@@ -6,13 +6,13 @@ use Prim.Native.Nat.{ℕ}
 use lib.Dec.{ltb}
 use lib.IntN.{ℤ}
 use Rattle.tokens.specs.Reading.{Answer, good, stop}
-use Rattle.actions.specs.declared.action.Done.{Done}
-use Rattle.actions.specs.declared.action.Flags.{Flags}
+use Rattle.action.specs.declared.action.Done.{Done}
+use Rattle.action.specs.declared.action.Flags.{Flags}
 use Rattle.state.specs.declared.state.State.{State}
-use Rattle.buffers.specs.Fifo.{unsound}
+use Rattle.fifo.specs.Fifo.{unsound}
 use Rattle.tokens.specs.Token.{maxLines}
 use Rattle.turns.specs.Turn.{Turned}
-use Rattle.actions.specs.Held.{worldOf}
+use Rattle.action.specs.Held.{worldOf}
 
 abbrev pub IsTurned : Done → List ℤ → List ℤ → List ℕ → Answer Turned → Type 0
 IsTurned x r c out (good t) = (x .good ≡ true) × (worldOf r c out (x .flags) ≡ t .world)

@@ -111,3 +111,7 @@ pub between : (z : ℤ) → ltZ z (negsuc 999999999) ≡ false → ltZ (pos 1000
 unfolding inRange
 between (pos n) h k = le-leb _ _ (ltb-false 1000000000 n k)
 between (negsuc n) h k = le-leb (suc n) top (omega (arith, ltb-false 999999999 n h))
+
+-- two signed numbers, read back from their bits
+pub both : {B : Type 0} (f : ℤ → ℤ → B) {a b : ℤ} → SFits w32 a → SFits w32 b → f (toZ w32 (ofZ w32 a)) (toZ w32 (ofZ w32 b)) ≡ f a b
+both f ha hb = rw (back w32 ha, back w32 hb)

@@ -1,6 +1,5 @@
-// Values and time: the lowest layer of the control.
+// Values: the lowest layer of the control.
 //
 // A value is an i32 of thousandths. All signed arithmetic of the control is done here. No public call asks anything of its
 // caller; what each answers is defined in specs/.
 pub mod arithmetic;
-pub mod time;

@@ -1,7 +1,3 @@
--- Word what words make, First the first token of some bytes, Tokens those of a line. All of them definitions; their laws are in ..Laws.
+-- Word is the definitions, WordLaws the laws that follow from them.
 pub mod Word
-pub mod First
-pub mod Tokens
 pub mod WordLaws
-pub mod FirstLaws
-pub mod TokensLaws

@@ -1,5 +1,4 @@
-// The tokens that a line's bytes make: words, numbers and signs, longest first (document 01, "Lines of text").
+// The words of the language, and the token that each makes (document 01, "Lines of text").
 //
 // No public call asks anything of its caller.
-pub mod first;
 pub mod word;

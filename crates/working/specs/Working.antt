@@ -1,77 +1,16 @@
 -- The value of an expression over the variables: all operands worked, left first, and the first alarm met ends it (document 01, "Values and time").
 -- Yes is 1 and no is 0: the check has told them from numbers. Definitions only.
-use mathlib.Core.Bool.{Bool, true, false, not, _&&_, _||_}
+use mathlib.Core.Bool.{true, false, not}
 use mathlib.Core.List.{List}
 use Prim.Native.Nat.{ℕ}
-use lib.Dec.{eqb}
 use lib.IntN.{ℤ, pos}
-use Rattle.values.specs.Value.{sumOf, differenceOf, productOf, quotientOf, negationOf, lessThan, equalTo}
-use Rattle.buffers.specs.Fifo.{unsound}
-use Rattle.values.specs.declared.arithmetic.Worked.{Worked}
-use Rattle.values.specs.declared.arithmetic.Worked.the-variants as W
+use Rattle.values.specs.Value.{negationOf}
+use Rattle.fifo.specs.Fifo.{unsound}
 use Rattle.working.specs.declared.work.Got.{Got}
-use Rattle.tokens.specs.Token.{setSize, SAME, OTHER, LESS, MORE, ATMOST, ATLEAST, PLUS, MINUS, TIMES, OVER, AND, OR, thousandths}
-use Rattle.tokens.specs.Reading.{Answer, good, stop, Read, read, ends, upTo, Meaning, sumAt, expressionAt}
-use Rattle.working.specs.Variables.{variableValue}
-
-abbrev pub fromWorked : Worked → Answer ℤ
-fromWorked (W.Value v) = good v
-fromWorked (W.Alarm k) = stop k
-
-abbrev pub yesNo : Bool → ℤ
-yesNo true = pos 1
-yesNo false = pos 0
-
-abbrev pub isYes : ℤ → Bool
-isYes v = not (equalTo v (pos 0))
-
-abbrev pub differ : Bool → Bool → Bool
-differ true b = not b
-differ false b = b
-
-unfoldable pub joinLogic : ℕ → Bool → Bool → Bool
-joinLogic o a b = elim (eqb o AND) [ true ↦ a && b | false ↦ elim (eqb o OR) [ true ↦ a || b | false ↦ differ a b ] ]
-
--- a comparison, or AND, OR, XOR
-unfoldable pub joinTruths : ℕ → ℤ → ℤ → Bool
-joinTruths o a b =
-    elim (eqb o SAME) [
-      | true ↦ equalTo a b
-      | false ↦
-          elim (eqb o OTHER) [
-            | true ↦ not (equalTo a b)
-            | false ↦
-                elim (eqb o LESS) [
-                  | true ↦ lessThan a b
-                  | false ↦
-                      elim (eqb o MORE) [
-                        | true ↦ lessThan b a
-                        | false ↦
-                            elim (eqb o ATMOST) [
-                              | true ↦ not (lessThan b a)
-                              | false ↦
-                                  elim (eqb o ATLEAST) [ true ↦ not (lessThan a b) | false ↦ joinLogic o (isYes a) (isYes b) ]
-                            ]
-                      ]
-                ]
-          ]
-    ]
-
--- the operator o between two values
-unfoldable pub joinValues : ℕ → ℤ → ℤ → Answer ℤ
-joinValues o a b =
-    elim (eqb o TIMES) [
-      | true ↦ fromWorked (productOf a b)
-      | false ↦
-          elim (eqb o OVER) [
-            | true ↦ fromWorked (quotientOf a b)
-            | false ↦
-                elim (eqb o PLUS) [
-                  | true ↦ fromWorked (sumOf a b)
-                  | false ↦ elim (eqb o MINUS) [ true ↦ fromWorked (differenceOf a b) | false ↦ good (yesNo (joinTruths o a b)) ]
-                ]
-          ]
-    ]
+use Rattle.tokens.specs.Token.{setSize, thousandths}
+use Rattle.tokens.specs.Reading.{good, Read, read, ends, upTo, Meaning, sumAt, expressionAt}
+use Rattle.variables.specs.Variables.{variableValue}
+use Rattle.operators.specs.Operators.{fromWorked, yesNo, isYes, joinValues}
 
 -- the meaning of expressions over R and the cells; what is not in the grammar is no part of a sound set
 unfoldable pub valueOver : List ℤ → List ℤ → Meaning ℤ

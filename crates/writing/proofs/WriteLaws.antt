@@ -7,12 +7,12 @@ use lib.IntN.{ℤ, pos}
 use lib.ListN.{getD}
 use mir.Syntax.{w32}
 use mir.Val.{SFits, toZ, ofZ}
-use Rattle.buffers.specs.declared.fifo.Moved.{Moved}
+use Rattle.fifo.specs.declared.fifo.Moved.{Moved}
 use Rattle.values.proofs.Signed.{back}
 use Rattle.tokens.specs.Token.{FIFO1, isFifo}
 use Rattle.tokens.specs.Reading.{stop}
-use Rattle.buffers.specs.Fifo.{unsound}
-use Rattle.working.specs.Variables.{counts, countAt, asCount, run}
+use Rattle.fifo.specs.Fifo.{unsound}
+use Rattle.variables.specs.Variables.{counts, countAt, asCount, run}
 use Rattle.writing.specs.Write.{changeAnswer, changed, moved, changeFifo, takeOldest}
 
 -- a FIFO is changed by what its cell says as a count

@@ -4,12 +4,12 @@ use Prim.Native.Nat.{ℕ}
 use lib.Dec.{eqb}
 use lib.IntN.{ℤ}
 use Rattle.values.specs.Value.{feedOf, signOf}
-use Rattle.buffers.specs.declared.order.Order.{Order}
-use Rattle.buffers.specs.declared.order.Kind.{Kind}
-use Rattle.buffers.specs.declared.order.Kind.the-variants as K
+use Rattle.orders.specs.declared.order.Order.{Order}
+use Rattle.orders.specs.declared.order.Kind.{Kind}
+use Rattle.orders.specs.declared.order.Kind.the-variants as K
 use Rattle.tokens.specs.Token.{POS, FA}
 use Rattle.tokens.specs.Reading.{Answer, good, _>>=_}
-use Rattle.working.specs.Working.{fromWorked}
+use Rattle.operators.specs.Operators.{fromWorked}
 
 abbrev pub orderOf : ℕ → Kind → ℕ → ℤ → Order
 orderOf number kind target v = record { kind = kind; line = number; target = target; value = v }

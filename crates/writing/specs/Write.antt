@@ -6,15 +6,15 @@ use lib.Dec.{eqb}
 use lib.IntN.{ℤ, pos}
 use lib.ListN.{getD, set, take, drop}
 use Rattle.values.specs.Value.{wholeUnits, outputOf}
-use Rattle.values.specs.Time.{timer, writtenTimer}
-use Rattle.buffers.specs.Fifo.{places, unsound, appendAnswer, appended, removeAnswer, removed, emptyAnswer, emptied}
-use Rattle.buffers.specs.declared.fifo.Moved.{Moved}
-use Rattle.buffers.specs.declared.fifo.Moved.the-variants as M
+use Rattle.time.specs.Time.{timer, writtenTimer}
+use Rattle.fifo.specs.Fifo.{places, unsound, appendAnswer, appended, removeAnswer, removed, emptyAnswer, emptied}
+use Rattle.fifo.specs.declared.fifo.Moved.{Moved}
+use Rattle.fifo.specs.declared.fifo.Moved.the-variants as M
 use Rattle.tokens.specs.Token.{OUT, MARKER, PARAM, R, TIMER, FIFO1, M, isFifo}
 use Rattle.tokens.specs.Reading.{Answer, good, stop, _>>=_}
 use Rattle.tokens.specs.Index.{isInside}
-use Rattle.working.specs.Variables.{cellOf, counts, countAt, runStart, run}
-use Rattle.working.specs.Working.{fromWorked}
+use Rattle.variables.specs.Variables.{cellOf, counts, countAt, runStart, run}
+use Rattle.operators.specs.Operators.{fromWorked}
 
 -- the variables of a beat under way: R, the cells, which timers run
 pub record Vars : Type 0 where

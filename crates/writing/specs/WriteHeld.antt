@@ -5,7 +5,7 @@ use mathlib.Core.List.{List}
 use lib.IntN.{ℤ}
 use Rattle.values.specs.declared.arithmetic.Worked.{Worked}
 use Rattle.values.specs.declared.arithmetic.Worked.the-variants.{Value, Alarm}
-use Rattle.buffers.specs.declared.order.Order.{Order}
+use Rattle.orders.specs.declared.order.Order.{Order}
 use Rattle.tokens.specs.Reading.{Answer, good, stop}
 use Rattle.writing.specs.declared.write.Wrote.{Wrote}
 use Rattle.writing.specs.declared.drive.Ordered.{Ordered}

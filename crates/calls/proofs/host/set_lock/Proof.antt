@@ -3,7 +3,8 @@ use borrow.Author.Needs.{needs}
 use native.Mathlib.Omega.{arith}
 use Prim.Native.Nat.{_<_}
 use Rattle.calls.specs.Calls.{withLocked, lockedCall}
-use Rattle.calls.proofs.CallLaws.{found-below, called-refused, called-done}
+use Rattle.state.proofs.FindLaws.{found-below}
+use Rattle.calls.proofs.CallLaws.{called-refused, called-done}
 use Rattle.calls.proofs.host.set_lock.Statement.{statement}
 use Rattle.calls.proofs.host.set_lock.Tie as tie
 

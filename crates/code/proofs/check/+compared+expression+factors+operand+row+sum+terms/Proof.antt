@@ -20,7 +20,7 @@ use Rattle.code.proofs.SignLaws.{signs-arm}
 use Rattle.code.proofs.SeenLaws.{passes, seen-nothing, seen-stop, seen-read, number-made, seen-number, joins-factor, joins-term, joins-compared, joins-row}
 use Rattle.code.proofs.CountLaws.{plain-above, plain-below, plain-high, plain-low, counts-signs, counted-none, counted-nothing, counted-behind, counted-token, onward-same, onward-then, same-end-on, joined-on}
 use Rattle.code.proofs.SumLaws.{sum-stops, sum-single, expression-closes}
-use Rattle.tokens.proofs.fault.number_fault.Reads as number-fault
+use Rattle.faults.proofs.fault.number_fault.Reads as number-fault
 use Rattle.tokens.proofs.token.is_compare.Reads as is-compare
 use Rattle.tokens.proofs.token.is_factor.Reads as is-factor
 use Rattle.tokens.proofs.token.is_logic.Reads as is-logic

@@ -5,7 +5,7 @@ use mathlib.Core.Path.{_≡_, refl, sym, ap, _∙_}
 use Prim.Native.Nat.{ℕ, _+_}
 use Rattle.tokens.specs.Reading.{Read, read, then}
 use Rattle.tokens.specs.Token.{setSize}
-use Rattle.tokens.specs.SingleFault.{lower}
+use Rattle.faults.specs.SingleFault.{lower}
 use Rattle.code.specs.Fault.{actionsAt}
 use Rattle.code.specs.Seen.{nextOf, faultOf, faulted}
 use Rattle.code.specs.Brackets.{InGrammar, Onward}

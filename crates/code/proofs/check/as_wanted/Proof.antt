@@ -4,7 +4,7 @@ use mathlib.Core.Path.{_≡_, sym, ap, _∙_}
 use mathlib.Core.Bool.{Bool}
 use native.Mathlib.Omega.{arith}
 use Rattle.tokens.specs.Reading.{read}
-use Rattle.tokens.specs.SingleFault.{lower, wantingFault}
+use Rattle.faults.specs.SingleFault.{lower, wantingFault}
 use Rattle.code.specs.Seen.{truthOf, faultOf, signedSight}
 use Rattle.code.proofs.SeenLaws.{room, passes, enters, number-made, truth-made, seen-number, seen-truth, same-end, same-end-made, faultless-seen, faultless-same}
 use Rattle.code.proofs.check.as_wanted.Statement.{statement}

@@ -5,7 +5,7 @@ use mathlib.Core.Path.{_≡_, refl, sym, ap, _∙_}
 use Prim.Native.Nat.{ℕ, _+_, _<_}
 use Rattle.tokens.specs.Token.{IN, IM, POS, MOV}
 use Rattle.tokens.specs.Reading.{Read, read, then, indexAt, sumAt}
-use Rattle.tokens.specs.SingleFault.{lower, writeFault}
+use Rattle.faults.specs.SingleFault.{lower, writeFault}
 use Rattle.code.specs.Fault.{assignedAt, assignmentAt}
 use Rattle.code.specs.Seen.{faultOf}
 use Rattle.code.proofs.SeenLaws.{faulted-nothing, number-made, faulted-wanted}

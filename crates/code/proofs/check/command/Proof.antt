@@ -11,7 +11,7 @@ use Rattle.tokens.specs.Reading.{ends, read}
 use Rattle.code.specs.Fault.{commandAt}
 use Rattle.code.specs.Seen.{faulted}
 use Rattle.code.specs.Brackets.{Plain, InGrammar, Counted}
-use Rattle.tokens.specs.SingleFault.{codeFault, callFault}
+use Rattle.faults.specs.SingleFault.{codeFault, callFault}
 use Rattle.tokens.proofs.Between.{tested}
 use Rattle.code.proofs.FaultLaws.{no-command, no-code, a-code, no-call, no-open, no-close, a-call}
 use Rattle.code.proofs.SeenLaws.{faulted-nothing, number-made, faulted-made}

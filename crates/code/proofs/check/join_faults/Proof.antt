@@ -4,7 +4,7 @@ use mathlib.Core.Path.{_≡_, sym, ap, _∙_}
 use Prim.Native.Nat.{ℕ}
 use native.Mathlib.Omega.{arith}
 use Rattle.tokens.specs.Reading.{Read, read, then}
-use Rattle.tokens.specs.SingleFault.{lower}
+use Rattle.faults.specs.SingleFault.{lower}
 use Rattle.code.specs.Seen.{faultOf}
 use Rattle.code.proofs.SeenLaws.{room, number-made, joined-nothing, joined-made, faulted-stop, faulted-read, faulted-made}
 use Rattle.code.proofs.check.join_faults.Statement.{statement}

@@ -6,7 +6,7 @@ use mathlib.Core.Bool.{true, false}
 use Prim.Native.Nat.{ℕ}
 use lib.Dec.{eqb}
 use Rattle.tokens.specs.Token.{whole, IDS}
-use Rattle.tokens.specs.SingleFault.{tooDeep}
+use Rattle.faults.specs.SingleFault.{tooDeep}
 use Rattle.code.specs.declared.check.Line.{Line}
 use Rattle.code.specs.Fault.{numberOf, faultyLine, judged, lineParts}
 use Rattle.code.specs.Seen.{faulted}

@@ -1,7 +1,7 @@
 -- `check::refused` meets its contract: 4 comes before 5.
 use borrow.Author.Needs.{needs}
 use mathlib.Core.Path.{_∙_}
-use Rattle.tokens.specs.SingleFault.{notInGrammar}
+use Rattle.faults.specs.SingleFault.{notInGrammar}
 use Rattle.code.specs.Fault.{faultyLine}
 use Rattle.code.proofs.FaultLaws.{judged-deep, judged-not}
 use Rattle.code.proofs.check.refused.Statement.{statement}

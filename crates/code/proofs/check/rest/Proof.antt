@@ -7,7 +7,7 @@ use Prim.Native.Nat.{ℕ, _+_, _<_}
 use Rattle.tokens.specs.Token.{WHEN, EVERY}
 use borrow.Author.Tests.{not-false}
 use Rattle.tokens.specs.Reading.{Read, read, then, expressionAt}
-use Rattle.tokens.specs.SingleFault.{lower}
+use Rattle.faults.specs.SingleFault.{lower}
 use Rattle.code.specs.Brackets.{Counted}
 use Rattle.code.specs.Fault.{sight, faultFor, judged}
 use Rattle.code.specs.Seen.{faultOf, bodyFrom}

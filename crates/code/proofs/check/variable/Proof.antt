@@ -4,7 +4,7 @@ use borrow.Author.Tests.{not-true, not-false}
 use mathlib.Core.Path.{refl, sym, ap, _∙_}
 use Prim.Native.Nat.{ℕ, _+_, _<_}
 use native.Mathlib.Omega.{arith}
-use Rattle.tokens.specs.SingleFault.{readFault}
+use Rattle.faults.specs.SingleFault.{readFault}
 use Rattle.code.specs.Fault.{sight}
 use Rattle.tokens.proofs.Arms.{indexed, indexed-not}
 use Rattle.code.proofs.SeenLaws.{seen-nothing, number-made, seen-number}

@@ -1,24 +1,37 @@
--- `draft::add_line` meets its contract, by its tests.
+-- `draft::add_line` meets its contract, by its tests: where every byte made a token, they stand before the array's end.
 use borrow.Author.Needs.{needs}
 use borrow.Author.Tests.{not-true, not-false}
 use native.Mathlib.Omega.{arith}
 use mathlib.Core.Path.{_≡_, sym, ap, _∙_}
-use Prim.Native.Nat.{_≤_}
+use mathlib.Core.Bool.{true}
+use Prim.Native.Nat.{ℕ, _+_, _≤_}
 use lib.ListN.{length}
 use denote.Ref.{now}
-use Rattle.words.specs.Tokens.{tokensOf}
-use Rattle.words.specs.TokensLaws.{tokens-within}
-use Rattle.draft.specs.declared.draft.Written.{Written}
+use Rattle.tokens.specs.Token.{setSize}
+use Rattle.scan.specs.Tokens.{Tokens}
+use Rattle.token_lines.specs.declared.put.Written.{Written}
+use Rattle.token_lines.specs.LineTokens.{tokensAt}
+use Rattle.token_lines.specs.LineTokensLaws.{good-fits}
 use Rattle.draft.proofs.DraftLaws.{added-many, added-bad, added-kept}
 use Rattle.draft.proofs.draft.add_line.Statement.{statement}
 use Rattle.draft.proofs.draft.add_line.Tie as tie
 
--- how many tokens were written, and that there are no more than bytes
-counted : (c : tie.After-put-tokens) → c .put-tokens .result .count ≡ length (tokensOf (now (c .before .before .before .before .before .args .body)) .list)
-counted c = ap (λ (x : Written). x .count) (c .put-tokens .ensures .0)
+module _ (c : tie.After-put-tokens) where
+  abbrev at : ℕ
+  at = c .before .before .before .before .before .args .d .at
 
-few : (c : tie.After-put-tokens) → c .put-tokens .result .count ≤ length (now (c .before .before .before .before .before .args .body))
-few c = rw (counted c) (tokens-within (now (c .before .before .before .before .before .args .body)))
+  abbrev tokens : Tokens
+  tokens = tokensAt at (now (c .before .before .before .before .before .args .body))
+
+  counted : c .put-tokens .result .count ≡ length (tokens .list)
+  counted = ap (λ (x : Written). x .count) (c .put-tokens .ensures .0)
+
+  good : tokens .good ≡ c .put-tokens .result .good
+  good = ap (λ (x : Written). x .good) (sym (c .put-tokens .ensures .0))
+
+  -- there is room for those of a good line
+  room : c .put-tokens .result .good ≡ true → at + c .put-tokens .result .count + 1 ≤ setSize
+  room g = let n = counted in let f = good-fits at (now (c .before .before .before .before .before .args .body)) (good ∙ g) in omega arith
 
 pub add-line-spec : {M : Type 1} → statement M
 add-line-spec =
@@ -30,10 +43,10 @@ add-line-spec =
     (λ c κs. search needs)
     (λ c.
     let p = c .before .before in
-    added-bad _ _ _ _ (p .before .before .if1 .left) _ (p .put-tokens .ensures .1) (ap (λ (x : Written). x .good) (sym (p .put-tokens .ensures .0)) ∙ not-true _ (c .before .if2 .taken)) _ (c .refused-at2 .ensures))
-    (λ c. omega (arith, few (c .before .before .before)))
-    (λ c. omega (arith, few (c .before .before .before)))
-    (λ c κs. (omega arith, omega arith))
+    added-bad _ _ _ _ (p .before .before .if1 .left) _ (p .put-tokens .ensures .1) (good p ∙ not-true _ (c .before .if2 .taken)) _ (c .refused-at2 .ensures))
+    (λ c. omega (arith, room (c .before .before .before) (not-false _ (c .before .before .if2 .left))))
+    (λ c. omega (arith, room (c .before .before .before) (not-false _ (c .before .before .if2 .left))))
+    (λ c κs. let r = room (c .before .before .before) (not-false _ (c .before .before .if2 .left)) in (omega arith, omega arith))
     (λ c.
     let p = c .before .before .before .before in
-    added-kept _ _ _ _ (p .before .before .if1 .left) _ (p .put-tokens .ensures .1) (ap (λ (x : Written). x .good) (sym (p .put-tokens .ensures .0)) ∙ not-false _ (c .before .before .before .if2 .left)) _ (counted p) _ (c .keep-line .ensures)))
+    added-kept _ _ _ _ (p .before .before .if1 .left) _ (p .put-tokens .ensures .1) (good p ∙ not-false _ (c .before .before .before .if2 .left)) _ (counted p) _ (c .keep-line .ensures)))

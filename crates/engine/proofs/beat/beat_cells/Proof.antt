@@ -6,7 +6,7 @@ use mathlib.Core.List.{List, _++_}
 use lib.IntN.{ℤ, pos}
 use lib.ListN.{length, replicate}
 use Rattle.engine.specs.Cells.{inputCells, beatCells}
-use Rattle.state.proofs.TimerLaws.{length-grown}
+use Rattle.variables.proofs.TimerLaws.{length-grown}
 use Rattle.engine.proofs.CellLaws.{length-inputs, parts}
 use Rattle.engine.proofs.beat.beat_cells.Statement.{statement}
 use Rattle.engine.proofs.beat.beat_cells.Tie as tie

@@ -4,7 +4,7 @@ use mathlib.Core.Path.{_≡_, refl, sym, _∙_}
 use Prim.Native.Nat.{_-_, _≤_}
 use lib.ListN.{length, drop, length-set}
 use denote.Ref.{now}
-use Rattle.draft.specs.Row.{putAt}
+use Rattle.text.specs.PutAt.{putAt}
 use Rattle.printing.proofs.OutLaws.{put-past, put-next, put-none}
 use Rattle.printing.proofs.out.put_bytes.Statement.{statement}
 use Rattle.printing.proofs.out.put_bytes.Tie as tie

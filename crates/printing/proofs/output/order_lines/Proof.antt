@@ -4,7 +4,7 @@ use mathlib.Core.Path.{_≡_, refl, sym, ap, _∙_}
 use Prim.Native.Nat.{_+_, _-_, _*_, _≤_}
 use lib.ListN.{length}
 use denote.Ref.{now}
-use Rattle.draft.specs.Row.{putAt}
+use Rattle.text.specs.PutAt.{putAt}
 use Rattle.printing.specs.Output.{orderLines}
 use Rattle.printing.proofs.OutLaws.{in-reach, out-of-reach, ordersLeft, all-left, none-left, one-less, rest-put, rest-behind}
 use Rattle.printing.proofs.output.order_lines.Statement.{statement}

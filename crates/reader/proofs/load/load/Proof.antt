@@ -6,7 +6,8 @@ use mathlib.Core.List.{List}
 use Prim.Native.Nat.{ℕ, _≤_, min}
 use denote.Ref.{now}
 use Rattle.set.specs.Set.{emptySet}
-use Rattle.draft.specs.Draft.{Drafted, textDraft}
+use Rattle.draft.specs.Draft.{Drafted}
+use Rattle.text_draft.specs.TextDraft.{textDraft}
 use Rattle.reader.proofs.LoadLaws.{text-faulty, text-unknown, text-good, text-count}
 use Rattle.reader.proofs.load.load.Statement.{statement}
 use Rattle.reader.proofs.load.load.Tie as tie

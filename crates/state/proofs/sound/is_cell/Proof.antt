@@ -7,9 +7,8 @@ use Prim.Native.Nat.{ℕ}
 use lib.Dec.{leb}
 use lib.IntN.{ℤ, pos}
 use mir.Syntax.{w32}
-use Rattle.values.proofs.Signed.{back}
-use Rattle.working.proofs.Joins.{both}
-use Rattle.working.specs.Variables.{asCount}
+use Rattle.values.proofs.Signed.{back, both}
+use Rattle.variables.specs.Variables.{asCount}
 use Rattle.values.specs.Value.{inRange, lessThan, equalTo, wholeUnits}
 use Rattle.state.specs.Sound.{isOutput, isCell}
 use Rattle.state.proofs.sound.is_cell.Statement.{statement}

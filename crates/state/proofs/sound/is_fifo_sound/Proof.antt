@@ -7,7 +7,7 @@ use lib.IntN.{pos}
 use lib.ListN.{getD}
 use mir.Syntax.{w32}
 use Rattle.values.proofs.Signed.{back}
-use Rattle.working.specs.Variables.{asCount}
+use Rattle.variables.specs.Variables.{asCount}
 use Rattle.state.specs.Sound.{isFifoSound}
 use Rattle.state.proofs.sound.is_fifo_sound.Statement.{statement}
 use Rattle.state.proofs.sound.is_fifo_sound.Tie as tie

@@ -9,8 +9,8 @@ use denote.Ref.{now}
 use Rattle.beat_lines.specs.Told.{lentIn}
 use Rattle.printing.specs.Output.{codeLine}
 use Rattle.printing.proofs.OutLaws.{reached}
-use Rattle.tally.specs.Taken.{isTaken}
-use Rattle.tally.specs.TallyLaws.{taken-parts}
+use Rattle.totals.specs.Totals.{isTaken}
+use Rattle.totals.specs.TotalsLaws.{taken-parts}
 use Rattle.tally.proofs.BeatLaws.{beat-passed, beat-put}
 use Rattle.tally.proofs.tally.tally_beat.Statement.{statement}
 use Rattle.tally.proofs.tally.tally_beat.Tie as tie
@@ -34,10 +34,10 @@ tally-beat-spec =
     (λ c κs. search needs)
     (λ c. search needs)
     (λ c κs. search needs)
-    (λ c κs. let f = taken-parts _ _ _ (taken (c .before .before .before .before .before .before .before .before .before .before)) in (f .2, f .0))
+    (λ c κs. search needs)
     (λ c. search needs)
     (λ c.
-    let o = c .before .before .before in
+    let o = c .before .before .before .before in
     let l = o .before .before .before .before .before in
     let i = l .before .before .before in
     let b = i .before .before .before in

@@ -5,7 +5,7 @@ use denote.Ref.{now}
 use Rattle.transcript.specs.Held.{machineOf}
 use Rattle.transcript.specs.RoomLaws.{beat-end-room}
 use Rattle.printing.proofs.OutLaws.{put-both, reached}
-use Rattle.tally.proofs.BeatLaws.{put-as}
+use Rattle.totals.proofs.TestLaws.{put-as}
 use Rattle.transcript.proofs.WorkLaws.{last-beats, last-else}
 use Rattle.transcript.proofs.session.last_over.Statement.{statement}
 use Rattle.transcript.proofs.session.last_over.Tie as tie

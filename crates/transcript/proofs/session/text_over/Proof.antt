@@ -2,7 +2,7 @@
 use borrow.Author.Needs.{needs}
 use native.Mathlib.Omega.{arith}
 use Rattle.printing.proofs.OutLaws.{reached}
-use Rattle.tally.proofs.BeatLaws.{put-as}
+use Rattle.totals.proofs.TestLaws.{put-as}
 use Rattle.transcript.proofs.WorkLaws.{over-good, over-not}
 use Rattle.transcript.proofs.session.text_over.Statement.{statement}
 use Rattle.transcript.proofs.session.text_over.Tie as tie

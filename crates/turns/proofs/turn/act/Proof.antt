@@ -4,10 +4,10 @@ use borrow.Author.Tests.{not-true, not-false}
 use mathlib.Core.Path.{refl}
 use native.Mathlib.Omega.{arith}
 use denote.Ref.{now}
-use Rattle.actions.specs.Action.{actionsOf}
+use Rattle.actions.specs.Actions.{actionsOf}
 use Rattle.turns.specs.Turn.{doTurn, counted}
-use Rattle.actions.specs.Held.{worldOf}
-use Rattle.actions.proofs.ActionLaws.{with-room}
+use Rattle.action.specs.Held.{worldOf}
+use Rattle.actions.proofs.ActionsLaws.{with-room}
 use Rattle.turns.proofs.TurnLaws.{done-turned}
 use Rattle.turns.proofs.turn.act.Statement.{statement}
 use Rattle.turns.proofs.turn.act.Tie as tie

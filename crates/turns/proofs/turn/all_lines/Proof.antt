@@ -9,10 +9,10 @@ use lib.IntN.{ℤ}
 use lib.ListN.{getD}
 use denote.Ref.{now}
 use Rattle.tokens.specs.Reading.{Answer, good}
-use Rattle.actions.specs.declared.action.Done.{Done}
+use Rattle.action.specs.declared.action.Done.{Done}
 use Rattle.set.specs.Set.{noLine}
 use Rattle.turns.specs.Turn.{Entry, Turned, turnOf, turnsFrom}
-use Rattle.actions.specs.Held.{worldOf}
+use Rattle.action.specs.Held.{worldOf}
 use Rattle.turns.specs.TurnHeld.{IsTurned}
 use Rattle.turns.proofs.TurnLaws.{doubled, room, word-fits, next-bit, passed, turned-good, turned-stop, all-pass, turns-none, turns-stop, turns-on}
 use Rattle.turns.proofs.turn.all_lines.Statement.{statement}

@@ -12,12 +12,13 @@ use mir.Syntax.{w32}
 use Rattle.values.specs.Value.{equalTo}
 use Rattle.values.proofs.Signed.{back}
 use Rattle.tokens.specs.Reading.{good, stop}
-use Rattle.working.specs.Working.{isYes, conditionValue}
-use Rattle.actions.specs.Action.{World, alarmOf, fromGot}
+use Rattle.operators.specs.Operators.{isYes}
+use Rattle.working.specs.Working.{conditionValue}
+use Rattle.action.specs.Action.{World, alarmOf, fromGot}
 use Rattle.turns.specs.Turn.{worked}
-use Rattle.state.specs.Keyword.{tries, acts, remembers}
-use Rattle.actions.specs.Held.{worldOf}
-use Rattle.actions.proofs.HeldLaws.{got-good, got-stop}
+use Rattle.keyword.specs.Keyword.{tries, acts, remembers}
+use Rattle.action.specs.Held.{worldOf}
+use Rattle.action.proofs.HeldLaws.{got-good, got-stop}
 use Rattle.turns.proofs.TurnLaws.{room, untried, stops, tried-so}
 use Rattle.turns.proofs.turn.try_line.Statement.{statement}
 use Rattle.turns.proofs.turn.try_line.Tie as tie

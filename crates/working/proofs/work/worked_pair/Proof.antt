@@ -6,8 +6,8 @@ use lib.IntN.{ℤ}
 use mir.Syntax.{w32}
 use mir.Val.{SFits}
 use Rattle.values.proofs.Signed.{back}
-use Rattle.working.specs.Pair.{pairOf, said}
-use Rattle.working.proofs.Pairs.{pair-said, alarm-said}
+use Rattle.operators.specs.Pair.{pairOf, said}
+use Rattle.operators.proofs.Pairs.{pair-said, alarm-said}
 use Rattle.working.proofs.work.worked_pair.Statement.{statement}
 use Rattle.working.proofs.work.worked_pair.Tie as tie
 

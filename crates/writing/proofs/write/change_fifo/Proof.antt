@@ -8,7 +8,7 @@ use mir.ValLaws.{toZ-pos}
 use Rattle.values.specs.declared.arithmetic.Worked.the-variants.{Value}
 use Rattle.values.proofs.Signed.{back}
 use Rattle.tokens.specs.Token.{FIFO1, FIFO4}
-use Rattle.working.specs.Variables.{run}
+use Rattle.variables.specs.Variables.{run}
 use Rattle.tokens.proofs.Between.{inside}
 use Rattle.writing.specs.Write.{changed, moved, changeFifo}
 use Rattle.writing.proofs.WriteLaws.{fifo-changes}

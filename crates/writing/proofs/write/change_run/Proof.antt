@@ -6,7 +6,7 @@ use native.Mathlib.Omega.{arith}
 use lib.Seq.{drop-drop}
 use denote.Ref.{now}
 use mir.Syntax.{w32}
-use Rattle.buffers.specs.Fifo.{places}
+use Rattle.fifo.specs.Fifo.{places}
 use Rattle.values.proofs.Signed.{back}
 use Rattle.writing.proofs.write.change_run.Statement.{statement}
 use Rattle.writing.proofs.write.change_run.Tie as tie

@@ -8,7 +8,7 @@ use mir.Syntax.{w32}
 use Rattle.values.specs.Value.{wholeUnits, outputOf}
 use Rattle.values.proofs.Signed.{back}
 use Rattle.tokens.proofs.Indices.{last-inside}
-use Rattle.working.proofs.Cells.{cell-inside}
+use Rattle.variables.proofs.Cells.{cell-inside}
 use Rattle.writing.specs.Write.{writeCell}
 use Rattle.writing.proofs.write.write_cell.Statement.{statement}
 use Rattle.writing.proofs.write.write_cell.Tie as tie

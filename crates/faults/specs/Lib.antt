@@ -1,0 +1,2 @@
+-- SingleFault: the faults of single things. Definitions only.
+pub mod SingleFault

@@ -1,0 +1,2 @@
+-- TextDraft is the draft of a text, line by line. Definitions only.
+pub mod TextDraft
