@@ -7,6 +7,7 @@ use crate::runner::{reference, External, Form};
 use crate::shrink::shrink;
 use crate::slip::Slip;
 use std::ops::Range;
+use std::thread;
 
 /// Every case, by the reference and by the external programs.
 pub fn compare_cases(report: &mut Report, cases: &[Case], external: &External) {
@@ -25,9 +26,25 @@ pub fn compare_cases(report: &mut Report, cases: &[Case], external: &External) {
     }
 }
 
-/// Every seed in both forms: the reference keeps its set and state sound, and the program prints the same.
+/// Every seed in both forms, a share of them for each processor.
 pub fn compare_seeds(report: &mut Report, seeds: Range<u64>, external: &External) {
     report.part();
+    let shares = thread::available_parallelism().map_or(1, |n| n.get() as u64);
+    thread::scope(|scope| {
+        let share = |first| {
+            let seeds = (seeds.start + first..seeds.end).step_by(shares as usize);
+            scope.spawn(move || compare_share(seeds, external))
+        };
+        let started: Vec<_> = (0..shares).map(share).collect();
+        for share in started {
+            report.add(share.join().expect("a share ends"));
+        }
+    });
+}
+
+/// The reference keeps its set and state sound, and the program prints the same.
+fn compare_share(seeds: impl Iterator<Item = u64>, external: &External) -> Report {
+    let mut report = Report::default();
     for seed in seeds {
         for form in Form::BOTH {
             let input = generate::input(form, seed);
@@ -40,6 +57,7 @@ pub fn compare_seeds(report: &mut Report, seeds: Range<u64>, external: &External
             }
         }
     }
+    report
 }
 
 /// A beat of `synrun` with code 22, which a set from a load never gives.

@@ -31,6 +31,12 @@ impl Report {
         }
     }
 
+    /// Adds the counts of a share of a part.
+    pub fn add(&mut self, share: Report) {
+        self.passed += share.passed;
+        self.failed += share.failed;
+    }
+
     /// The last line of a run, and its exit status.
     pub fn end(&self) -> ExitCode {
         println!("{} passed, {} failed", self.passed, self.failed);
