@@ -14,7 +14,7 @@ use Rattle.writing.specs.Write.{Vars}
 use Rattle.action.specs.Action.{World, Taken, Did, Note, alarmOf, fromGot}
 use Rattle.writing.specs.WriteHeld.{varsOf}
 use Rattle.action.specs.Held.{worldOf, IsWorked, IsTaken, IsDone, Within}
-use Rattle.writing.proofs.WriteHeldLaws.{contrary}
+use Rattle.values.specs.Choice.{contrary}
 
 module _ (g : Got) where
   pub got-good : g .good ≡ true → fromGot g ≡ good (g .value, g .next)

@@ -17,7 +17,7 @@ use Rattle.working.specs.Working.{rightValue}
 use Rattle.working.specs.declared.work.Got.{Got}
 use Rattle.set.specs.Set.{rankIn}
 use Rattle.writing.specs.Write.{Vars, changeFifo, withChanged, writeTo}
-use Rattle.writing.specs.Drive.{driveOrder, orderOf}
+use Rattle.drive.specs.Drive.{driveOrder, orderOf}
 
 -- the beat under way: the variables, which lines are locked, each line's memory, the word of the lines that acted, and the bytes of the orders so far
 pub record World : Type 0 where

@@ -13,6 +13,7 @@ ghost use Rattle.writing.specs.WriteHeld.{varsOf};
 ghost use Rattle.action.specs.Held.{worldOf, IsWorked, IsTaken, IsDone, Within};
 ghost use Rattle.tokens.specs.Token.{setSize};
 use code::check::is_removal;
+use drive::drive::drive_order;
 use orders::order::Kind;
 use orders::order::MAX_ORDERS;
 use orders::order::ORDER_BYTES;
@@ -37,7 +38,6 @@ use variables::variables::RS;
 use variables::variables::TIMERS;
 use variables::variables::UNSOUND;
 use working::work::right_side;
-use writing::drive::drive_order;
 use writing::write::take_oldest;
 use writing::write::write;
 

@@ -14,7 +14,7 @@ use Rattle.working.specs.Working.{rightValue}
 use Rattle.set.specs.Set.{rankIn}
 use Rattle.action.specs.Action.{World, Note, Did, fromGot, takenAt, assignmentOf, lockOf, commandOf, driveOf, actionOf}
 use Rattle.actions.specs.Actions.{actionsOf}
-use Rattle.writing.specs.Drive.{driveOrder}
+use Rattle.drive.specs.Drive.{driveOrder}
 use Rattle.writing.specs.Write.{writeTo}
 use Rattle.soundness.specs.GoodAnswers.{Ok, is-ok, bind-ok}
 

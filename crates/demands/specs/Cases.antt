@@ -17,8 +17,8 @@ use Rattle.operators.specs.Operators.{joinTruths, joinValues}
 use Rattle.working.specs.Working.{valueOver, conditionValue, rightValue}
 use Rattle.set.specs.Set.{linesFrom, linesRead, rankIn, namesKnown, allKnown, namedLines, soundLines}
 use Rattle.state.specs.State.{powerOn}
-use Rattle.variables.specs.Timers.{grownCells}
-use Rattle.engine.specs.Cells.{inputCells, beatCells}
+use Rattle.timers.specs.Timers.{grownCells}
+use Rattle.cells.specs.Cells.{inputCells, beatCells}
 use Rattle.state.specs.Sound.{allRanged, isCell, areCells, allZero, isFifoSound, isFlag, areFlags, stateSound, isSound}
 use Rattle.writing.specs.Write.{writeCell, writeInside, writeTo}
 use Rattle.action.specs.Action.{lockOf, takenAt, assignmentOf, commandOf, actionOf}

@@ -17,7 +17,7 @@ use Rattle.engine.specs.declared.beat.Beaten.{Beaten}
 use Rattle.calls.specs.declared.host.Called.{Called}
 use Rattle.set.specs.Set.{noLine, rankIn, soundLines}
 use Rattle.state.specs.State.{powerOn}
-use Rattle.engine.specs.Cells.{inputCount, beatCells}
+use Rattle.cells.specs.Cells.{inputCount, beatCells}
 use Rattle.state.specs.Sound.{unsoundCode, isSound}
 use Rattle.writing.specs.Write.{Vars}
 use Rattle.action.specs.Action.{World, fromGot}

@@ -20,11 +20,11 @@ use Rattle.operators.specs.Operators.{joinLogic, joinTruths, joinValues}
 use Rattle.working.specs.Working.{valueOver, conditionValue, rightValue}
 use Rattle.set.specs.Set.{linesFrom, linesRead, rankIn, namesKnown, allKnown, namedLines, soundLines, emptySet}
 use Rattle.state.specs.State.{powerOn}
-use Rattle.variables.specs.Timers.{grownCells}
-use Rattle.engine.specs.Cells.{inputCells, beatCells}
+use Rattle.timers.specs.Timers.{grownCells}
+use Rattle.cells.specs.Cells.{inputCells, beatCells}
 use Rattle.state.specs.Sound.{allRanged, isCell, areCells, allZero, isFifoSound, isFlag, areFlags, stateSound, isSound}
 use Rattle.writing.specs.Write.{changeAnswer, changed, changeFifo, writeFifo, writeCell, writeInside, writeTo}
-use Rattle.writing.specs.Drive.{driveOrder}
+use Rattle.drive.specs.Drive.{driveOrder}
 use Rattle.action.specs.Action.{alarmOf, lockOf, takenAt, assignmentOf, driveOf, commandOf, actionOf}
 use Rattle.actions.specs.Actions.{actionsOf}
 use Rattle.keyword.specs.Keyword.{tries, acts, remembers}

@@ -1,3 +1,2 @@
--- Laws that several proofs cite: CellLaws on cells that a loop writes, BeatLaws on the beat.
-pub mod CellLaws
+-- Laws that several proofs cite: BeatLaws on the beat.
 pub mod BeatLaws

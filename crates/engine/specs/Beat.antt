@@ -9,7 +9,7 @@ use Rattle.tokens.specs.Reading.{Answer, good, stop, _>>=_}
 use Rattle.state.specs.declared.state.State.{State}
 use Rattle.engine.specs.declared.beat.Beaten.{Beaten}
 use Rattle.set.specs.Set.{soundLines}
-use Rattle.engine.specs.Cells.{inputCount, beatCells}
+use Rattle.cells.specs.Cells.{inputCount, beatCells}
 use Rattle.state.specs.Sound.{unsoundCode, isSound, allRanged}
 use Rattle.action.specs.Action.{World}
 use Rattle.turns.specs.Turn.{beatIn, Turned, turnsFrom}

@@ -1,3 +1,2 @@
--- What the beat's promise means: Cells what is lent to a beat and kept of it, Beat its checks, its answer and its orders. Definitions only.
-pub mod Cells
+-- What the beat's promise means: Beat its checks, its answer and its orders. Definitions only.
 pub mod Beat

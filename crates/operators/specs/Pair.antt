@@ -6,6 +6,8 @@ use lib.IntN.{ℤ}
 use Rattle.orders.specs.Order.{twosComplement, signed}
 use Rattle.tokens.specs.Token.{room}
 use Rattle.tokens.specs.Reading.{Read, read, ends}
+use Rattle.values.specs.declared.arithmetic.Worked.{Worked}
+use Rattle.values.specs.declared.arithmetic.Worked.the-variants.{Value, Alarm}
 
 unfoldable pub pairOf : ℤ → ℕ → ℕ
 pairOf v p = twosComplement v * room + p % room
@@ -21,6 +23,11 @@ valueOf w = signed (w / room % 4294967296)
 
 abbrev pub alarmIn : ℕ → ℕ
 alarmIn w = w / room % 256
+
+-- what a working gave, and a place
+abbrev pub workedPair : Worked → ℕ → ℕ
+workedPair (Value v) p = pairOf v p
+workedPair (Alarm k) p = alarmOf k
 
 -- what a pair says
 unfoldable pub said : ℕ → Read ℤ

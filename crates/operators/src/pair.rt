@@ -2,9 +2,14 @@
 //
 // The lowest 13 bits are the place, 0 for an alarm; above them stand the 32 bits of the value, or the alarm.
 ghost use mathlib.Core.Path.{_≡_};
-ghost use Rattle.operators.specs.Pair.{pairOf, alarmOf, valueOf, nextOf, alarmIn};
+ghost use Prim.Native.Nat.{_<_};
+ghost use Rattle.tokens.specs.Token.{room};
+ghost use Rattle.tokens.specs.Reading.{upTo};
+ghost use Rattle.operators.specs.Operators.{fromWorked};
+ghost use Rattle.operators.specs.Pair.{pairOf, alarmOf, valueOf, nextOf, alarmIn, workedPair, said};
 use orders::order::twos_complement;
 use tokens::token::ROOM;
+use values::arithmetic::Worked;
 
 pub fn pair_of(v: i32, next: usize) -> u64
     ensures { λ x. ⌜ x ≡ pairOf v next ⌝ }
@@ -42,4 +47,14 @@ pub fn alarm_in(w: u64) -> u8
     ensures { λ x. ⌜ x ≡ alarmIn w ⌝ }
 {
     (w / ROOM % 256) as u8
+}
+
+// What a working gave and the place behind it; an alarm has no place.
+pub fn worked_pair(w: Worked, next: usize) -> u64
+    ensures { λ x. ⌜ (x ≡ workedPair w next) × ((0 < next) × (next < room) → said x ≡ upTo (fromWorked w) next) ⌝ }
+{
+    match w {
+        Worked::Value(v) => pair_of(v, next),
+        Worked::Alarm(k) => alarm_of(k),
+    }
 }

@@ -2,14 +2,14 @@
 use mathlib.Core.Path.{_≡_, refl, sym, ap, _∙_}
 use mathlib.Core.Bool.{false}
 use mathlib.Core.List.{List, [], _∷_, _++_, append-assoc, append-nil}
-use mathlib.Core.Logic.{_⊎_, inl, inr}
+use mathlib.Core.Logic.{inl, inr}
 use Prim.Native.Nat.{ℕ, zero, suc, _+_, min, _≤_, _<_}
 use native.Mathlib.Omega.{arith}
 use lib.Dec.{eqb, leb, ltb}
-use lib.ListN.{length, take, drop, length-append, length-drop, take-append-drop}
+use lib.ListN.{length, take, drop, length-drop, take-append-drop}
 use lib.Seq.{take-length, take-add}
-use borrow.Author.Tests.{leb-true, leb-false, ltb-true, ltb-false}
-use Rattle.values.specs.Choice.{decide, refused, either}
+use borrow.Author.Tests.{ltb-true, ltb-false}
+use Rattle.values.specs.Choice.{decide, either}
 use Rattle.values.specs.Numbers.{clash}
 use Rattle.text.specs.Byte.{LF, inLine, run}
 use Rattle.text.specs.ByteLaws.{run-within}
@@ -20,7 +20,8 @@ use Rattle.totals.specs.Totals.{areFit}
 use Rattle.transcript.specs.Run.{synrun}
 use Rattle.transcript.specs.Machine.{TEXT, BEATS, keptSize, Machine, Fed, begun, withPlace, isFit, placeOn, starOn, chunk, lineEnd, behind, fedLines, finished, finishedText, outSize, lineRoom, Work, workFrom, worked}
 use Rattle.beat_lines.specs.Reading.{readOn}
-use Rattle.transcript.specs.RoomLaws.{Fit, fit-parts, fit-whole, Lives, chunk-lives, line-lives, line-room}
+use Rattle.transcript.specs.RoomLaws.{Fit, fit-parts, fit-whole, Lives, chunk-lives, line-lives}
+use Rattle.transcript.specs.TakenLaws.{taken-some}
 use Rattle.sessions.specs.MachineLaws.{Held, chunk-text, chunk-beats, chunk-else, fed-line, fed-held, pieces}
 use Rattle.sessions.specs.SessionLaws.{prints, over-fed, over-finished, starting, session-prints}
 
@@ -154,101 +155,6 @@ worked-feeds m t h =
 pub worked-lives : (m : Machine) (t : List ℕ) → Lives (m .session) → Lives (worked m t .machine .session)
 worked-lives m t h = worked-works m t h .lives
 
-pub worked-within : (m : Machine) (t : List ℕ) → Lives (m .session) → worked m t .taken ≤ length t
-worked-within m t h =
-    let x = worked-works m t h in
-    let a = x .taken in
-    let b = x .within in
-    omega arith
-
--- all of it is taken, or much was printed
-abbrev Goes : ℕ → List ℕ → Work → Type 0
-Goes k t w = (w .taken ≡ k + length t) ⊎ (4096 < length (w .output))
-
-goes-on : (k : ℕ) (t : List ℕ) (n : ℕ) (w : Work) → n ≤ length t → Goes (k + n) (drop n t) w → Goes k t w
-goes-on k t n w l (inl e) = let d = length-drop n t in inl (omega arith)
-goes-on k t n w l (inr e) = inr e
-
-work-goes : (n : ℕ) (m : Machine) (t : List ℕ) (k : ℕ) (o : List ℕ) → length t < n → Goes k t (workFrom n m t k o)
-unfolding workFrom
-work-goes zero m t k o h = absurd (omega arith)
-work-goes (suc n) m t k o h =
-    let r = run inLine t in
-    let c = chunk m (take r t) in
-    let f = lineEnd c in
-    let u = drop (r + 1) t in
-    either (Goes k t) (leb (length o + lineRoom) outSize)
-    (λ e. either (Goes k t) (ltb r (length t))
-    (λ g. let l = ltb-true r (length t) g in
-    let d = length-drop (r + 1) t in
-    goes-on k t (r + 1) (workFrom n (f .machine) u (k + (r + 1)) (o ++ f .output)) (omega arith) (work-goes n (f .machine) u (k + (r + 1)) (o ++ f .output) (omega arith)))
-    (λ g. let l = ltb-false r (length t) g in let u = run-within inLine t in inl (omega arith)))
-    (λ e. let l = leb-false (length o + lineRoom) outSize e in inr (omega arith))
-
-pub worked-goes : (m : Machine) (t : List ℕ) → (worked m t .taken ≡ length t) ⊎ (4096 < length (worked m t .output))
-unfolding worked
-worked-goes m t =
-    either (λ (w : Work). (w .taken ≡ length t) ⊎ (4096 < length (w .output))) (isFit (m .session))
-    (λ e. from-none (workFrom (length t + 1) m t 0 []) (work-goes (length t + 1) m t 0 [] (omega arith)))
-    (λ e. inl refl)
-  where
-    from-none : (w : Work) → Goes 0 t w → (w .taken ≡ length t) ⊎ (4096 < length (w .output))
-    from-none w (inl e) = inl (omega arith)
-    from-none w (inr e) = inr e
-
--- what is printed of a piece has room where output is handed over in
-work-room : (n : ℕ) (m : Machine) (t : List ℕ) (k : ℕ) (o : List ℕ) → length o ≤ outSize → length (workFrom n m t k o .output) ≤ outSize
-unfolding workFrom
-work-room zero m t k o h = h
-work-room (suc n) m t k o h =
-    let P : Work → Type 0 = λ w. length (w .output) ≤ outSize in
-    let r = run inLine t in
-    let c = chunk m (take r t) in
-    let a = line-room c in
-    let b = length-append o (lineEnd c .output) in
-    either P (leb (length o + lineRoom) outSize)
-    (λ e. let l = leb-true (length o + lineRoom) outSize e in
-    either P (ltb r (length t)) (λ g. work-room n (lineEnd c .machine) (drop (r + 1) t) (k + (r + 1)) (o ++ lineEnd c .output) (omega arith)) (λ g. h))
-    (λ e. h)
-
-pub worked-room : (m : Machine) (t : List ℕ) → length (worked m t .output) ≤ outSize
-unfolding worked
-worked-room m t = either (λ (w : Work). length (w .output) ≤ outSize) (isFit (m .session)) (λ e. work-room (length t + 1) m t 0 [] (omega arith)) (λ e. omega arith)
-
--- something of it is taken, if there is something
-nothing-taken : (m : Machine) (t : List ℕ) → Lives (m .session) → worked m t .taken ≡ 0 → worked m t .output ≡ []
-nothing-taken m t h z =
-    let f = worked-feeds m t h in
-    let e : fedLines m (textLines []) ≡ record { machine = worked m t .machine; output = worked m t .output } = rw z at f in
-    ap (λ (y : Fed). y .output) (sym e ∙ nothing-fed m h)
-
-pub worked-some : (m : Machine) (b : ℕ) (bs : List ℕ) → Lives (m .session) → 1 ≤ worked m (b ∷ bs) .taken
-worked-some m b bs h = by-progress (worked-goes m (b ∷ bs))
-  where
-    by-progress : (worked m (b ∷ bs) .taken ≡ length (b ∷ bs)) ⊎ (4096 < length (worked m (b ∷ bs) .output)) → 1 ≤ worked m (b ∷ bs) .taken
-    by-progress (inl e) = omega arith
-    by-progress (inr e) =
-        decide (1 ≤ worked m (b ∷ bs) .taken) (leb 1 (worked m (b ∷ bs) .taken)) (leb-true 1 (worked m (b ∷ bs) .taken)) λ n.
-        let q = leb-false 1 (worked m (b ∷ bs) .taken) n in
-        let o = ap (λ (y : List ℕ). length y) (nothing-taken m (b ∷ bs) h (omega arith)) in
-        absurd (omega arith)
-
--- of any session, fit or not: no more is taken than there is, and something of a piece that is not empty
-pub taken-within : (m : Machine) (t : List ℕ) → worked m t .taken ≤ length t
-unfolding worked
-taken-within m t =
-    decide (worked m t .taken ≤ length t) (isFit (m .session))
-    (λ e. worked-within m t (inl (fit-parts (m .session) e)))
-    (λ e. let w = ap (λ (y : Work). y .taken) (refused (isFit (m .session)) (workFrom (length t + 1) m t 0 []) (record { machine = m; taken = length t; output = [] }) e) in omega arith)
-
-pub taken-some : (m : Machine) (t : List ℕ) → 1 ≤ length t → 1 ≤ worked m t .taken
-unfolding worked
-taken-some m [] h = absurd (omega arith)
-taken-some m (b ∷ bs) h =
-    decide (1 ≤ worked m (b ∷ bs) .taken) (isFit (m .session))
-    (λ e. worked-some m b bs (inl (fit-parts (m .session) e)))
-    (λ e. let w = ap (λ (y : Work). y .taken) (refused (isFit (m .session)) (workFrom (length (b ∷ bs) + 1) m (b ∷ bs) 0 []) (record { machine = m; taken = length (b ∷ bs); output = [] }) e) in omega arith)
-
 -- ---- the promise
 
 -- all pieces as one input
@@ -328,7 +234,7 @@ piece-ends (suc n) m [] ps l h rest = let r = rest m h in (r .0, next m ps (r .0
 piece-ends (suc n) m (b ∷ bs) ps l h rest =
     let p = b ∷ bs in
     let k = worked m p .taken in
-    let s = worked-some m b bs h in
+    let s = taken-some m p (omega arith) in
     let d = length-drop k p in
     let r = piece-ends n (worked m p .machine) (drop k p) ps (omega arith) (worked-lives m p h) rest in
     (worked m p .output ++ r .0, works m p ps (r .0) (r .1))

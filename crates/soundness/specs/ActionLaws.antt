@@ -20,7 +20,7 @@ use Rattle.working.specs.Working.{told, valueOver, rightValue, conditionValue}
 use Rattle.set.specs.Set.{rankIn, isKnown, isLock, soundLines}
 use Rattle.writing.specs.Write.{Vars, changeFifo, writeTo}
 use Rattle.action.specs.Action.{World, Taken, Did, fromGot, lockOf, takenAt, assignmentOf, driveOf, commandOf, actionOf}
-use Rattle.writing.specs.Drive.{driveOrder}
+use Rattle.drive.specs.Drive.{driveOrder}
 use Rattle.soundness.specs.GoodAnswers.{Holds, holds-then}
 use Rattle.soundness.specs.SetLaws.{rank-inside}
 use Rattle.soundness.specs.CellLaws.{FlagsRight, lock-keeps}

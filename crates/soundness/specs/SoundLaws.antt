@@ -25,8 +25,8 @@ use Rattle.state.specs.declared.state.State.{State}
 use Rattle.calls.specs.declared.host.Called.{Called}
 use Rattle.set.specs.Set.{lineOf, soundLines}
 use Rattle.state.specs.State.{stateCells, powerOn}
-use Rattle.engine.specs.Cells.{inputCount, inputCell, inputCells, beatCells}
-use Rattle.variables.specs.Timers.{timerCells, grownCells}
+use Rattle.cells.specs.Cells.{inputCount, inputCell, inputCells, beatCells}
+use Rattle.timers.specs.Timers.{timerCells, grownCells}
 use Rattle.state.specs.Sound.{isSound}
 use Rattle.action.specs.Action.{World, Did, fromGot}
 use Rattle.actions.specs.Actions.{actionsOf}
@@ -34,7 +34,7 @@ use Rattle.turns.specs.Turn.{Entry, Turned, remembered, counted, takesTurn, doT
 use Rattle.keyword.specs.Keyword.{tries, remembers}
 use Rattle.engine.specs.Beat.{bufferSize, areInputs, begun, ended, beatOf, answered, beatAnswer}
 use Rattle.calls.specs.Calls.{lockCall, unlockCall, cancelCall}
-use Rattle.engine.proofs.CellLaws.{length-inputs}
+use Rattle.cells.proofs.CellLaws.{length-inputs}
 use Rattle.engine.proofs.BeatLaws.{inputs-length}
 use Rattle.soundness.specs.Call.{Call, doBeat, doLock, doUnlock, doCancel, doReset, after, codeAfter, afterAll}
 use Rattle.soundness.specs.GoodAnswers.{Not22, Holds, holds-then}

@@ -29,7 +29,7 @@ use Rattle.variables.specs.Variables.{runStart, cellOf, cellCount, counts, coun
 use Rattle.faults.specs.SingleFault.{outside, readOnly, lower, unless, isWritable, writeFault}
 use Rattle.operators.specs.Operators.{fromWorked}
 use Rattle.state.specs.State.{stateCells}
-use Rattle.engine.specs.Cells.{inputCount}
+use Rattle.cells.specs.Cells.{inputCount}
 use Rattle.state.specs.Sound.{isCell, isOutput}
 use Rattle.writing.specs.Write.{Vars, Changed, Celled, withRunAt, moved, writeTimer, changeAnswer, changed, changeFifo, writeFifo, writeCell, writeInside, writeTo}
 use Rattle.tokens.proofs.Indices.{last-inside}

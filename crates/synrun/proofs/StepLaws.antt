@@ -11,7 +11,7 @@ use Rattle.transcript.specs.Held.{IsWork}
 use Rattle.transcript.specs.RoomLaws.{finished-text-room}
 use Rattle.text.specs.PutAt.{putAt}
 use Rattle.text.specs.PutLaws.{put-length}
-use Rattle.sessions.specs.PieceLaws.{worked-room, taken-within, taken-some}
+use Rattle.transcript.specs.TakenLaws.{worked-room, taken-within, taken-some}
 
 -- what is left of a piece behind k bytes
 pub left-length : (k : ℕ) (t : List ℕ) → length (take (length t - k) (drop k t)) ≡ length t - k

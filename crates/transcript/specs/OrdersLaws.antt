@@ -21,7 +21,7 @@ use Rattle.soundness.specs.SetLaws.{lines-lined}
 use Rattle.state.specs.Sound.{isSound}
 use Rattle.action.specs.Action.{World, Did, ordered, fromGot, lockOf, takenAt, assignmentOf, driveOf, commandOf, actionOf}
 use Rattle.actions.specs.Actions.{actionsOf}
-use Rattle.writing.specs.Drive.{driveOrder}
+use Rattle.drive.specs.Drive.{driveOrder}
 use Rattle.writing.specs.Write.{writeTo}
 use Rattle.turns.specs.Turn.{Entry, Turned, worked, remembered, counted, takesTurn, doTurn, tryTurn, turnOf, turnsFrom}
 use Rattle.keyword.specs.Keyword.{tries, acts, remembers}

@@ -22,7 +22,7 @@ use Rattle.turns.specs.Turn.{Entry, worked, Turned, lockEntry, remembere
 use Rattle.keyword.specs.Keyword.{tries, acts, remembers}
 use Rattle.action.specs.Held.{worldOf, IsDone}
 use Rattle.turns.specs.TurnHeld.{IsTurned, withLines}
-use Rattle.writing.proofs.WriteHeldLaws.{contrary}
+use Rattle.values.specs.Choice.{contrary}
 
 -- what actions did is what their turn comes to
 pub done-turned : (x : Done) (r c : List ℤ) (out : List ℕ) (y : Answer Did) (es : List Entry) → IsDone x r c out y → IsTurned x r c out (y >>= λ d. good (record { world = d .world; entries = es ++ map lockEntry (d .notes) }))

@@ -1,5 +1,5 @@
 -- How a proof goes by cases over a computed test: it learns what the test gave. Laws; nothing is assumed.
-use mathlib.Core.Path.{_≡_, refl}
+use mathlib.Core.Path.{_≡_, refl, sym, _∙_}
 use mathlib.Core.Bool.{Bool, true, false, cond, _&&_, false≢true}
 use lib.Dec.{T}
 
@@ -11,6 +11,10 @@ holds false h = absurd h
 pub told-so : (b : Bool) → b ≡ true → T b
 told-so true h = tt
 told-so false h = absurd (false≢true h)
+
+-- no test gives both
+pub contrary : {A : Type 0} {b : Bool} → b ≡ true → b ≡ false → A
+contrary t f = absurd (false≢true (sym f ∙ t))
 
 -- a test of two parts
 pub both : (a b : Bool) → (a && b) ≡ true → (a ≡ true) × (b ≡ true)

@@ -1,3 +1,2 @@
--- Laws that several proofs cite: Cells on counts and where cells lie, TimerLaws on timers that grow.
+-- Cells: laws on counts and where cells lie, which several proofs cite.
 pub mod Cells
-pub mod TimerLaws

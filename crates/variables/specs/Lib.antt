@@ -1,3 +1,2 @@
--- Variables where each variable lies and what it reads, Timers the timers among the cells. Definitions only.
+-- Variables: where each variable lies and what it reads. Definitions only.
 pub mod Variables
-pub mod Timers

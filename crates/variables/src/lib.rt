@@ -1,5 +1,4 @@
-// The variables: where each lies, what each reads, and how the timers among them grow.
+// The variables: where each lies, and what each reads.
 //
 // No public call asks anything of its caller.
-pub mod timers;
 pub mod variables;

@@ -4,10 +4,10 @@
 ghost use mathlib.Core.Path.{_≡_};
 ghost use mathlib.Core.Bool.{true};
 ghost use Prim.Native.Nat.{_<_};
-ghost use Rattle.tokens.specs.Token.{room, isFactor, isTerm, isCompare, isLogic, setSize};
+ghost use Rattle.tokens.specs.Token.{isFactor, isTerm, isCompare, isLogic, setSize};
 ghost use Rattle.tokens.specs.Reading.{upTo, then, readOperand, readClose, readVariable, readTruth, factorsBehind, termsBehind, rowBehind, productAt, sumAt, expressionAt};
 ghost use Rattle.operators.specs.Pair.{said};
-ghost use Rattle.operators.specs.Operators.{fromWorked, joinValues};
+ghost use Rattle.operators.specs.Operators.{joinValues};
 ghost use Rattle.working.specs.Working.{valueOver, told, negated, inverted, conditionValue, rightValue};
 use operators::join::is_yes;
 use operators::join::join_logic;
@@ -18,6 +18,7 @@ use operators::pair::alarm_of;
 use operators::pair::next_of;
 use operators::pair::pair_of;
 use operators::pair::value_of;
+use operators::pair::worked_pair;
 use tokens::token::CLOSE;
 use tokens::token::FALSE;
 use tokens::token::MINUS;
@@ -38,7 +39,6 @@ use tokens::token::is_term;
 use tokens::token::is_variable;
 use tokens::token::token_at;
 use values::arithmetic;
-use values::arithmetic::Worked;
 use variables::variables::CELLS;
 use variables::variables::RS;
 use variables::variables::UNSOUND;
@@ -52,16 +52,6 @@ pub struct Got {
 }
 
 // ---- what one step gives
-
-fn worked_pair(w: Worked, next: usize) -> u64
-    requires { ⌜ (0 < next) × (next < room) ⌝ }
-    ensures { λ x. ⌜ said x ≡ upTo (fromWorked w) next ⌝ }
-{
-    match w {
-        Worked::Value(v) => pair_of(v, next),
-        Worked::Alarm(k) => alarm_of(k),
-    }
-}
 
 // A value, the factor's operator behind it, and what was read behind that.
 fn join_factor(op: u32, a: i32, b: u64) -> u64

@@ -1,22 +1,17 @@
 -- What an answer of the code to a write says of the definition's: where it is good the definition gives what is held, else it stops with that alarm. One pair of laws for each answer.
 use mathlib.Core.Path.{_≡_, sym, ap}
-use mathlib.Core.Bool.{Bool, true, false}
+use mathlib.Core.Bool.{true, false}
 use mathlib.Core.List.{List}
 use Prim.Native.Nat.{ℕ}
 use lib.IntN.{ℤ}
+use Rattle.values.specs.Choice.{contrary}
 use Rattle.values.specs.Numbers.{clash}
 use Rattle.values.specs.declared.arithmetic.Worked.{Worked}
 use Rattle.values.specs.declared.arithmetic.Worked.the-variants.{Value, Alarm}
-use Rattle.orders.specs.declared.order.Order.{Order}
 use Rattle.tokens.specs.Reading.{Answer, good, stop, _>>=_}
 use Rattle.writing.specs.declared.write.Wrote.{Wrote}
-use Rattle.writing.specs.declared.drive.Ordered.{Ordered}
 use Rattle.writing.specs.Write.{Vars, Changed, Celled}
-use Rattle.writing.specs.WriteHeld.{varsOf, IsChanged, IsCelled, IsWritten, IsOrder}
-
--- what is good does not stop
-pub contrary : {A : Type 0} {b : Bool} → b ≡ true → b ≡ false → A
-contrary t f = clash (cc)
+use Rattle.writing.specs.WriteHeld.{varsOf, IsChanged, IsCelled, IsWritten}
 
 module _ (x : Worked) (r c : List ℤ) where
   pub changed-good : (y : Answer Changed) → IsChanged x r c y → {v : ℤ} → x ≡ Value v → y ≡ good (record { value = v; r = r; cells = c })
@@ -35,15 +30,6 @@ module _ (x : Wrote) (r c : List ℤ) where
   pub written-stop : (y : Answer Vars) → IsWritten x r c y → x .good ≡ false → y ≡ stop (x .alarm)
   written-stop (good a) h e = contrary (h .0) e
   written-stop (stop k) h e = cc
-
-module _ (x : Ordered) where
-  pub order-good : (y : Answer Order) → IsOrder x y → x .good ≡ true → y ≡ good (x .order)
-  order-good (good a) h e = ap good (sym (h .1))
-  order-good (stop k) h e = contrary e (h .0)
-
-  pub order-stop : (y : Answer Order) → IsOrder x y → x .good ≡ false → y ≡ stop (x .alarm)
-  order-stop (good a) h e = contrary (h .0) e
-  order-stop (stop k) h e = cc
 
 -- what a cell's write gave is written, and changes nothing of R
 pub celled-written : (x : Wrote) (r c : List ℤ) (y : Answer Celled) → IsCelled x c y → IsWritten x r c (y >>= λ a. good (record { r = r; cells = a .cells; runs = a .runs }))

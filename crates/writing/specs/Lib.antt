@@ -1,4 +1,3 @@
--- Write what a write makes of the variables, Drive the orders of the drives, WriteHeld how the code holds both. Definitions only.
+-- Write what a write makes of the variables, WriteHeld how the code holds it. Definitions only.
 pub mod Write
-pub mod Drive
 pub mod WriteHeld

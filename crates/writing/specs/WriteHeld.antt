@@ -1,14 +1,12 @@
--- How the code holds the variables of a beat under way, and what its answers to a write and to a drive say of them. Definitions only.
+-- How the code holds the variables of a beat under way, and what its answers to a write say of them. Definitions only.
 use mathlib.Core.Path.{_≡_}
 use mathlib.Core.Bool.{Bool, true, false}
 use mathlib.Core.List.{List}
 use lib.IntN.{ℤ}
 use Rattle.values.specs.declared.arithmetic.Worked.{Worked}
 use Rattle.values.specs.declared.arithmetic.Worked.the-variants.{Value, Alarm}
-use Rattle.orders.specs.declared.order.Order.{Order}
 use Rattle.tokens.specs.Reading.{Answer, good, stop}
 use Rattle.writing.specs.declared.write.Wrote.{Wrote}
-use Rattle.writing.specs.declared.drive.Ordered.{Ordered}
 use Rattle.writing.specs.Write.{Vars, Changed, Celled}
 
 abbrev pub varsOf : List ℤ → List ℤ → List Bool → Vars
@@ -25,7 +23,3 @@ IsCelled x c (stop k) = (x .good ≡ false) × (x .alarm ≡ k)
 abbrev pub IsWritten : Wrote → List ℤ → List ℤ → Answer Vars → Type 0
 IsWritten x r c (good v) = (x .good ≡ true) × (varsOf r c (x .runs) ≡ v)
 IsWritten x r c (stop k) = (x .good ≡ false) × (x .alarm ≡ k)
-
-abbrev pub IsOrder : Ordered → Answer Order → Type 0
-IsOrder x (good o) = (x .good ≡ true) × (x .order ≡ o)
-IsOrder x (stop k) = (x .good ≡ false) × (x .alarm ≡ k)

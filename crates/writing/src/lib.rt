@@ -1,5 +1,4 @@
-// What an action writes: a variable, or the order of a drive.
+// What an action writes to a variable.
 //
 // No public call asks anything of its caller.
-pub mod drive;
 pub mod write;

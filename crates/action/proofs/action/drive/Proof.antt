@@ -13,10 +13,10 @@ use Rattle.values.proofs.Signed.{back}
 use Rattle.tokens.specs.Reading.{Answer, good, indexAt}
 use Rattle.working.specs.Working.{rightValue}
 use Rattle.action.specs.Action.{fromGot, driveOf}
-use Rattle.writing.specs.Drive.{driveOrder}
-use Rattle.writing.specs.WriteHeld.{IsOrder}
+use Rattle.drive.specs.Drive.{driveOrder}
+use Rattle.drive.specs.DriveHeld.{IsOrder}
 use Rattle.action.proofs.HeldLaws.{worked-good, worked-stop, same-flags}
-use Rattle.writing.proofs.WriteHeldLaws.{order-good, order-stop}
+use Rattle.drive.proofs.DriveHeldLaws.{order-good, order-stop}
 use Rattle.action.proofs.action.drive.Statement.{statement}
 use Rattle.action.proofs.action.drive.Tie as tie
 

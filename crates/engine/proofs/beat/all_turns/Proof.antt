@@ -2,12 +2,14 @@
 use borrow.Author.Needs.{needs}
 use borrow.Author.Tests.{not-true, not-false}
 use native.Mathlib.Omega.{arith}
+use mathlib.Core.Path.{_∙_}
 use denote.Ref.{now}
 use Rattle.tokens.specs.Reading.{Answer}
 use Rattle.turns.specs.Turn.{Turned, turnsFrom}
 use Rattle.engine.specs.Beat.{begun}
 use Rattle.turns.specs.TurnHeld.{IsTurned}
 use Rattle.turns.proofs.TurnLaws.{turned-good, turned-stop, few-lines}
+use Rattle.cells.proofs.CellLaws.{cells-told}
 use Rattle.engine.proofs.BeatLaws.{refuses, answers, writes}
 use Rattle.engine.proofs.beat.all_turns.Statement.{statement}
 use Rattle.engine.proofs.beat.all_turns.Tie as tie
@@ -18,7 +20,7 @@ all c = let a = c .before .before .before .before .before .before .before .befor
 
 came : (c : tie.After-turns) → let d = c .turns in let o = d .last .1 .1 .1 .1 in IsTurned (d .result) (o .0) (o .1 .0) (o .1 .1 .0) (all c)
 unfolding begun
-came c = let s = c .before .before .before .before .before .before .before .before .before .before in rw (few-lines (s .args .lines .count) _ (s .pre .0), c .before .before .before .before .before .beat-cells .ensures) at (c .turns .ensures .0)
+came c = let s = c .before .before .before .before .before .before .before .before .before .before in rw (few-lines (s .args .lines .count) _ (s .pre .0), c .before .before .before .before .before .beat-cells .ensures ∙ cells-told (s .args .inputs) (now (s .args .lent)) (s .args .state .runs) (s .args .state .cells) (s .pre .1 .0)) at (c .turns .ensures .0)
 
 pub all-turns-spec : {M : Type 1} → statement M
 all-turns-spec =

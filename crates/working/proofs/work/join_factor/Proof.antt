@@ -21,19 +21,19 @@ join-factor-spec =
     (λ c. passes _ (c .before .next-of .ensures) _ (c .if1 .taken))
     (λ c κs. search needs)
     (λ c κs. search needs)
-    (λ c κs. let n = c .before .before .before .before in (omega (arith, c .before .before .before .if1 .left), room _ (n .next-of .ensures)))
+    (λ c κs. search needs)
     (λ c.
     let v = c .before .before in
     let n = v .before .before .before in
     let a = n .before .args in
     enters _ (n .next-of .ensures) (v .value-of .ensures) (λ (y : ℤ) (q : ℕ). upTo (joinValues (a .op) (a .a) y) q) (v .before .before .if1 .left)
-    (gives _ (c .worked-pair .ensures) (c .before .product .ensures ∙ both productOf (n .before .fits .a) (record { sfits = v .value-of .ok })) (times (a .op) (a .a) _ (v .before .if2 .taken))))
+    (gives _ (c .worked-pair .ensures .1 (omega (arith, v .before .before .if1 .left), room _ (n .next-of .ensures))) (c .before .product .ensures ∙ both productOf (n .before .fits .a) (record { sfits = v .value-of .ok })) (times (a .op) (a .a) _ (v .before .if2 .taken))))
     (λ c κs. search needs)
     (λ c κs. search needs)
-    (λ c κs. let n = c .before .before .before .before in (omega (arith, c .before .before .before .if1 .left), room _ (n .next-of .ensures)))
+    (λ c κs. search needs)
     (λ c.
     let v = c .before .before in
     let n = v .before .before .before in
     let a = n .before .args in
     enters _ (n .next-of .ensures) (v .value-of2 .ensures) (λ (y : ℤ) (q : ℕ). upTo (joinValues (a .op) (a .a) y) q) (v .before .before .if1 .left)
-    (gives _ (c .worked-pair2 .ensures) (c .before .quotient .ensures ∙ both quotientOf (n .before .fits .a) (record { sfits = v .value-of2 .ok })) (over (a .op) (a .a) _ (n .before .pre) (v .before .if2 .left)))))
+    (gives _ (c .worked-pair2 .ensures .1 (omega (arith, v .before .before .if1 .left), room _ (n .next-of .ensures))) (c .before .quotient .ensures ∙ both quotientOf (n .before .fits .a) (record { sfits = v .value-of2 .ok })) (over (a .op) (a .a) _ (n .before .pre) (v .before .if2 .left)))))

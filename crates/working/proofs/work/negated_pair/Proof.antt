@@ -18,9 +18,9 @@ negated-pair-spec =
     (λ c. passes _ (c .before .next-of .ensures) _ (c .if1 .taken))
     (λ c κs. search needs)
     (λ c κs. search needs)
-    (λ c κs. (omega (arith, c .before .before .if1 .left), room _ (c .before .before .before .next-of .ensures)))
+    (λ c κs. search needs)
     (λ c.
     let v = c .before .before in
     let n = v .before .before in
     enters _ (n .next-of .ensures) (v .value-of .ensures) negated (v .before .if1 .left)
-    (gives _ (c .worked-pair .ensures) (c .before .negation .ensures ∙ ap negationOf (back w32 (record { sfits = v .value-of .ok }))) refl)))
+    (gives _ (c .worked-pair .ensures .1 (omega (arith, v .before .if1 .left), room _ (n .next-of .ensures))) (c .before .negation .ensures ∙ ap negationOf (back w32 (record { sfits = v .value-of .ok }))) refl)))

@@ -27,6 +27,6 @@ variable-spec =
     (λ c.
     let d = c .before .before .before .before in
     let a = d .before .before .before .args in
-    gives (a .at + 4) (c .worked-pair .ensures) (c .before .variable-value .ensures ∙ ap (λ (i : ℕ). variableValue (a .r .now) (a .cells .now) (a .w) i) (c .before .before .index-at .ensures))
+    gives (a .at + 4) (c .worked-pair .ensures .1 (omega arith, omega (arith, d .before .before .before .pre))) (c .before .variable-value .ensures ∙ ap (λ (i : ℕ). variableValue (a .r .now) (a .cells .now) (a .w) i) (c .before .before .index-at .ensures))
     refl ∙
     sym (indexed _ _ _ _ (sym (d .before .is-indexed .ensures) ∙ not-false _ (d .if1 .left)))))

@@ -1,0 +1,2 @@
+-- Cells: the cells of a beat. Definitions only.
+pub mod Cells

@@ -1,0 +1,2 @@
+-- DriveHeldLaws: what an answer says of the definition's.
+pub mod DriveHeldLaws

@@ -1,0 +1,2 @@
+-- TimerLaws: timers that a loop grows.
+pub mod TimerLaws

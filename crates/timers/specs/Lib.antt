@@ -1,0 +1,2 @@
+-- Timers: the timers among the cells. Definitions only.
+pub mod Timers
