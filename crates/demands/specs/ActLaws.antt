@@ -12,14 +12,14 @@ use lib.ListN.{getD}
 use borrow.Author.Tests.{eq-eqb, ne-eqb}
 use Rattle.values.specs.Numbers.{clash}
 use Rattle.tokens.specs.Reading.{Answer, good, stop, _>>=_}
-use Rattle.operators.specs.Operators.{isYes}
+use Rattle.working.specs.Operators.{isYes}
 use Rattle.working.specs.Working.{conditionValue}
-use Rattle.code.specs.declared.check.Line.{Line}
-use Rattle.set.specs.declared.set.Lines.{Lines}
-use Rattle.set.specs.Set.{noLine}
-use Rattle.action.specs.Action.{World, Note, fromGot}
-use Rattle.actions.specs.Actions.{actionsOf}
-use Rattle.turns.specs.Turn.{Entry, worked, locks, lockEntry, Turned, counted, doTurn}
+use Rattle.checking.specs.declared.check.Line.{Line}
+use Rattle.engine.specs.declared.set.Lines.{Lines}
+use Rattle.engine.specs.Set.{noLine}
+use Rattle.engine.specs.Action.{World, Note, fromGot}
+use Rattle.engine.specs.Actions.{actionsOf}
+use Rattle.engine.specs.Turn.{Entry, worked, locks, lockEntry, Turned, counted, doTurn}
 use Rattle.demands.specs.Record.{Record, after, only, orElse, isAutomatic, wasTrue, everTrue, takesByRule, triesByRule, actsByRule}
 use Rattle.demands.specs.Run.{byRank, cancelledBy, tryByRule, turnByRule, turnsByRule}
 use Rattle.demands.specs.Acts.{isActed, isYesAnswer, conditionNow, triesNow, actsNow}

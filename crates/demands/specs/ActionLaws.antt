@@ -11,11 +11,11 @@ use Rattle.values.specs.Choice.{either}
 use Rattle.tokens.specs.Token.{END, M, SETAL, LOCK, isVariable, isDrive, whole, maxLines}
 use Rattle.tokens.specs.Reading.{Answer, good, stop, _>>=_, indexAt}
 use Rattle.working.specs.Working.{rightValue}
-use Rattle.set.specs.Set.{rankIn}
-use Rattle.action.specs.Action.{World, Note, Did, fromGot, takenAt, assignmentOf, lockOf, commandOf, driveOf, actionOf}
-use Rattle.actions.specs.Actions.{actionsOf}
-use Rattle.drive.specs.Drive.{driveOrder}
-use Rattle.writing.specs.Write.{writeTo}
+use Rattle.engine.specs.Set.{rankIn}
+use Rattle.engine.specs.Action.{World, Note, Did, fromGot, takenAt, assignmentOf, lockOf, commandOf, driveOf, actionOf}
+use Rattle.engine.specs.Actions.{actionsOf}
+use Rattle.engine.specs.Drive.{driveOrder}
+use Rattle.engine.specs.Write.{writeTo}
 use Rattle.soundness.specs.GoodAnswers.{Ok, is-ok, bind-ok}
 
 -- ---- answers

@@ -5,10 +5,10 @@ use Prim.Native.Nat.{ℕ, _/_, _%_, _^_}
 use lib.Dec.{eqb}
 use lib.IntN.{ℤ}
 use Rattle.tokens.specs.Reading.{Answer, good, stop}
-use Rattle.operators.specs.Operators.{isYes}
+use Rattle.working.specs.Operators.{isYes}
 use Rattle.working.specs.Working.{conditionValue}
-use Rattle.code.specs.declared.check.Line.{Line}
-use Rattle.action.specs.Action.{World, fromGot}
+use Rattle.checking.specs.declared.check.Line.{Line}
+use Rattle.engine.specs.Action.{World, fromGot}
 use Rattle.demands.specs.Record.{Record, takesByRule, triesByRule, actsByRule}
 use Rattle.soundness.specs.Call.{Call, doBeat, doLock, doUnlock, doCancel, doReset}
 use Rattle.demands.specs.Run.{Reply}

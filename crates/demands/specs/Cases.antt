@@ -7,27 +7,27 @@ use lib.IntN.{pos}
 use lib.ListN.{replicate}
 use Rattle.tokens.specs.Token.{END, EQUALS, SAME, OPEN, CLOSE, LEFT, RIGHT, ID, IDS, WHEN, WHENEVER, FROM, EVERY, DO, IN, OUT, M, LOCK, wholeToken}
 use Rattle.values.specs.Value.{inRange, valued, lessThan, equalTo, wholeUnits, outputOf}
-use Rattle.time.specs.Time.{grownTimer}
+use Rattle.values.specs.Time.{grownTimer}
 use Rattle.tokens.specs.Reading.{isIndex, indexOf, isIndexed, indexAt, joined, more, readProduct, readSum, readRest, readExpression, readVariable, operandFrom, readOperand, sumAt, expressionAt}
 use Rattle.tokens.specs.Index.{isInside}
-use Rattle.variables.specs.Variables.{cellOf, variableValue}
-use Rattle.faults.specs.SingleFault.{lower, opensTooMany, wantingFault, numberFault, readFault, isWritable, writeFault, codeFault, idFault, callFault}
-use Rattle.code.specs.Fault.{joinSights, sight, countFault, numberOf, isRemoval, assignedAt, assignmentAt, commandAt, actionAt, actionsAt, lineParts, bodyAt, restAt, lineAt}
-use Rattle.operators.specs.Operators.{joinTruths, joinValues}
+use Rattle.working.specs.Variables.{cellOf, variableValue}
+use Rattle.tokens.specs.SingleFault.{lower, opensTooMany, wantingFault, numberFault, readFault, isWritable, writeFault, codeFault, idFault, callFault}
+use Rattle.checking.specs.Fault.{joinSights, sight, countFault, numberOf, isRemoval, assignedAt, assignmentAt, commandAt, actionAt, actionsAt, lineParts, bodyAt, restAt, lineAt}
+use Rattle.working.specs.Operators.{joinTruths, joinValues}
 use Rattle.working.specs.Working.{valueOver, conditionValue, rightValue}
-use Rattle.set.specs.Set.{linesFrom, linesRead, rankIn, namesKnown, allKnown, namedLines, soundLines}
-use Rattle.state.specs.State.{powerOn}
-use Rattle.timers.specs.Timers.{grownCells}
-use Rattle.cells.specs.Cells.{inputCells, beatCells}
-use Rattle.state.specs.Sound.{allRanged, isCell, areCells, allZero, isFifoSound, isFlag, areFlags, stateSound, isSound}
-use Rattle.writing.specs.Write.{writeCell, writeInside, writeTo}
-use Rattle.action.specs.Action.{lockOf, takenAt, assignmentOf, commandOf, actionOf}
-use Rattle.actions.specs.Actions.{actionsOf}
-use Rattle.keyword.specs.Keyword.{tries, acts, remembers}
-use Rattle.turns.specs.Turn.{takesTurn, doTurn, tryTurn, turnOf, turnsFrom}
+use Rattle.engine.specs.Set.{linesFrom, linesRead, rankIn, namesKnown, allKnown, namedLines, soundLines}
+use Rattle.engine.specs.State.{powerOn}
+use Rattle.engine.specs.Timers.{grownCells}
+use Rattle.engine.specs.Cells.{inputCells, beatCells}
+use Rattle.engine.specs.Sound.{allRanged, isCell, areCells, allZero, isFifoSound, isFlag, areFlags, stateSound, isSound}
+use Rattle.engine.specs.Write.{writeCell, writeInside, writeTo}
+use Rattle.engine.specs.Action.{lockOf, takenAt, assignmentOf, commandOf, actionOf}
+use Rattle.engine.specs.Actions.{actionsOf}
+use Rattle.engine.specs.Keyword.{tries, acts, remembers}
+use Rattle.engine.specs.Turn.{takesTurn, doTurn, tryTurn, turnOf, turnsFrom}
 use Rattle.engine.specs.Beat.{areInputs, begun, ended, beatOf, beatAnswer, beatBuffer}
-use Rattle.state.specs.Find.{foundAt, found}
-use Rattle.calls.specs.Calls.{called, lockedCall, lockCall, unlockCall, cancelCall, resetCancelled, zeroed, resetState, resetCall}
+use Rattle.engine.specs.Find.{foundAt, found}
+use Rattle.engine.specs.Calls.{called, lockedCall, lockCall, unlockCall, cancelCall, resetCancelled, zeroed, resetState, resetCall}
 use Rattle.soundness.specs.Call.{Call, doBeat, doLock, doUnlock, doCancel, doReset}
 use Rattle.demands.specs.Run.{run, step, runFrom}
 

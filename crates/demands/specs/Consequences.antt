@@ -13,23 +13,23 @@ use Rattle.values.specs.Numbers.{clash}
 use Rattle.values.specs.Choice.{either}
 use Rattle.tokens.specs.Token.{WHEN, EVERY}
 use Rattle.tokens.specs.Reading.{Answer, good, stop, _>>=_}
-use Rattle.operators.specs.Operators.{isYes}
+use Rattle.working.specs.Operators.{isYes}
 use Rattle.working.specs.Working.{conditionValue}
-use Rattle.code.specs.declared.check.Line.{Line}
-use Rattle.set.specs.declared.set.Lines.{Lines}
-use Rattle.state.specs.declared.state.State.{State}
-use Rattle.state.specs.declared.find.Found.{Found}
-use Rattle.calls.specs.declared.host.Called.{Called}
-use Rattle.set.specs.Set.{noLine, soundLines}
-use Rattle.state.specs.Sound.{isSound}
-use Rattle.writing.specs.Write.{Vars}
-use Rattle.action.specs.Action.{World, Note, Did, fromGot}
-use Rattle.actions.specs.Actions.{actionsOf}
-use Rattle.turns.specs.Turn.{Entry, beatIn, worked, locks, cancels, resets, Turned, counted, doTurn, turnsFrom}
+use Rattle.checking.specs.declared.check.Line.{Line}
+use Rattle.engine.specs.declared.set.Lines.{Lines}
+use Rattle.engine.specs.declared.state.State.{State}
+use Rattle.engine.specs.declared.find.Found.{Found}
+use Rattle.engine.specs.declared.calls.Called.{Called}
+use Rattle.engine.specs.Set.{noLine, soundLines}
+use Rattle.engine.specs.Sound.{isSound}
+use Rattle.engine.specs.Write.{Vars}
+use Rattle.engine.specs.Action.{World, Note, Did, fromGot}
+use Rattle.engine.specs.Actions.{actionsOf}
+use Rattle.engine.specs.Turn.{Entry, beatIn, worked, locks, cancels, resets, Turned, counted, doTurn, turnsFrom}
 use Rattle.engine.specs.Beat.{bufferSize, areInputs, begun, beatOf, answered, beatAnswer}
-use Rattle.state.specs.Find.{found}
-use Rattle.calls.specs.Calls.{withLocked, called, lockedCall, lockCall, unlockCall}
-use Rattle.set.proofs.SetLaws.{sound-count}
+use Rattle.engine.specs.Find.{found}
+use Rattle.engine.specs.Calls.{withLocked, called, lockedCall, lockCall, unlockCall}
+use Rattle.engine.proofs.SetLaws.{sound-count}
 use Rattle.demands.specs.Record.{Record, after, isAutomatic, everTrue, wasTrue, takesByRule, triesByRule, actsByRule}
 use Rattle.soundness.specs.Call.{Call, doBeat, doLock, doUnlock, doCancel, doReset}
 use Rattle.demands.specs.Run.{Now, coded, noted, rankOf, codeByRule, cleared, run, stateBy, begunBy, byRank, cancelledBy, tryByRule, turnByRule, turnsByRule, beatByRule, stepByRule, resetByRule, runByRuleFrom, runByRule, beatenByRule}

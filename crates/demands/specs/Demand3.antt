@@ -11,19 +11,19 @@ use borrow.Author.Tests.{lt-ltb, ltb-true}
 use Rattle.tokens.specs.Token.{maxLines}
 use Rattle.values.specs.Choice.{either}
 use Rattle.tokens.specs.Reading.{Answer, good, stop, _>>=_}
-use Rattle.set.specs.declared.set.Lines.{Lines}
-use Rattle.state.specs.declared.state.State.{State}
-use Rattle.state.specs.declared.find.Found.{Found}
-use Rattle.calls.specs.declared.host.Called.{Called}
-use Rattle.set.specs.Set.{noLine, soundLines}
-use Rattle.state.specs.State.{powerOn}
-use Rattle.state.specs.Sound.{unsoundCode, isSound}
-use Rattle.writing.specs.Write.{Vars}
-use Rattle.turns.specs.Turn.{Entry, beatIn, locks, cancels, resets, Turned}
+use Rattle.engine.specs.declared.set.Lines.{Lines}
+use Rattle.engine.specs.declared.state.State.{State}
+use Rattle.engine.specs.declared.find.Found.{Found}
+use Rattle.engine.specs.declared.calls.Called.{Called}
+use Rattle.engine.specs.Set.{noLine, soundLines}
+use Rattle.engine.specs.State.{powerOn}
+use Rattle.engine.specs.Sound.{unsoundCode, isSound}
+use Rattle.engine.specs.Write.{Vars}
+use Rattle.engine.specs.Turn.{Entry, beatIn, locks, cancels, resets, Turned}
 use Rattle.engine.specs.Beat.{bufferSize, areInputs, begun, ended, beatOf, answered, buffered, beatAnswer, beatBuffer}
-use Rattle.state.specs.Find.{unknownLine, foundAt, found}
-use Rattle.calls.specs.Calls.{withLocked, withCancelled, called, lockedCall, lockCall, unlockCall, cancelCall, resetState, resetCall}
-use Rattle.set.proofs.SetLaws.{sound-count}
+use Rattle.engine.specs.Find.{unknownLine, foundAt, found}
+use Rattle.engine.specs.Calls.{withLocked, withCancelled, called, lockedCall, lockCall, unlockCall, cancelCall, resetState, resetCall}
+use Rattle.engine.proofs.SetLaws.{sound-count}
 use Rattle.demands.specs.Record.{Record, after, isCancelled, isLocked}
 use Rattle.soundness.specs.Call.{Call, doBeat, doLock, doUnlock, doCancel, doReset}
 use Rattle.demands.specs.Run.{Now, coded, entriesOf, rankOf, hosted, beaten, step, runFrom, run, byRank, cancelledBy, lockedBy, remembersBy, memoryBy, variablesOf, stateBy, begunBy, endedBy, turnsByRule, beatByRule, codeByRule, hostedByRule, beatenByRule, cleared, resetByRule, stepByRule, runByRuleFrom, runByRule}

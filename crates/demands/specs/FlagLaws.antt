@@ -10,11 +10,11 @@ use lib.ListN.{length, getD, set, replicate, length-set, length-replicate, getD-
 use lib.Seq.{getD-set-same, getD-set-other, ext-getD}
 use borrow.Author.Tests.{eq-eqb, eqb-false, eqb-true, ltb-true}
 use Rattle.tokens.specs.Token.{WHEN, FROM, EVERY, maxLines}
-use Rattle.set.specs.declared.set.Lines.{Lines}
-use Rattle.set.specs.Set.{noLine}
-use Rattle.turns.specs.Turn.{worked, locks, cancels, resets}
-use Rattle.keyword.specs.Keyword.{remembers}
-use Rattle.calls.specs.Calls.{resetCancelled}
+use Rattle.engine.specs.declared.set.Lines.{Lines}
+use Rattle.engine.specs.Set.{noLine}
+use Rattle.engine.specs.Turn.{worked, locks, cancels, resets}
+use Rattle.engine.specs.Keyword.{remembers}
+use Rattle.engine.specs.Calls.{resetCancelled}
 use Rattle.demands.specs.Record.{Record, only, orElse, isCancelled, isLocked, wasTrue, everTrue}
 use Rattle.demands.specs.Run.{ranks, byRank, cancelledBy, lockedBy, remembersBy, memoryBy}
 

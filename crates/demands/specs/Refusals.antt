@@ -9,15 +9,15 @@ use lib.IntN.{ℤ}
 use lib.ListN.{length}
 use borrow.Author.Tests.{eqb-true}
 use Rattle.tokens.specs.Reading.{Answer, good, stop}
-use Rattle.state.specs.declared.state.State.{State}
-use Rattle.calls.specs.declared.host.Called.{Called}
-use Rattle.state.specs.declared.find.Found.{Found}
-use Rattle.set.specs.Set.{soundLines}
-use Rattle.state.specs.Sound.{unsoundCode, isSound}
-use Rattle.turns.specs.Turn.{Entry, Turned}
+use Rattle.engine.specs.declared.state.State.{State}
+use Rattle.engine.specs.declared.calls.Called.{Called}
+use Rattle.engine.specs.declared.find.Found.{Found}
+use Rattle.engine.specs.Set.{soundLines}
+use Rattle.engine.specs.Sound.{unsoundCode, isSound}
+use Rattle.engine.specs.Turn.{Entry, Turned}
 use Rattle.engine.specs.Beat.{beatOf, answered, buffered, beatAnswer, beatBuffer}
-use Rattle.state.specs.Find.{found}
-use Rattle.calls.specs.Calls.{withLocked, withCancelled, called, lockedCall, lockCall, unlockCall, cancelCall, resetState, resetCall}
+use Rattle.engine.specs.Find.{found}
+use Rattle.engine.specs.Calls.{withLocked, withCancelled, called, lockedCall, lockCall, unlockCall, cancelCall, resetState, resetCall}
 use Rattle.soundness.specs.Call.{Call, doBeat, doLock, doUnlock, doCancel, doReset}
 use Rattle.demands.specs.Run.{Now, entriesOf, noted, step}
 

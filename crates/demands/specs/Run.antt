@@ -8,23 +8,23 @@ use lib.IntN.{ℤ}
 use lib.ListN.{length, getD, drop}
 use Rattle.tokens.specs.Token.{WHEN, FROM, EVERY, maxLines}
 use Rattle.tokens.specs.Reading.{Answer, good, stop, _>>=_}
-use Rattle.operators.specs.Operators.{isYes}
+use Rattle.working.specs.Operators.{isYes}
 use Rattle.working.specs.Working.{conditionValue}
-use Rattle.code.specs.declared.check.Line.{Line}
-use Rattle.set.specs.declared.set.Lines.{Lines}
-use Rattle.state.specs.declared.state.State.{State}
-use Rattle.engine.specs.declared.beat.Beaten.{Beaten}
-use Rattle.calls.specs.declared.host.Called.{Called}
-use Rattle.set.specs.Set.{noLine, rankIn, soundLines}
-use Rattle.state.specs.State.{powerOn}
-use Rattle.cells.specs.Cells.{inputCount, beatCells}
-use Rattle.state.specs.Sound.{unsoundCode, isSound}
-use Rattle.writing.specs.Write.{Vars}
-use Rattle.action.specs.Action.{World, fromGot}
-use Rattle.turns.specs.Turn.{Entry, beatIn, worked, locks, cancels, resets, Turned, doTurn}
+use Rattle.checking.specs.declared.check.Line.{Line}
+use Rattle.engine.specs.declared.set.Lines.{Lines}
+use Rattle.engine.specs.declared.state.State.{State}
+use Rattle.engine.specs.declared.one_beat.Beaten.{Beaten}
+use Rattle.engine.specs.declared.calls.Called.{Called}
+use Rattle.engine.specs.Set.{noLine, rankIn, soundLines}
+use Rattle.engine.specs.State.{powerOn}
+use Rattle.engine.specs.Cells.{inputCount, beatCells}
+use Rattle.engine.specs.Sound.{unsoundCode, isSound}
+use Rattle.engine.specs.Write.{Vars}
+use Rattle.engine.specs.Action.{World, fromGot}
+use Rattle.engine.specs.Turn.{Entry, beatIn, worked, locks, cancels, resets, Turned, doTurn}
 use Rattle.engine.specs.Beat.{shortBuffer, wrongNumbers, bufferSize, areInputs, beatOf, buffered, beatAnswer, beatBuffer}
-use Rattle.state.specs.Find.{unknownLine}
-use Rattle.calls.specs.Calls.{lockCall, unlockCall, cancelCall, resetState, resetCall}
+use Rattle.engine.specs.Find.{unknownLine}
+use Rattle.engine.specs.Calls.{lockCall, unlockCall, cancelCall, resetState, resetCall}
 use Rattle.soundness.specs.Call.{Call, doBeat, doLock, doUnlock, doCancel, doReset}
 use Rattle.demands.specs.Record.{Record, after, isCancelled, isLocked, wasTrue, everTrue, isAutomatic, takesByRule, triesByRule, actsByRule}
 

@@ -10,15 +10,15 @@ use borrow.Author.Tests.{eqb-true, lt-ltb}
 use Rattle.values.specs.Choice.{either}
 use Rattle.tokens.specs.Token.{WHEN, WHENEVER, FROM, EVERY, maxLines}
 use Rattle.tokens.specs.Reading.{Answer, good, stop, _>>=_}
-use Rattle.operators.specs.Operators.{isYes}
+use Rattle.working.specs.Operators.{isYes}
 use Rattle.working.specs.Working.{conditionValue}
-use Rattle.code.specs.declared.check.Line.{Line}
-use Rattle.set.specs.declared.set.Lines.{Lines}
-use Rattle.set.specs.Set.{noLine}
-use Rattle.action.specs.Action.{World, Note, Did, fromGot}
-use Rattle.actions.specs.Actions.{actionsOf}
-use Rattle.turns.specs.Turn.{Entry, worked, locks, lockEntry, Turned, counted, takesTurn, doTurn, tryTurn, turnOf, turnsFrom}
-use Rattle.keyword.specs.Keyword.{tries, acts}
+use Rattle.checking.specs.declared.check.Line.{Line}
+use Rattle.engine.specs.declared.set.Lines.{Lines}
+use Rattle.engine.specs.Set.{noLine}
+use Rattle.engine.specs.Action.{World, Note, Did, fromGot}
+use Rattle.engine.specs.Actions.{actionsOf}
+use Rattle.engine.specs.Turn.{Entry, worked, locks, lockEntry, Turned, counted, takesTurn, doTurn, tryTurn, turnOf, turnsFrom}
+use Rattle.engine.specs.Keyword.{tries, acts}
 use Rattle.demands.specs.Record.{Record, after, isAutomatic, isCancelled, isLocked, wasTrue, everTrue, takesByRule, triesByRule, actsByRule}
 use Rattle.demands.specs.Run.{byRank, cancelledBy, lockedBy, remembersBy, memoryBy, tryByRule, turnByRule, turnsByRule}
 use Rattle.demands.specs.FlagLaws.{byRank-at, worked-memory, lock-locked}

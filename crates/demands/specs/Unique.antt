@@ -5,12 +5,12 @@ use mathlib.Core.List.{List}
 use Prim.Native.Nat.{ℕ}
 use lib.IntN.{ℤ}
 use Rattle.values.specs.Unique.{unique}
-use Rattle.state.specs.declared.state.State.{State}
-use Rattle.engine.specs.declared.beat.Beaten.{Beaten}
-use Rattle.calls.specs.declared.host.Called.{Called}
+use Rattle.engine.specs.declared.state.State.{State}
+use Rattle.engine.specs.declared.one_beat.Beaten.{Beaten}
+use Rattle.engine.specs.declared.calls.Called.{Called}
 use Rattle.engine.specs.Beat.{beatAnswer, beatBuffer}
-use Rattle.calls.specs.Calls.{lockCall, unlockCall, cancelCall, resetCall}
-use Rattle.state.specs.Sound.{isSound}
+use Rattle.engine.specs.Calls.{lockCall, unlockCall, cancelCall, resetCall}
+use Rattle.engine.specs.Sound.{isSound}
 
 module _ (s : List ℕ) (st : State) where
   -- a beat, with the order buffer at exit

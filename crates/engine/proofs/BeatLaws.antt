@@ -9,14 +9,14 @@ use lib.IntN.{ℤ}
 use lib.ListN.{length, take, drop}
 use Rattle.values.specs.Choice.{both}
 use Rattle.tokens.specs.Reading.{Answer, good, stop, _>>=_}
-use Rattle.action.specs.declared.action.Flags.{Flags}
-use Rattle.engine.specs.declared.beat.Beaten.{Beaten}
-use Rattle.state.specs.declared.state.State.{State}
-use Rattle.set.specs.Set.{soundLines}
-use Rattle.state.specs.Sound.{unsoundCode, stateSound, isSound}
-use Rattle.turns.specs.Turn.{Entry, beatIn, Turned, turnsFrom}
+use Rattle.engine.specs.declared.action.Flags.{Flags}
+use Rattle.engine.specs.declared.one_beat.Beaten.{Beaten}
+use Rattle.engine.specs.declared.state.State.{State}
+use Rattle.engine.specs.Set.{soundLines}
+use Rattle.engine.specs.Sound.{unsoundCode, stateSound, isSound}
+use Rattle.engine.specs.Turn.{Entry, beatIn, Turned, turnsFrom}
 use Rattle.engine.specs.Beat.{shortBuffer, wrongNumbers, bufferSize, areInputs, begun, ended, beatOf, answered, buffered}
-use Rattle.action.specs.Held.{worldOf}
+use Rattle.engine.specs.ActionHeld.{worldOf}
 
 pub inputs-length : (lent : List ℤ) → areInputs lent ≡ true → length lent ≡ 14
 unfolding areInputs

@@ -6,13 +6,13 @@ use lib.Dec.{eqb, ltb}
 use lib.IntN.{ℤ}
 use lib.ListN.{length, drop}
 use Rattle.tokens.specs.Reading.{Answer, good, stop, _>>=_}
-use Rattle.state.specs.declared.state.State.{State}
-use Rattle.engine.specs.declared.beat.Beaten.{Beaten}
-use Rattle.set.specs.Set.{soundLines}
-use Rattle.cells.specs.Cells.{inputCount, beatCells}
-use Rattle.state.specs.Sound.{unsoundCode, isSound, allRanged}
-use Rattle.action.specs.Action.{World}
-use Rattle.turns.specs.Turn.{beatIn, Turned, turnsFrom}
+use Rattle.engine.specs.declared.state.State.{State}
+use Rattle.engine.specs.declared.one_beat.Beaten.{Beaten}
+use Rattle.engine.specs.Set.{soundLines}
+use Rattle.engine.specs.Cells.{inputCount, beatCells}
+use Rattle.engine.specs.Sound.{unsoundCode, isSound, allRanged}
+use Rattle.engine.specs.Action.{World}
+use Rattle.engine.specs.Turn.{beatIn, Turned, turnsFrom}
 
 abbrev pub shortBuffer : ℕ
 shortBuffer = 20

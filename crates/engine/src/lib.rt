@@ -1,4 +1,36 @@
-// The engine: one beat, over a set and a state.
+// The engine: a set, a state, the host's calls, and one beat over a set and a state.
 //
-// A set is lent, a state goes in by value and comes back. The beat asks nothing of its caller: what is not sound is answered 22.
-pub mod beat;
+// A set is lent, a state goes in by value and comes back. No public call asks anything of its caller: what is not sound is answered 22.
+mod action;
+mod actions;
+mod calls;
+mod cells;
+mod drive;
+mod find;
+mod keyword;
+mod one_beat;
+mod order;
+mod set;
+mod sound;
+mod state;
+mod timers;
+mod turn;
+mod write;
+
+pub use calls::Called;
+pub use calls::cancel;
+pub use calls::lock;
+pub use calls::reset;
+pub use calls::unlock;
+pub use one_beat::Beaten;
+pub use one_beat::beat;
+pub use order::MAX_ORDERS;
+pub use order::ORDER_BYTES;
+pub use order::ORDERS;
+pub use set::STARTS;
+pub use set::empty_set;
+pub use set::names_known;
+pub use set::rank_in;
+pub use sound::is_sound;
+pub use state::State;
+pub use state::power_on;

@@ -3,7 +3,7 @@ use mathlib.Core.Bool.{true, false}
 use Prim.Native.Nat.{ℕ, _+_, _*_}
 use lib.IntN.{ℤ, negsuc, _-ℤ_}
 use Rattle.working.specs.declared.work.Got.{Got}
-use Rattle.reader.specs.declared.load.Loaded.{Loaded}
+use Rattle.reader.specs.declared.load_text.Loaded.{Loaded}
 
 -- -2^40
 abbrev pub alarms : ℤ

@@ -2,16 +2,17 @@
 // right length. What begins with `code_` is lent a set's tokens, with `reader_` a set text.
 ghost use mathlib.Core.Path.{_≡_};
 ghost use Rattle.working.specs.Working.{conditionValue, rightValue};
-ghost use Rattle.code.specs.Fault.{lineAt};
+ghost use Rattle.checking.specs.Fault.{lineAt};
 ghost use Rattle.reader.specs.Load.{loadAnswer, loadSet};
 ghost use Rattle.exports.specs.Packed.{packed, packedLoad};
-use code::check;
+use checking::line_at;
 use reader::load;
 use tokens::token::SIZE;
-use variables::variables::CELLS;
-use variables::variables::RS;
-use working::work;
-use working::work::Got;
+use working::Got;
+use working::condition;
+use working::right_side;
+use working::variables::CELLS;
+use working::variables::RS;
 
 // An alarm k is -2^40 - k, below every value.
 const ALARMS: i64 = -1099511627776;
@@ -37,7 +38,7 @@ pub extern "C" fn code_condition(
 ) -> i64
     ensures { λ x. ⌜ x ≡ packed (conditionValue (now (code .entry)) (now (r .entry)) (now (cells .entry)) at) ⌝ }
 {
-    packed_got(work::condition(code, r, cells, at))
+    packed_got(condition(code, r, cells, at))
 }
 
 // The right side at place `at`: its value in thousandths, or an alarm.
@@ -50,7 +51,7 @@ pub extern "C" fn code_right_side(
 ) -> i64
     ensures { λ x. ⌜ x ≡ packed (rightValue (now (code .entry)) (now (r .entry)) (now (cells .entry)) at) ⌝ }
 {
-    packed_got(work::right_side(code, r, cells, at))
+    packed_got(right_side(code, r, cells, at))
 }
 
 // The lowest fault of 4 to 10 of the line at place `at`, 0 for none.
@@ -58,7 +59,7 @@ pub extern "C" fn code_right_side(
 pub extern "C" fn code_line_fault(code: &[u32; SIZE], at: usize) -> u32
     ensures { λ x. ⌜ x ≡ lineAt (now (code .entry)) at .fault ⌝ }
 {
-    let line = check::line_at(code, at);
+    let line = line_at(code, at);
     line.fault as u32
 }
 
@@ -68,6 +69,6 @@ pub extern "C" fn reader_load(text: &[u8], set: &mut [u32; SIZE]) -> u64
     ensures { λ x. ⌜ x ≡ packedLoad (loadAnswer (now (text .entry))) ⌝ }
     ensures { λ x. ⌜ now (set .exit) ≡ loadSet (now (text .entry)) ⌝ }
 {
-    let l = load::load(text, set);
+    let l = load(text, set);
     l.line as u64 * 256 + l.code as u64
 }

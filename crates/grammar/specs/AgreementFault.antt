@@ -13,8 +13,8 @@ use Rattle.tokens.specs.Token.{setSize, END, EQUALS, OPEN, CLOSE, DO, LEFT, RIG
 use Rattle.grammar.specs.Tree.{Operand, number, variable, position, truth, bracket, minus, not, product, Factors, noFactor, factor, Sum, sum, Terms, noTerm, term, compare, Action, assign, assignPosition, drive, code, call, Condition, always, under, Line, line, operandTokens, factorsTokens, sumTokens, termsTokens, actionTokens, actionsTokens, conditionTokens, lineTokens}
 use Rattle.tokens.specs.Reading.{token, read, isIndex, indexOf, isIndexed, indexAt, sumAt}
 use Rattle.grammar.specs.Meaning.{sumMeaning, expressionMeaning, Stands, EndsSum, EndsExpression}
-use Rattle.faults.specs.SingleFault.{lower, opensTooMany, writeFault, idFault}
-use Rattle.code.specs.Fault.{sight, faultFor, countFault, numberOf, isRemoval, assignedAt, assignmentAt, commandAt, actionAt, actionsAt, lineParts, bodyAt, restAt, lineAt}
+use Rattle.tokens.specs.SingleFault.{lower, opensTooMany, writeFault, idFault}
+use Rattle.checking.specs.Fault.{sight, faultFor, countFault, numberOf, isRemoval, assignedAt, assignmentAt, commandAt, actionAt, actionsAt, lineParts, bodyAt, restAt, lineAt}
 use Rattle.grammar.specs.TreeFault.{rightFault, isFifoZero, isAlone, isRemovalTree, assignedFault, actionFault, actionsFault, keywordOf, conditionFault, lineFault, conditionPlace, partsFrom, toldFrom}
 use Rattle.grammar.specs.Agreement.{sum-agrees, expression-agrees}
 use Rattle.grammar.specs.AgreementLaws.{bounds, beyond, stands-split, stands-place, parts-fit, numbered, whole-token, number-index, axis-index, index-stands}

@@ -5,8 +5,8 @@ use Prim.Native.Nat.{ℕ, _+_, _*_}
 use Rattle.tokens.specs.Token.{END, EQUALS, SAME, LESS, MORE, ATLEAST, PLUS, TIMES, OPEN, CLOSE, LEFT, RIGHT, ID, IDS, WHEN, WHENEVER, FROM, EVERY, DO, TRUE, FALSE, NOT, AND, OR, IN, OUT, MARKER, PARAM, R, FIFO1, IM, POS, FA, MOV, M, LOCK, X, NUMBER, wholeToken}
 use Rattle.tokens.specs.Reading.{isIndex, indexOf, isIndexed, indexAt, joined, more, readProduct, readSum, readRest, readExpression, readClose, readVariable, readTruth, operandFrom, readOperand, sumAt, expressionAt}
 use Rattle.tokens.specs.Index.{isInside}
-use Rattle.code.specs.Fault.{lineAt, restAt, bodyAt, lineParts, actionsAt, actionAt, assignmentAt, commandAt, countFault, numberOf, assignedAt, isRemoval, sight, joinSights}
-use Rattle.faults.specs.SingleFault.{idFault, opensTooMany, wantingFault, writeFault, isWritable, codeFault, callFault, readFault, numberFault, lower}
+use Rattle.checking.specs.Fault.{lineAt, restAt, bodyAt, lineParts, actionsAt, actionAt, assignmentAt, commandAt, countFault, numberOf, assignedAt, isRemoval, sight, joinSights}
+use Rattle.tokens.specs.SingleFault.{idFault, opensTooMany, wantingFault, writeFault, isWritable, codeFault, callFault, readFault, numberFault, lower}
 
 -- the tokens of a number without and with a point, the second by its thousandths
 abbrev pub n : ℕ → ℕ

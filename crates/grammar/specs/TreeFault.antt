@@ -6,13 +6,13 @@ use mathlib.Core.List.{List, [], _∷_}
 use Prim.Native.Nat.{ℕ, suc, _+_, _-_, _≤_}
 use lib.Dec.{eqb}
 use lib.ListN.{length}
-use Rattle.code.specs.declared.check.Line.{Line as Told}
+use Rattle.checking.specs.declared.check.Line.{Line as Told}
 use Rattle.tokens.specs.Token.{IDS, IM, isFifo, axisOf}
 use Rattle.grammar.specs.Tree.{Operand, number, variable, position, truth, bracket, minus, not, product, Factors, noFactor, factor, Sum, sum, Terms, noTerm, term, Action, assign, assignPosition, drive, code, call, Condition, always, under, Line, line, conditionTokens, lineTokens}
 use Rattle.tokens.specs.Reading.{Answer, good, stop}
 use Rattle.grammar.specs.Meaning.{sumMeaning, expressionMeaning}
-use Rattle.faults.specs.SingleFault.{confused, tooMany, lower, writeFault, codeFault, idFault, callFault}
-use Rattle.code.specs.Fault.{Sight, wanting, sight, countFault, faultyLine}
+use Rattle.tokens.specs.SingleFault.{confused, tooMany, lower, writeFault, codeFault, idFault, callFault}
+use Rattle.checking.specs.Fault.{Sight, wanting, sight, countFault, faultyLine}
 
 -- ---- 6 to 8 in an expression
 

@@ -12,12 +12,12 @@ use Rattle.values.specs.Choice.{both, decide}
 use Rattle.tokens.specs.Token.{between, IM, isFifo, thousandths, axisOf, EVERY, SETAL, WHEN}
 use Rattle.values.specs.Value.{top}
 use Rattle.tokens.specs.Index.{isInside}
-use Rattle.faults.proofs.SingleFaultLaws.{none-first}
+use Rattle.tokens.proofs.SingleFaultLaws.{none-first}
 use Rattle.grammar.specs.Tree.{Operand, number, variable, position, truth, bracket, minus, not, Product, product, Factors, noFactor, factor, Sum, sum, Terms, noTerm, term, Expression, plain, compare, row, Sums, last, next, Action, assign, assignPosition, drive, code, call, Condition, always, under, Line, line}
 use Rattle.tokens.specs.Reading.{Answer, good, stop, read, _>>=_, upTo}
 use Rattle.grammar.specs.Meaning.{operandMeaning, productMeaning, factorsMeaning, sumMeaning, termsMeaning, expressionMeaning, sumsMeaning}
-use Rattle.faults.specs.SingleFault.{confused, outside, readOnly, codeAlone, tooMany, lower, unless, wantingFault, numberFault, readFault, isWritable, writeFault, codeFault, idFault, callFault}
-use Rattle.code.specs.Fault.{Sight, wanting, joinSights, sight, faultFor, countFault, numberOf}
+use Rattle.tokens.specs.SingleFault.{confused, outside, readOnly, codeAlone, tooMany, lower, unless, wantingFault, numberFault, readFault, isWritable, writeFault, codeFault, idFault, callFault}
+use Rattle.checking.specs.Fault.{Sight, wanting, joinSights, sight, faultFor, countFault, numberOf}
 use Rattle.grammar.specs.TreeFault.{Proper, wantedFault, rightFault, isRemovalTree, assignedFault, actionFault, actionsFault, keywordOf, conditionFault, lineFault}
 use Rattle.grammar.specs.AgreementLaws.{bounds}
 

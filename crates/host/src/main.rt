@@ -1,15 +1,15 @@
 // A short host: it loads a set, works ten beats with a lock, an unlock and a reset in between, and writes what each call answered. A real host reads its inputs from
 // the terminals and hands the orders to the drives; this one has its inputs in `inputs_at` and writes the orders down. docs/HOST.md goes through it.
-use calls::host::Called;
-use calls::host::lock;
-use calls::host::reset;
-use calls::host::unlock;
-use engine::beat::Beaten;
-use engine::beat::beat;
+use engine::Beaten;
+use engine::Called;
+use engine::State;
+use engine::beat;
+use engine::empty_set;
+use engine::lock;
+use engine::reset;
+use engine::unlock;
 use libc::STDOUT_FILENO;
-use reader::load::load;
-use set::set::empty_set;
-use state::state::State;
+use reader::load;
 use tokens::token::SIZE;
 
 const BEATS: u32 = 10;

@@ -4,13 +4,13 @@ mod numbers;
 mod places;
 mod requests;
 
+use engine::empty_set;
+use engine::power_on;
 use libc::STDIN_FILENO;
 use numbers::REQUEST;
 use numbers::letter;
 use requests::TEXT;
 use requests::work;
-use set::set::empty_set;
-use state::state::power_on;
 use tokens::token::SIZE;
 
 // More requests are not worked.

@@ -5,14 +5,14 @@ use crate::numbers::put_word;
 use crate::numbers::value_of;
 use crate::numbers::word;
 use crate::numbers::write;
-use orders::order::twos_complement;
-use state::state::State;
+use engine::State;
 use tokens::token::LINES;
 use tokens::token::SIZE;
 use tokens::token::token_at;
-use variables::variables::RS;
-use variables::variables::STATE_CELLS;
-use variables::variables::TIMERS;
+use values::complement::twos_complement;
+use working::variables::RS;
+use working::variables::STATE_CELLS;
+use working::variables::TIMERS;
 
 // The places of a set that are answered at once.
 const PLACES: usize = 1024;

@@ -12,15 +12,15 @@ use crate::places::dump;
 use crate::places::put;
 use crate::places::with_value;
 use crate::places::write_set;
-use calls::host::Called;
-use calls::host::cancel;
-use calls::host::lock;
-use calls::host::reset;
-use calls::host::unlock;
-use engine::beat::Beaten;
-use engine::beat::beat;
-use reader::load::load;
-use state::state::State;
+use engine::Beaten;
+use engine::Called;
+use engine::State;
+use engine::beat;
+use engine::cancel;
+use engine::lock;
+use engine::reset;
+use engine::unlock;
+use reader::load;
 use tokens::token::SIZE;
 
 // The byte that fills the order buffer before each beat.

@@ -12,23 +12,23 @@ use borrow.Author.Tests.{ltb-true, ltb-false, eqb-true, eqb-false}
 use Rattle.values.specs.Choice.{decide, chosen, refused as not-chosen}
 use Rattle.values.specs.Numbers.{clash}
 use Rattle.values.specs.Unique.{unique}
-use Rattle.code.specs.declared.check.Line.{Line as Told}
+use Rattle.checking.specs.declared.check.Line.{Line as Told}
 use Rattle.tokens.specs.Token.{END, setSize, maxLines, textSize}
-use Rattle.faults.specs.SingleFault.{tooDeep, notInGrammar, opensTooMany}
-use Rattle.code.specs.Fault.{lineAt}
+use Rattle.tokens.specs.SingleFault.{tooDeep, notInGrammar, opensTooMany}
+use Rattle.checking.specs.Fault.{lineAt}
 use Rattle.grammar.specs.TreeFault.{lineFault, Proper}
 use Rattle.grammar.specs.TreeFaultLaws.{line-proper}
 use Rattle.grammar.specs.AgreementLine.{line-found, line-fault}
-use Rattle.set.specs.Set.{isKnown, emptySet}
-use Rattle.state.specs.State.{powerOn}
+use Rattle.engine.specs.Set.{isKnown, emptySet}
+use Rattle.engine.specs.State.{powerOn}
 use Rattle.text.specs.Byte.{run}
-use Rattle.scan.specs.Tokens.{Tokens, tokensOf}
-use Rattle.lines.specs.Lines.{Numbered, tokenLines, numbered, bodies, split, withoutComment, isBlank}
-use Rattle.reader.specs.declared.load.Loaded.{Loaded}
-use Rattle.draft.specs.Row.{Row, byNumber, setOf, numbersOf}
-use Rattle.token_lines.specs.LineTokens.{ended}
+use Rattle.text.specs.Tokens.{Tokens, tokensOf}
+use Rattle.text.specs.Lines.{Numbered, tokenLines, numbered, bodies, split, withoutComment, isBlank}
+use Rattle.reader.specs.declared.load_text.Loaded.{Loaded}
+use Rattle.reader.specs.Row.{Row, byNumber, setOf, numbersOf}
+use Rattle.reader.specs.LineTokens.{ended}
 use Rattle.reader.specs.Load.{Outcome, taken, refused, numberIn, tokensFault, faultBelow, rowOf, rowsFrom, firstUnknown, named, outcome, loadAnswer, loadSet}
-use Rattle.draft.specs.Codes.{tooLong, tooManyLines, notInSet}
+use Rattle.reader.specs.Codes.{tooLong, tooManyLines, notInSet}
 use Rattle.reader.specs.RisingLaws.{next-row}
 use Rattle.reader.specs.RoomLaws.{roomOf, text-room}
 

@@ -9,9 +9,9 @@ use lib.ListN.{length, getD}
 use borrow.Author.Tests.{lt-ltb}
 use Rattle.values.specs.Choice.{decide}
 use Rattle.tokens.specs.Token.{maxLines}
-use Rattle.draft.specs.Row.{Row, numbersOf, total, leastAbove, noRow, rising, byNumber}
+use Rattle.reader.specs.Row.{Row, numbersOf, total, leastAbove, noRow, rising, byNumber}
 use Rattle.reader.specs.RisingLaws.{Apart, absent-at, Next, Found, sumAbove, sum-next, sumOf, sum-all, countAbove, count-all, least-found}
-use Rattle.reader.specs.DraftLaws.{rising-length}
+use Rattle.reader.specs.DraftLoadLaws.{rising-length}
 use Rattle.loading.specs.TakenLaws.{All}
 
 -- ---- rows that are apart

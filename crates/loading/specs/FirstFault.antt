@@ -9,13 +9,13 @@ use lib.ListN.{length}
 use Rattle.values.specs.Choice.{choice, chosen, refused as not-chosen}
 use Rattle.values.specs.Numbers.{clash}
 use Rattle.tokens.specs.Token.{setSize, maxLines, textSize}
-use Rattle.set.specs.Set.{namesKnown}
-use Rattle.scan.specs.Tokens.{tokensOf}
-use Rattle.lines.specs.Lines.{Numbered, tokenLines}
-use Rattle.draft.specs.Row.{Row, numbersOf}
-use Rattle.token_lines.specs.LineTokens.{ended}
+use Rattle.engine.specs.Set.{namesKnown}
+use Rattle.text.specs.Tokens.{tokensOf}
+use Rattle.text.specs.Lines.{Numbered, tokenLines}
+use Rattle.reader.specs.Row.{Row, numbersOf}
+use Rattle.reader.specs.LineTokens.{ended}
 use Rattle.reader.specs.Load.{taken, refused, faultBelow, rowOf, rowsFrom, firstUnknown, outcome, loadAnswer}
-use Rattle.draft.specs.Codes.{tooLong, tooManyLines, notInSet}
+use Rattle.reader.specs.Codes.{tooLong, tooManyLines, notInSet}
 use Rattle.reader.specs.RisingLaws.{next-row}
 use Rattle.loading.specs.Answers.{taken-answer, refused-answer, by-load}
 use Rattle.loading.specs.TakenLaws.{All, taking, Fine, text-fine, Named}

@@ -11,18 +11,18 @@ use Rattle.values.specs.Choice.{decide, chosen}
 use Rattle.values.specs.Numbers.{clash}
 use Rattle.tokens.specs.Token.{END, OPEN, CLOSE, NUMBER, LOCK, UNLOCK, isNumber, whole, setSize, AllReal}
 use Rattle.grammar.specs.Tree.{Line, line, lineTokens}
-use Rattle.code.specs.declared.check.Line.{Line as Told}
+use Rattle.checking.specs.declared.check.Line.{Line as Told}
 use Rattle.grammar.specs.Meaning.{Stands}
-use Rattle.faults.specs.SingleFault.{tooDeep, bracketsOpen, opensTooMany}
-use Rattle.code.specs.Fault.{lineAt}
+use Rattle.tokens.specs.SingleFault.{tooDeep, bracketsOpen, opensTooMany}
+use Rattle.checking.specs.Fault.{lineAt}
 use Rattle.grammar.specs.TreeFault.{lineFault, partsFrom}
 use Rattle.grammar.specs.AgreementLaws.{beyond}
 use Rattle.grammar.specs.LineTokens.{front, front-end, front-closed, same-row}
 use Rattle.grammar.specs.AgreementLine.{line-found, line-fault, line-parts}
-use Rattle.set.specs.Set.{isKnown, isLock, namesKnown}
+use Rattle.engine.specs.Set.{isKnown, isLock, namesKnown}
 use Rattle.reader.specs.PlaceLaws.{stands-self, line-same, faultless-closed, names-same}
-use Rattle.draft.specs.Row.{plain}
-use Rattle.token_lines.specs.LineTokens.{ended}
+use Rattle.reader.specs.Row.{plain}
+use Rattle.reader.specs.LineTokens.{ended}
 use Rattle.loading.specs.Plain.{plainTree}
 use Rattle.loading.specs.PlainLaws.{plain-other, plain-tokens, plain-fault}
 

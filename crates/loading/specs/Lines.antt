@@ -9,10 +9,10 @@ use Rattle.tokens.specs.Token.{setSize}
 use Rattle.grammar.specs.Meaning.{Stands}
 use Rattle.grammar.specs.AgreementLaws.{stands-place}
 use Rattle.grammar.specs.TreeFault.{lineFault, partsFrom}
-use Rattle.set.specs.Set.{lineCount, lineOf}
-use Rattle.lines.specs.Lines.{tokenLines}
-use Rattle.draft.specs.Row.{Row, noRow, byNumber, setOf}
-use Rattle.token_lines.specs.LineTokens.{ended}
+use Rattle.engine.specs.Set.{lineCount, lineOf}
+use Rattle.text.specs.Lines.{tokenLines}
+use Rattle.reader.specs.Row.{Row, noRow, byNumber, setOf}
+use Rattle.reader.specs.LineTokens.{ended}
 use Rattle.reader.specs.Load.{taken, rowOf, outcome, loadSet}
 use Rattle.loading.specs.Plain.{plainTree}
 use Rattle.loading.specs.Answers.{taken-answer}

@@ -8,11 +8,11 @@ use native.Mathlib.Omega.{arith}
 use lib.ListN.{length, getD, replicate, length-replicate, List·getD-eq-default, getD-replicate}
 use borrow.Author.Tests.{ltb-true}
 use Rattle.tokens.specs.Token.{setSize, maxLines}
-use Rattle.set.specs.declared.set.Lines.{Lines}
-use Rattle.set.specs.Set.{rankIn, isKnown, soundLines}
+use Rattle.engine.specs.declared.set.Lines.{Lines}
+use Rattle.engine.specs.Set.{rankIn, isKnown, soundLines}
 use Rattle.soundness.specs.SetLaws.{rank-number}
-use Rattle.lines.specs.Lines.{tokenLines}
-use Rattle.draft.specs.Row.{Row, numbersOf, total, noRow, byNumber, setOf}
+use Rattle.text.specs.Lines.{tokenLines}
+use Rattle.reader.specs.Row.{Row, numbersOf, total, noRow, byNumber, setOf}
 use Rattle.reader.specs.Load.{taken, outcome}
 use Rattle.reader.specs.RisingLaws.{Apart, number-at, numbers-length, taken-apart}
 use Rattle.reader.specs.RoomLaws.{taken-room}

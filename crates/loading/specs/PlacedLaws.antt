@@ -7,12 +7,12 @@ use lib.ListN.{length, getD, set, length-set, length-append, length-map, length-
 use lib.Seq.{getD-set-same, getD-set-other}
 use Rattle.tokens.specs.Token.{END, setSize, maxLines}
 use Rattle.grammar.specs.Meaning.{Stands}
-use Rattle.set.specs.Set.{emptySet}
+use Rattle.engine.specs.Set.{emptySet}
 use Rattle.reader.specs.PlaceLaws.{stands-same}
 use Rattle.text.specs.PutLaws.{put-length, put-before}
 use Rattle.reader.specs.StandLaws.{put-stands}
-use Rattle.draft.specs.Row.{Row, total, plain, placed, firstPlace, setOf}
-use Rattle.token_lines.specs.LineTokens.{ended}
+use Rattle.reader.specs.Row.{Row, total, plain, placed, firstPlace, setOf}
+use Rattle.reader.specs.LineTokens.{ended}
 use Rattle.text.specs.PutAt.{putAt}
 
 -- ---- lines that are placed

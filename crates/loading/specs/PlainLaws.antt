@@ -12,12 +12,12 @@ use Rattle.tokens.specs.Token.{EQUALS, MINUS, LEFT, RIGHT, IM, NUMBER, IN, FIFO
 use Rattle.grammar.specs.Tree.{Operand, number, variable, position, truth, bracket, minus, not, Product, product, Factors, noFactor, factor, Sum, sum, Terms, noTerm, term, Expression, plain, compare, row, Sums, last, next, Action, assign, assignPosition, drive, code, call, Condition, always, under, Line, line, operandTokens, productTokens, factorsTokens, sumTokens, termsTokens, expressionTokens, sumsTokens, actionTokens, actionsTokens, conditionTokens, lineTokens}
 use Rattle.tokens.specs.Reading.{Answer, good, stop, _>>=_, Meaning}
 use Rattle.grammar.specs.Meaning.{operandMeaning, productMeaning, factorsMeaning, sumMeaning, termsMeaning, expressionMeaning, sumsMeaning}
-use Rattle.code.specs.Fault.{sight}
-use Rattle.faults.specs.SingleFault.{numberFault}
+use Rattle.checking.specs.Fault.{sight}
+use Rattle.tokens.specs.SingleFault.{numberFault}
 use Rattle.working.specs.Working.{valueOver}
 use Rattle.grammar.specs.TreeFault.{rightFault, isFifoZero, isAlone, isRemovalTree, assignedFault, actionFault, actionsFault, keywordOf, conditionFault, lineFault}
 use Rattle.grammar.specs.AgreementLaws.{bounds}
-use Rattle.draft.specs.Row.{plain as plainToken}
+use Rattle.reader.specs.Row.{plain as plainToken}
 use Rattle.loading.specs.Plain.{unmarked, plainOperand, plainProduct, plainFactors, plainSum, plainTerms, plainExpression, plainSums, plainAction, plainCondition, plainTree}
 
 -- ---- tokens

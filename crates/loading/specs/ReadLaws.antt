@@ -10,10 +10,10 @@ use lib.Seq.{getD-set-same, getD-set-other}
 use borrow.Author.Tests.{eq-eqb, lt-ltb, le-ltb}
 use Rattle.values.specs.Choice.{decide, chosen, refused}
 use Rattle.tokens.specs.Token.{setSize, maxLines}
-use Rattle.code.specs.declared.check.Line.{Line}
-use Rattle.set.specs.declared.set.Lines.{Lines}
-use Rattle.set.specs.Set.{lineCount, lineOf, noLine, linesFrom, linesRead, rankIn, isKnown, allKnown, namedLines, soundLines}
-use Rattle.draft.specs.Row.{Row, noRow}
+use Rattle.checking.specs.declared.check.Line.{Line}
+use Rattle.engine.specs.declared.set.Lines.{Lines}
+use Rattle.engine.specs.Set.{lineCount, lineOf, noLine, linesFrom, linesRead, rankIn, isKnown, allKnown, namedLines, soundLines}
+use Rattle.reader.specs.Row.{Row, noRow}
 use Rattle.loading.specs.PlacedLaws.{heldTokens, Laid}
 use Rattle.loading.specs.HeldLaws.{written, held, names-held}
 use Rattle.loading.specs.TakenLaws.{All, Fine, Named}

@@ -6,17 +6,17 @@ use Prim.Native.Nat.{ℕ, _≤_}
 use native.Mathlib.Omega.{arith}
 use lib.ListN.{length}
 use Rattle.tokens.specs.Token.{setSize}
-use Rattle.state.specs.declared.state.State.{State}
-use Rattle.set.specs.Set.{soundLines}
+use Rattle.engine.specs.declared.state.State.{State}
+use Rattle.engine.specs.Set.{soundLines}
 use Rattle.soundness.specs.SetLaws.{empty-sound}
-use Rattle.state.specs.State.{powerOn}
-use Rattle.state.specs.Sound.{isSound}
+use Rattle.engine.specs.State.{powerOn}
+use Rattle.engine.specs.Sound.{isSound}
 use Rattle.soundness.specs.GoodAnswers.{Not22}
 use Rattle.soundness.specs.CellLaws.{power-on}
 use Rattle.soundness.specs.Call.{Call, doBeat, doLock, doUnlock, doCancel, doReset, codeAfter, afterAll}
 use Rattle.soundness.specs.SoundLaws.{Whole, call-keeps, call-not22, power-on-whole, always-sound, never-22}
 use Rattle.demands.specs.Run.{Now, Reply, step, runFrom, run}
-use Rattle.draft.specs.Row.{byNumber}
+use Rattle.reader.specs.Row.{byNumber}
 use Rattle.reader.specs.Load.{loadAnswer, loadSet}
 use Rattle.loading.specs.Answers.{taken-answer, refused-empty, by-outcome, load-power-on}
 use Rattle.loading.specs.PlacedLaws.{set-length, empty-length}

@@ -10,13 +10,13 @@ use borrow.Author.Tests.{ltb-false}
 use Rattle.values.specs.Choice.{decide, choice}
 use Rattle.values.specs.Numbers.{clash}
 use Rattle.tokens.specs.Token.{setSize, AllReal, maxLines, textSize}
-use Rattle.code.specs.Fault.{lineAt}
-use Rattle.set.specs.Set.{namesKnown}
-use Rattle.scan.specs.Tokens.{tokensOf}
-use Rattle.scan.specs.TokensLaws.{tokens-real}
-use Rattle.lines.specs.Lines.{Numbered, textLines, bodies, isBlank, numbered, tokenLines}
-use Rattle.draft.specs.Row.{Row, numbersOf, total, noRow}
-use Rattle.token_lines.specs.LineTokens.{ended}
+use Rattle.checking.specs.Fault.{lineAt}
+use Rattle.engine.specs.Set.{namesKnown}
+use Rattle.text.specs.Tokens.{tokensOf}
+use Rattle.text.specs.TokensLaws.{tokens-real}
+use Rattle.text.specs.Lines.{Numbered, textLines, bodies, isBlank, numbered, tokenLines}
+use Rattle.reader.specs.Row.{Row, numbersOf, total, noRow}
+use Rattle.reader.specs.LineTokens.{ended}
 use Rattle.reader.specs.RisingLaws.{next-row, no-fault}
 use Rattle.reader.specs.Load.{Outcome, taken, refused, rowOf, rowsFrom, firstUnknown, named, outcome}
 

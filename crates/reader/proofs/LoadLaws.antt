@@ -7,18 +7,18 @@ use native.Mathlib.Omega.{arith}
 use lib.Dec.{ltb}
 use lib.ListN.{length, set}
 use Rattle.tokens.specs.Token.{maxLines, textSize}
-use Rattle.set.specs.Set.{emptySet}
-use Rattle.lines.specs.Lines.{tokenLines}
-use Rattle.reader.specs.declared.load.Loaded.{Loaded}
-use Rattle.draft.specs.Codes.{notInSet}
+use Rattle.engine.specs.Set.{emptySet}
+use Rattle.text.specs.Lines.{tokenLines}
+use Rattle.reader.specs.declared.load_text.Loaded.{Loaded}
+use Rattle.reader.specs.Codes.{notInSet}
 use Rattle.reader.specs.Load.{loadAnswer, loadSet}
-use Rattle.draft.specs.Draft.{Drafted, noDraft}
-use Rattle.text_draft.specs.TextDraft.{draftOf, textDraft}
-use Rattle.ranking.specs.Arrange.{unknownIn, arranged, arrangedSet}
+use Rattle.reader.specs.Draft.{Drafted, noDraft}
+use Rattle.reader.specs.TextDraft.{draftOf, textDraft}
+use Rattle.reader.specs.Arrange.{unknownIn, arranged, arrangedSet}
 use Rattle.reader.specs.DraftLoad.{answered, draftAnswer, draftSet, workedAnswer, workedSet}
-use Rattle.reader.specs.DraftLaws.{worked-answer, worked-set}
-use Rattle.draft.proofs.DraftLaws.{coded, code-none, code-some}
-use Rattle.text_draft.proofs.TextLaws.{few-lines}
+use Rattle.reader.specs.DraftLoadLaws.{worked-answer, worked-set}
+use Rattle.reader.proofs.DraftLaws.{coded, code-none, code-some}
+use Rattle.reader.proofs.TextLaws.{few-lines}
 
 -- ---- a draft
 

@@ -1,18 +1,18 @@
--- What the draft of a text comes to: how the code answers a load. Definitions only; that this is what Load says is shown in DraftLaws.
+-- What the draft of a text comes to: how the code answers a load. Definitions only; that this is what Load says is shown in DraftLoadLaws.
 use mathlib.Core.Bool.{true, false}
 use mathlib.Core.List.{List}
 use Prim.Native.Nat.{ℕ, zero, suc}
 use lib.Dec.{ltb}
 use lib.ListN.{length}
 use Rattle.tokens.specs.Token.{maxLines, textSize}
-use Rattle.set.specs.Set.{emptySet}
-use Rattle.state.specs.State.{powerOn}
-use Rattle.lines.specs.Lines.{tokenLines}
-use Rattle.reader.specs.declared.load.Loaded.{Loaded}
-use Rattle.draft.specs.Codes.{tooLong, tooManyLines, notInSet}
-use Rattle.draft.specs.Draft.{Drafted}
-use Rattle.text_draft.specs.TextDraft.{draftOf}
-use Rattle.ranking.specs.Arrange.{arrangedSet, unknownIn}
+use Rattle.engine.specs.Set.{emptySet}
+use Rattle.engine.specs.State.{powerOn}
+use Rattle.text.specs.Lines.{tokenLines}
+use Rattle.reader.specs.declared.load_text.Loaded.{Loaded}
+use Rattle.reader.specs.Codes.{tooLong, tooManyLines, notInSet}
+use Rattle.reader.specs.Draft.{Drafted}
+use Rattle.reader.specs.TextDraft.{draftOf}
+use Rattle.reader.specs.Arrange.{arrangedSet, unknownIn}
 
 abbrev pub answered : ℕ → ℕ → Loaded
 answered c k = record { code = c; line = k; state = powerOn }

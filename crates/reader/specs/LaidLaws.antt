@@ -12,20 +12,20 @@ use Rattle.values.specs.Choice.{decide}
 use Rattle.tokens.specs.Token.{setSize, maxLines}
 use Rattle.grammar.specs.Meaning.{Stands}
 use Rattle.grammar.specs.LineTokens.{Closed}
-use Rattle.code.specs.Fault.{lineAt}
-use Rattle.set.specs.Set.{isKnown}
-use Rattle.scan.specs.Tokens.{Tokens, tokensOf}
-use Rattle.scan.specs.TokensLaws.{tokens-real}
-use Rattle.lines.specs.Lines.{Numbered}
-use Rattle.draft.specs.declared.draft.Draft.{Draft}
-use Rattle.draft.specs.Row.{Row, numbersOf, total, noRow, firstPlace}
-use Rattle.token_lines.specs.LineTokens.{ended}
+use Rattle.checking.specs.Fault.{lineAt}
+use Rattle.engine.specs.Set.{isKnown}
+use Rattle.text.specs.Tokens.{Tokens, tokensOf}
+use Rattle.text.specs.TokensLaws.{tokens-real}
+use Rattle.text.specs.Lines.{Numbered}
+use Rattle.reader.specs.declared.draft.Draft.{Draft}
+use Rattle.reader.specs.Row.{Row, numbersOf, total, noRow, firstPlace}
+use Rattle.reader.specs.LineTokens.{ended}
 use Rattle.text.specs.PutAt.{putAt}
-use Rattle.draft.specs.Codes.{badToken, usedAbove}
+use Rattle.reader.specs.Codes.{badToken, usedAbove}
 use Rattle.reader.specs.Load.{numberIn, tokensFault, faultBelow, Outcome, taken, refused, rowOf, rowsFrom}
-use Rattle.draft.specs.Draft.{Drafted, refusedAt, grownBy, keptLine, addedLine}
-use Rattle.text_draft.specs.TextDraft.{draftFrom}
-use Rattle.ranking.specs.Arrange.{lineIn}
+use Rattle.reader.specs.Draft.{Drafted, refusedAt, grownBy, keptLine, addedLine}
+use Rattle.reader.specs.TextDraft.{draftFrom}
+use Rattle.reader.specs.Arrange.{lineIn}
 use Rattle.reader.specs.PlaceLaws.{stands-self, stands-same, up-to-end, line-same, faultless-closed}
 use Rattle.text.specs.PutLaws.{put-length, put-before}
 use Rattle.reader.specs.StandLaws.{put-stands}

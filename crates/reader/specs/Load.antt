@@ -4,16 +4,16 @@ use mathlib.Core.List.{List, [], _∷_, _++_}
 use Prim.Native.Nat.{ℕ, zero, suc}
 use lib.Dec.{ltb}
 use lib.ListN.{length}
-use Rattle.code.specs.Fault.{lineAt}
+use Rattle.checking.specs.Fault.{lineAt}
 use Rattle.tokens.specs.Token.{setSize, maxLines, textSize}
-use Rattle.set.specs.Set.{isKnown, namesKnown, emptySet}
-use Rattle.state.specs.State.{powerOn}
-use Rattle.scan.specs.Tokens.{Tokens, tokensOf}
-use Rattle.lines.specs.Lines.{Numbered, tokenLines}
-use Rattle.reader.specs.declared.load.Loaded.{Loaded}
-use Rattle.draft.specs.Row.{Row, numbersOf, byNumber, setOf}
-use Rattle.token_lines.specs.LineTokens.{ended}
-use Rattle.draft.specs.Codes.{badToken, notInSet, tooLong, tooManyLines, usedAbove}
+use Rattle.engine.specs.Set.{isKnown, namesKnown, emptySet}
+use Rattle.engine.specs.State.{powerOn}
+use Rattle.text.specs.Tokens.{Tokens, tokensOf}
+use Rattle.text.specs.Lines.{Numbered, tokenLines}
+use Rattle.reader.specs.declared.load_text.Loaded.{Loaded}
+use Rattle.reader.specs.Row.{Row, numbersOf, byNumber, setOf}
+use Rattle.reader.specs.LineTokens.{ended}
+use Rattle.reader.specs.Codes.{badToken, notInSet, tooLong, tooManyLines, usedAbove}
 
 -- ---- a line: its lowest fault of 3 to 11
 

@@ -7,11 +7,11 @@ use lib.ListN.{length}
 use Rattle.tokens.specs.Token.{textSize}
 use Rattle.values.specs.Choice.{decide}
 use Rattle.values.specs.Numbers.{clash}
-use Rattle.scan.specs.Tokens.{tokensOf}
-use Rattle.scan.specs.TokensLaws.{tokens-within}
-use Rattle.lines.specs.Lines.{Numbered, textLines, bodies, isBlank, numbered, tokenLines}
-use Rattle.lines.specs.LinesLaws.{room, lines-room}
-use Rattle.draft.specs.Row.{Row, total}
+use Rattle.text.specs.Tokens.{tokensOf}
+use Rattle.text.specs.TokensLaws.{tokens-within}
+use Rattle.text.specs.Lines.{Numbered, textLines, bodies, isBlank, numbered, tokenLines}
+use Rattle.text.specs.LinesLaws.{room, lines-room}
+use Rattle.reader.specs.Row.{Row, total}
 use Rattle.reader.specs.Load.{taken, rowOf, rowsFrom}
 use Rattle.reader.specs.RisingLaws.{next-row}
 

@@ -5,17 +5,17 @@ use Prim.Native.Nat.{ℕ}
 use Prim.Native.String.{String}
 use Rattle.tokens.specs.Reading.{isIndex, indexOf, isIndexed, indexAt, joined, more, readProduct, readSum, readRest, readExpression, readVariable, operandFrom, readOperand, readClose, readTruth, sumAt, expressionAt}
 use Rattle.tokens.specs.Index.{isInside}
-use Rattle.faults.specs.SingleFault.{lower, opensTooMany, wantingFault, numberFault, readFault, isWritable, writeFault, codeFault, idFault, callFault}
-use Rattle.code.specs.Fault.{joinSights, sight, countFault, numberOf, isRemoval, assignedAt, assignmentAt, commandAt, actionAt, actionsAt, lineParts, bodyAt, restAt, lineAt}
-use Rattle.set.specs.Set.{rankIn, namesKnown, emptySet}
-use Rattle.state.specs.State.{powerOn}
+use Rattle.tokens.specs.SingleFault.{lower, opensTooMany, wantingFault, numberFault, readFault, isWritable, writeFault, codeFault, idFault, callFault}
+use Rattle.checking.specs.Fault.{joinSights, sight, countFault, numberOf, isRemoval, assignedAt, assignmentAt, commandAt, actionAt, actionsAt, lineParts, bodyAt, restAt, lineAt}
+use Rattle.engine.specs.Set.{rankIn, namesKnown, emptySet}
+use Rattle.engine.specs.State.{powerOn}
 use Rattle.text.specs.Byte.{bytes, run}
-use Rattle.words.specs.Word.{wordToken}
+use Rattle.text.specs.Word.{wordToken}
 use Rattle.text.specs.Number.{written, isFit, numberToken}
-use Rattle.scan.specs.First.{wordFirst, behindPoint, numberWith, numberFirst, signFirst, firstToken}
-use Rattle.scan.specs.Tokens.{tokensFrom, tokensOf}
-use Rattle.lines.specs.Lines.{split, withoutReturn, withoutComment, bodies, isBlank, numbered, tokenLines}
-use Rattle.draft.specs.Row.{numbersOf, leastFrom, leastAbove, rising, plain, placed, setOf}
+use Rattle.text.specs.First.{wordFirst, behindPoint, numberWith, numberFirst, signFirst, firstToken}
+use Rattle.text.specs.Tokens.{tokensFrom, tokensOf}
+use Rattle.text.specs.Lines.{split, withoutReturn, withoutComment, bodies, isBlank, numbered, tokenLines}
+use Rattle.reader.specs.Row.{numbersOf, leastFrom, leastAbove, rising, plain, placed, setOf}
 use Rattle.reader.specs.Load.{tokensFault, faultBelow, rowsFrom, firstUnknown, named, outcome, loadAnswer, loadSet}
 
 -- the code and the line that loading answers

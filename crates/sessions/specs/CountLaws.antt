@@ -11,19 +11,19 @@ use lib.ListN.{length, getD, drop, length-append}
 use borrow.Author.Tests.{eqb-true, eq-eqb, ne-eqb}
 use Rattle.values.specs.Choice.{decide, either}
 use Rattle.values.specs.Numbers.{clash}
-use Rattle.engine.specs.declared.beat.Beaten.{Beaten}
+use Rattle.engine.specs.declared.one_beat.Beaten.{Beaten}
 use Rattle.text.specs.Byte.{bytes, LF, SPACE}
-use Rattle.words.specs.Word.{sameBytes}
-use Rattle.lines.specs.Lines.{before, split, textLines}
+use Rattle.text.specs.Word.{sameBytes}
+use Rattle.text.specs.Lines.{before, split, textLines}
 use Rattle.reader.specs.Load.{loadAnswer, loadSet}
 use Rattle.transcript.specs.Input.{inputOf}
-use Rattle.beat_lines.specs.BeatLine.{Lent, fields, lineLent}
-use Rattle.printing.specs.Output.{digitsUp, decimal, signedText, fourOf, codeLine, orderLine, orderLines, errorLine, endLine}
-use Rattle.totals.specs.declared.totals.Totals.{Totals}
-use Rattle.totals.specs.Totals.{maxBeats, noTotals, ended, oneIf}
-use Rattle.tally.specs.Tally.{counted, answerOf, bufferOf, beatText}
+use Rattle.transcript.specs.BeatLine.{Lent, fields, lineLent}
+use Rattle.transcript.specs.Output.{digitsUp, decimal, signedText, fourOf, codeLine, orderLine, orderLines, errorLine, endLine}
+use Rattle.transcript.specs.declared.totals.Totals.{Totals}
+use Rattle.transcript.specs.Totals.{maxBeats, noTotals, ended, oneIf}
+use Rattle.transcript.specs.Tally.{counted, answerOf, bufferOf, beatText}
 use Rattle.transcript.specs.Run.{beatsText, synrun}
-use Rattle.transcript.specs.RoomLaws.{byLent}
+use Rattle.transcript.specs.SessionRoomLaws.{byLent}
 use Rattle.sessions.specs.SessionLaws.{beats-over, beats-some, loaded-zero}
 
 -- ---- counting

@@ -4,45 +4,46 @@ use mathlib.Core.List.{List, [], _∷_, map}
 use Prim.Native.Nat.{ℕ}
 use Prim.Native.String.{String}
 use Rattle.values.specs.Value.{inRange, valued, sumOf, differenceOf, productOf, quotientOf, negationOf, lessThan, equalTo, wholeUnits, outputOf, feedOf, signOf}
-use Rattle.time.specs.Time.{millisOf, grownTimer, writtenTimer}
-use Rattle.fifo.specs.Fifo.{fits, appendAnswer, appended, shifted, removeAnswer, removed, oldestOf, newestOf, sumFirst, sumAll, totalOf, countOf, cleared, emptyAnswer, emptied}
-use Rattle.orders.specs.Order.{twosComplement, fourBytes, orderBytes, hasRoom, withOrder}
+use Rattle.values.specs.Time.{millisOf, grownTimer, writtenTimer}
+use Rattle.values.specs.Fifo.{fits, appendAnswer, appended, shifted, removeAnswer, removed, oldestOf, newestOf, sumFirst, sumAll, totalOf, countOf, cleared, emptyAnswer, emptied}
+use Rattle.engine.specs.Order.{fourBytes, orderBytes, hasRoom, withOrder}
+use Rattle.values.specs.Complement.{twosComplement}
 use Rattle.tokens.specs.Reading.{isIndex, indexOf, isIndexed, indexAt, joined, more, readProduct, readSum, readRest, readExpression, readClose, readVariable, readTruth, operandFrom, readOperand, sumAt, expressionAt}
 use Rattle.tokens.specs.Index.{isInside}
-use Rattle.variables.specs.Variables.{cellOf, countAt, fifoValue, fifoAt, variableValue}
-use Rattle.faults.specs.SingleFault.{lower, opensTooMany, wantingFault, numberFault, readFault, isWritable, writeFault, codeFault, idFault, callFault}
-use Rattle.code.specs.Fault.{joinSights, sight, countFault, numberOf, isRemoval, assignedAt, assignmentAt, commandAt, actionAt, actionsAt, lineParts, bodyAt, restAt, lineAt}
-use Rattle.operators.specs.Operators.{joinLogic, joinTruths, joinValues}
+use Rattle.working.specs.Variables.{cellOf, countAt, fifoValue, fifoAt, variableValue}
+use Rattle.tokens.specs.SingleFault.{lower, opensTooMany, wantingFault, numberFault, readFault, isWritable, writeFault, codeFault, idFault, callFault}
+use Rattle.checking.specs.Fault.{joinSights, sight, countFault, numberOf, isRemoval, assignedAt, assignmentAt, commandAt, actionAt, actionsAt, lineParts, bodyAt, restAt, lineAt}
+use Rattle.working.specs.Operators.{joinLogic, joinTruths, joinValues}
 use Rattle.working.specs.Working.{valueOver, conditionValue, rightValue}
-use Rattle.set.specs.Set.{emptySet, linesFrom, linesRead, rankIn, namesKnown, allKnown, namedLines, soundLines}
-use Rattle.state.specs.State.{powerOn}
-use Rattle.timers.specs.Timers.{grownCells}
-use Rattle.cells.specs.Cells.{inputCells, beatCells}
-use Rattle.state.specs.Sound.{allRanged, isCell, areCells, allZero, isFifoSound, isFlag, areFlags, stateSound, isSound}
-use Rattle.writing.specs.Write.{changeAnswer, changed, changeFifo, writeFifo, writeCell, writeInside, writeTo}
-use Rattle.drive.specs.Drive.{driveOrder}
-use Rattle.action.specs.Action.{alarmOf, lockOf, takenAt, assignmentOf, driveOf, commandOf, actionOf}
-use Rattle.actions.specs.Actions.{actionsOf}
-use Rattle.keyword.specs.Keyword.{tries, acts, remembers}
-use Rattle.turns.specs.Turn.{takesTurn, doTurn, tryTurn, turnOf, turnsFrom}
+use Rattle.engine.specs.Set.{emptySet, linesFrom, linesRead, rankIn, namesKnown, allKnown, namedLines, soundLines}
+use Rattle.engine.specs.State.{powerOn}
+use Rattle.engine.specs.Timers.{grownCells}
+use Rattle.engine.specs.Cells.{inputCells, beatCells}
+use Rattle.engine.specs.Sound.{allRanged, isCell, areCells, allZero, isFifoSound, isFlag, areFlags, stateSound, isSound}
+use Rattle.engine.specs.Write.{changeAnswer, changed, changeFifo, writeFifo, writeCell, writeInside, writeTo}
+use Rattle.engine.specs.Drive.{driveOrder}
+use Rattle.engine.specs.Action.{alarmOf, lockOf, takenAt, assignmentOf, driveOf, commandOf, actionOf}
+use Rattle.engine.specs.Actions.{actionsOf}
+use Rattle.engine.specs.Keyword.{tries, acts, remembers}
+use Rattle.engine.specs.Turn.{takesTurn, doTurn, tryTurn, turnOf, turnsFrom}
 use Rattle.engine.specs.Beat.{areInputs, begun as beatBegun, ended as beatEnded, beatOf as wholeBeat, beatAnswer, beatBuffer}
-use Rattle.state.specs.Find.{foundAt, found}
-use Rattle.calls.specs.Calls.{called, lockedCall, lockCall, unlockCall, cancelCall, resetCancelled, zeroed, resetState, resetCall}
+use Rattle.engine.specs.Find.{foundAt, found}
+use Rattle.engine.specs.Calls.{called, lockedCall, lockCall, unlockCall, cancelCall, resetCancelled, zeroed, resetState, resetCall}
 use Rattle.text.specs.Byte.{bytes, run}
-use Rattle.words.specs.Word.{wordToken}
+use Rattle.text.specs.Word.{wordToken}
 use Rattle.text.specs.Number.{written, isFit as numberFits, numberToken}
-use Rattle.scan.specs.First.{wordFirst, behindPoint, numberWith, numberFirst, signFirst, firstToken}
-use Rattle.scan.specs.Tokens.{tokensFrom, tokensOf}
-use Rattle.lines.specs.Lines.{split, textLines, withoutReturn, withoutComment, bodies, firstBody, boundsAt, isBlank, numbered, tokenLines}
-use Rattle.draft.specs.Row.{numbersOf, total, leastFrom, leastAbove, rising, plain, placed, setOf}
+use Rattle.text.specs.First.{wordFirst, behindPoint, numberWith, numberFirst, signFirst, firstToken}
+use Rattle.text.specs.Tokens.{tokensFrom, tokensOf}
+use Rattle.text.specs.Lines.{split, textLines, withoutReturn, withoutComment, bodies, firstBody, boundsAt, isBlank, numbered, tokenLines}
+use Rattle.reader.specs.Row.{numbersOf, total, leastFrom, leastAbove, rising, plain, placed, setOf}
 use Rattle.reader.specs.Load.{tokensFault, faultBelow, rowsFrom, firstUnknown, named, outcome, loadAnswer, loadSet}
 use Rattle.transcript.specs.Input.{beatLines, cut, inputOf}
-use Rattle.beat_lines.specs.BeatLine.{lentNumber, lentNumbers, modeOf, allDigits, wholeOf, fieldsLent, lineLent}
-use Rattle.printing.specs.Output.{digitsUp, fourOf, signedText, loadLine, errorLine, codeLine, orderLine, orderLines, endLine}
-use Rattle.tally.specs.Tally.{answerOf, bufferOf, beatText}
+use Rattle.transcript.specs.BeatLine.{lentNumber, lentNumbers, modeOf, allDigits, wholeOf, fieldsLent, lineLent}
+use Rattle.transcript.specs.Output.{digitsUp, fourOf, signedText, loadLine, errorLine, codeLine, orderLine, orderLines, endLine}
+use Rattle.transcript.specs.Tally.{answerOf, bufferOf, beatText}
 use Rattle.transcript.specs.Run.{beatsText, loadedText, synrun}
 use lib.ListN.{replicate}
-use Rattle.beat_lines.specs.Reading.{greatest, withField, closed, spaceAfter, modeByte, minusByte, digitByte, fieldByte, readByte, readOn, isUntouched, withoutCR, readLent}
+use Rattle.transcript.specs.BeatLineReading.{greatest, withField, closed, spaceAfter, modeByte, minusByte, digitByte, fieldByte, readByte, readOn, isUntouched, withoutCR, readLent}
 use Rattle.transcript.specs.Machine.{starAfter, starOn, placeOn, placeEnd, opened, textEnd, beatOf, beatEnd, chunk, lineEnd, fedLines, textOver, lastOver, finished}
 use Rattle.sessions.specs.SessionLaws.{prints, starting}
 

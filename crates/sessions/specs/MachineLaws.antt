@@ -11,18 +11,18 @@ use borrow.Author.Tests.{leb-true, leb-false, eqb-true}
 use Rattle.values.specs.Choice.{decide, either, eitherBoth}
 use Rattle.values.specs.Numbers.{clash}
 use Rattle.text.specs.Byte.{LF}
-use Rattle.lines.specs.Lines.{before, split, textLines}
-use Rattle.lines.specs.LinesLaws.{split-some}
+use Rattle.text.specs.Lines.{before, split, textLines}
+use Rattle.text.specs.LinesLaws.{split-some}
 use Rattle.text.specs.PutAt.{putAt}
 use Rattle.text.specs.PutLaws.{put-length, put-join}
 use Rattle.transcript.specs.declared.session.Place.{Place}
-use Rattle.beat_lines.specs.declared.beat_line.Reading.{Reading}
+use Rattle.transcript.specs.declared.beat_line.Reading.{Reading}
 use Rattle.reader.specs.Load.{loadAnswer}
-use Rattle.beat_lines.specs.Reading.{readByte, readOn, withoutCR, readLent}
-use Rattle.totals.specs.Totals.{maxBeats}
-use Rattle.tally.specs.Tally.{counted, answerOf}
+use Rattle.transcript.specs.BeatLineReading.{readByte, readOn, withoutCR, readLent}
+use Rattle.transcript.specs.Totals.{maxBeats}
+use Rattle.transcript.specs.Tally.{counted, answerOf}
 use Rattle.transcript.specs.Machine.{TEXT, BEATS, keptSize, Machine, Fed, withPlace, withReading, starAfter, starOn, placeOn, opened, textEnd, beatOf, beatEnd, chunk, lineEnd, behind, fedLines}
-use Rattle.transcript.specs.RoomLaws.{byCode, byLent}
+use Rattle.transcript.specs.SessionRoomLaws.{byCode, byLent}
 
 -- ---- bytes of a line, in two parts
 

@@ -13,14 +13,14 @@ use Rattle.values.specs.Choice.{decide, either}
 use Rattle.values.specs.Numbers.{clash}
 use Rattle.text.specs.Byte.{LF, inLine, run}
 use Rattle.text.specs.ByteLaws.{run-within}
-use Rattle.lines.specs.Lines.{before, split, textLines}
-use Rattle.lines.specs.LinesLaws.{line-end, line-on, run-end, run-more, lines-last, split-some}
+use Rattle.text.specs.Lines.{before, split, textLines}
+use Rattle.text.specs.LinesLaws.{line-end, line-on, run-end, run-more, lines-last, split-some}
 use Rattle.transcript.specs.declared.session.Place.{Place}
-use Rattle.totals.specs.Totals.{areFit}
+use Rattle.transcript.specs.Totals.{areFit}
 use Rattle.transcript.specs.Run.{synrun}
 use Rattle.transcript.specs.Machine.{TEXT, BEATS, keptSize, Machine, Fed, begun, withPlace, isFit, placeOn, starOn, chunk, lineEnd, behind, fedLines, finished, finishedText, outSize, lineRoom, Work, workFrom, worked}
-use Rattle.beat_lines.specs.Reading.{readOn}
-use Rattle.transcript.specs.RoomLaws.{Fit, fit-parts, fit-whole, Lives, chunk-lives, line-lives}
+use Rattle.transcript.specs.BeatLineReading.{readOn}
+use Rattle.transcript.specs.SessionRoomLaws.{Fit, fit-parts, fit-whole, Lives, chunk-lives, line-lives}
 use Rattle.transcript.specs.TakenLaws.{taken-some}
 use Rattle.sessions.specs.MachineLaws.{Held, chunk-text, chunk-beats, chunk-else, fed-line, fed-held, pieces}
 use Rattle.sessions.specs.SessionLaws.{prints, over-fed, over-finished, starting, session-prints}

@@ -15,12 +15,12 @@ use Rattle.values.specs.Choice.{decide, either, eitherBoth, both, and-true}
 use Rattle.values.specs.Numbers.{clash}
 use Rattle.text.specs.Byte.{CR, SPACE, isDigit}
 use Rattle.text.specs.Number.{digitsValue}
-use Rattle.lines.specs.Lines.{before as startOf, split, withoutReturn}
-use Rattle.lines.specs.LinesLaws.{split-some}
-use Rattle.beat_lines.specs.declared.beat_line.Reading.{Reading}
-use Rattle.beat_lines.specs.BeatLine.{Lent, fields, modeOf, allDigits, areDigits, wholeOf, wordOf, positive, negative, lentNumber, withNumber, lentNumbers, lentOf, fieldsLent, lineLent}
-use Rattle.transcript.specs.RoomLaws.{closed-field}
-use Rattle.beat_lines.specs.Reading.{noReading, illFormed, withStage, highest, greatest, signed, withField, closed, spaceAfter, modeByte, minusByte, digitByte, fieldByte, readByte, readOn, isUntouched, withoutCR, readLent}
+use Rattle.text.specs.Lines.{before as startOf, split, withoutReturn}
+use Rattle.text.specs.LinesLaws.{split-some}
+use Rattle.transcript.specs.declared.beat_line.Reading.{Reading}
+use Rattle.transcript.specs.BeatLine.{Lent, fields, modeOf, allDigits, areDigits, wholeOf, wordOf, positive, negative, lentNumber, withNumber, lentNumbers, lentOf, fieldsLent, lineLent}
+use Rattle.transcript.specs.SessionRoomLaws.{closed-field}
+use Rattle.transcript.specs.BeatLineReading.{noReading, illFormed, withStage, highest, greatest, signed, withField, closed, spaceAfter, modeByte, minusByte, digitByte, fieldByte, readByte, readOn, isUntouched, withoutCR, readLent}
 
 -- ---- the bytes of one field
 

@@ -11,26 +11,26 @@ use lib.Seq.{take-all, take-append-le, take-suc-set, take-set-le, append-snoc}
 use borrow.Author.Tests.{leb-true, leb-false, eqb-true, lt-ltb}
 use Rattle.values.specs.Choice.{decide, either}
 use Rattle.values.specs.Numbers.{clash}
-use Rattle.state.specs.State.{powerOn}
+use Rattle.engine.specs.State.{powerOn}
 use Rattle.text.specs.Byte.{LF, CR}
-use Rattle.lines.specs.Lines.{textLines, withoutReturn}
-use Rattle.lines.specs.LinesLaws.{split-some}
+use Rattle.text.specs.Lines.{textLines, withoutReturn}
+use Rattle.text.specs.LinesLaws.{split-some}
 use Rattle.text.specs.PutAt.{putAt}
 use Rattle.tokens.specs.Token.{textSize}
 use Rattle.reader.specs.Load.{Outcome, refused, outcome, loadAnswer, loadSet}
 use Rattle.text.specs.PutLaws.{put-length}
 use Rattle.transcript.specs.declared.session.Place.{Place}
-use Rattle.beat_lines.specs.declared.beat_line.Reading.{Reading}
+use Rattle.transcript.specs.declared.beat_line.Reading.{Reading}
 use Rattle.transcript.specs.Input.{Input, isStar, beatLines, lineBefore, cut, inputOf}
-use Rattle.beat_lines.specs.BeatLine.{Lent, lineLent}
-use Rattle.printing.specs.Output.{loadLine, errorLine}
-use Rattle.totals.specs.declared.totals.Totals.{Totals}
-use Rattle.totals.specs.Totals.{maxBeats, noTotals, ended}
-use Rattle.tally.specs.Tally.{counted, answerOf, beatText}
+use Rattle.transcript.specs.BeatLine.{Lent, lineLent}
+use Rattle.transcript.specs.Output.{loadLine, errorLine}
+use Rattle.transcript.specs.declared.totals.Totals.{Totals}
+use Rattle.transcript.specs.Totals.{maxBeats, noTotals, ended}
+use Rattle.transcript.specs.Tally.{counted, answerOf, beatText}
 use Rattle.transcript.specs.Run.{beatsText, loadedText, synrun}
-use Rattle.beat_lines.specs.Reading.{noReading, readOn, withoutCR, isUntouched, readLent}
+use Rattle.transcript.specs.BeatLineReading.{noReading, readOn, withoutCR, isUntouched, readLent}
 use Rattle.transcript.specs.Machine.{TEXT, BEATS, OVER, keptSize, Machine, Fed, begun, withPhase, withTotals, starAfter, starOn, placeOn, placeEnd, opened, textEnd, beatOf, beatEnd, chunk, lineEnd, fedLines, textOver, lastOver, finished}
-use Rattle.transcript.specs.RoomLaws.{byCode, byLent, over-chunk, over-line}
+use Rattle.transcript.specs.SessionRoomLaws.{byCode, byLent, over-chunk, over-line}
 use Rattle.sessions.specs.ReadingLaws.{byOption, lent-last, lent-ended, untouched}
 use Rattle.sessions.specs.MachineLaws.{put-out, text-append}
 

@@ -10,7 +10,7 @@ use Rattle.text.specs.PutAt.{putAt}
 use Rattle.transcript.specs.declared.session.Session.{Session}
 use Rattle.transcript.specs.declared.session.Stepped.{Stepped}
 use Rattle.transcript.specs.Machine.{Machine, OVER, begun, finishedText, Work, worked}
-use Rattle.transcript.specs.Held.{IsWork, machineOf}
+use Rattle.transcript.specs.SessionHeld.{IsWork, machineOf}
 
 pub begin-unique : (x y : Session) → x ≡ begun → y ≡ begun → x ≡ y
 begin-unique x y p q = unique p q

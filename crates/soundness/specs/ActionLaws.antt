@@ -13,14 +13,14 @@ use Rattle.values.specs.Value.{notAllowed, inRange, lessThan, feedOf}
 use Rattle.values.specs.Numbers.{clash}
 use Rattle.tokens.specs.Token.{END, EQUALS, OPEN, CLOSE, LEFT, RIGHT, IN, IM, POS, FA, MOV, M, SETAL, LOCK, UNLOCK, X, W, between, isVariable, isAxis, hasAxis, isFifo, isDrive, isCall, isWhole, whole, setSize, maxLines}
 use Rattle.tokens.specs.Reading.{token, Answer, good, stop, _>>=_, Read, read, ends, then, isIndex, indexOf, isIndexed, indexAt, sumAt, expressionAt}
-use Rattle.faults.specs.SingleFault.{outside, lower, writeFault, idFault, callFault}
-use Rattle.code.specs.Fault.{Sight, wanting, sight, faultFor, isRemoval, assignedAt, assignmentAt, commandAt, actionAt}
-use Rattle.operators.specs.Operators.{fromWorked}
+use Rattle.tokens.specs.SingleFault.{outside, lower, writeFault, idFault, callFault}
+use Rattle.checking.specs.Fault.{Sight, wanting, sight, faultFor, isRemoval, assignedAt, assignmentAt, commandAt, actionAt}
+use Rattle.working.specs.Operators.{fromWorked}
 use Rattle.working.specs.Working.{told, valueOver, rightValue, conditionValue}
-use Rattle.set.specs.Set.{rankIn, isKnown, isLock, soundLines}
-use Rattle.writing.specs.Write.{Vars, changeFifo, writeTo}
-use Rattle.action.specs.Action.{World, Taken, Did, fromGot, lockOf, takenAt, assignmentOf, driveOf, commandOf, actionOf}
-use Rattle.drive.specs.Drive.{driveOrder}
+use Rattle.engine.specs.Set.{rankIn, isKnown, isLock, soundLines}
+use Rattle.engine.specs.Write.{Vars, changeFifo, writeTo}
+use Rattle.engine.specs.Action.{World, Taken, Did, fromGot, lockOf, takenAt, assignmentOf, driveOf, commandOf, actionOf}
+use Rattle.engine.specs.Drive.{driveOrder}
 use Rattle.soundness.specs.GoodAnswers.{Holds, holds-then}
 use Rattle.soundness.specs.SetLaws.{rank-inside}
 use Rattle.soundness.specs.CellLaws.{FlagsRight, lock-keeps}

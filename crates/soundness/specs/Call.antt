@@ -3,8 +3,8 @@ use mathlib.Core.Bool.{Bool}
 use mathlib.Core.List.{List, [], _∷_}
 use Prim.Native.Nat.{ℕ}
 use lib.IntN.{ℤ}
-use Rattle.state.specs.declared.state.State.{State}
-use Rattle.calls.specs.Calls.{lockCall, unlockCall, cancelCall, resetCall}
+use Rattle.engine.specs.declared.state.State.{State}
+use Rattle.engine.specs.Calls.{lockCall, unlockCall, cancelCall, resetCall}
 use Rattle.engine.specs.Beat.{beatAnswer}
 
 -- a beat in AUTOMATIC or not, with the input word, the 14 numbers and the order buffer; and the host's calls, which name a line by its number

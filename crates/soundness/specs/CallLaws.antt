@@ -13,18 +13,18 @@ use lib.Seq.{getD-take, getD-drop}
 use borrow.Author.Tests.{eqb-true, ltb-true}
 use Rattle.values.specs.Choice.{either, ifNot}
 use Rattle.values.specs.Numbers.{clash}
-use Rattle.code.specs.declared.check.Line.{Line}
-use Rattle.fifo.specs.FifoLaws.{same-each}
-use Rattle.state.specs.declared.state.State.{State}
-use Rattle.calls.specs.declared.host.Called.{Called}
-use Rattle.state.specs.declared.find.Found.{Found}
+use Rattle.checking.specs.declared.check.Line.{Line}
+use Rattle.values.specs.FifoLaws.{same-each}
+use Rattle.engine.specs.declared.state.State.{State}
+use Rattle.engine.specs.declared.calls.Called.{Called}
+use Rattle.engine.specs.declared.find.Found.{Found}
 use Rattle.tokens.specs.Token.{maxLines}
-use Rattle.set.specs.Set.{rankIn, soundLines}
-use Rattle.state.specs.State.{stateCells}
-use Rattle.state.specs.Sound.{isSound, isCell, isFlag}
-use Rattle.state.specs.Find.{foundAt, found}
-use Rattle.calls.specs.Calls.{withLocked, withCancelled, called, lockedCall, lockCall, unlockCall, cancelCall, resetCancelled, zeroed, resetState, resetCall}
-use Rattle.calls.proofs.CallLaws.{reset-keeps}
+use Rattle.engine.specs.Set.{rankIn, soundLines}
+use Rattle.engine.specs.State.{stateCells}
+use Rattle.engine.specs.Sound.{isSound, isCell, isFlag}
+use Rattle.engine.specs.Find.{foundAt, found}
+use Rattle.engine.specs.Calls.{withLocked, withCancelled, called, lockedCall, lockCall, unlockCall, cancelCall, resetCancelled, zeroed, resetState, resetCall}
+use Rattle.engine.proofs.CallLaws.{reset-keeps}
 use Rattle.soundness.specs.GoodAnswers.{Not22}
 use Rattle.soundness.specs.CellLaws.{append-behind, CellsRight, FlagsRight, zero-cell, set-sound, state-right, right-state, flag-clear, flag-none, flag-beyond, lock-keeps, cancel-keeps, cells-swapped}
 

@@ -13,16 +13,16 @@ use borrow.Author.Tests.{lt-ltb, le-ltb, le-leb, leb-true, not-true}
 use Rattle.values.specs.Choice.{both, and-true}
 use Rattle.values.specs.Value.{inRange, lessThan, equalTo, wholeUnits, outputOf}
 use Rattle.values.specs.ValueLaws.{abs-range, equal-same, same-equal}
-use Rattle.time.specs.TimeLaws.{Timed}
-use Rattle.fifo.specs.Fifo.{places, Unused}
-use Rattle.fifo.specs.FifoLaws.{PlacesRanged, set-each, same-each, zero-in-range}
+use Rattle.values.specs.TimeLaws.{Timed}
+use Rattle.values.specs.Fifo.{places, Unused}
+use Rattle.values.specs.FifoLaws.{PlacesRanged, set-each, same-each, zero-in-range}
 use Rattle.values.specs.Numbers.{clash}
-use Rattle.variables.specs.Variables.{asCount}
-use Rattle.state.specs.declared.state.State.{State}
-use Rattle.set.specs.Set.{soundLines}
-use Rattle.state.specs.State.{stateCells, powerOn}
-use Rattle.state.specs.Sound.{allRanged, isOutput, isCell, areCells, allZero, fifoRun, isFifoSound, isFlag, areFlags, stateSound, isSound}
-use Rattle.writing.specs.Write.{withRunAt}
+use Rattle.working.specs.Variables.{asCount}
+use Rattle.engine.specs.declared.state.State.{State}
+use Rattle.engine.specs.Set.{soundLines}
+use Rattle.engine.specs.State.{stateCells, powerOn}
+use Rattle.engine.specs.Sound.{allRanged, isOutput, isCell, areCells, allZero, fifoRun, isFifoSound, isFlag, areFlags, stateSound, isSound}
+use Rattle.engine.specs.Write.{withRunAt}
 
 -- ---- lists, place by place
 

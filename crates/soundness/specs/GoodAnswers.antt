@@ -1,7 +1,7 @@
 -- What a good answer is said to hold: whatever its code is otherwise, and where none stops with 22. Laws; nothing is assumed.
 use mathlib.Core.Path.{_≡_, refl}
 use Prim.Native.Nat.{ℕ}
-use Rattle.fifo.specs.Fifo.{unsound}
+use Rattle.values.specs.Fifo.{unsound}
 use Rattle.values.specs.Numbers.{clash}
 use Rattle.tokens.specs.Reading.{Answer, good, stop, _>>=_}
 

@@ -11,12 +11,12 @@ use Rattle.values.specs.Choice.{either, ifNot, both}
 use Rattle.values.specs.Numbers.{clash}
 use Rattle.tokens.specs.Token.{END, EQUALS, DO, ID, IDS, WHEN, EVERY, isNumber, isKeyword, isId, isWhole, setSize}
 use Rattle.tokens.specs.Reading.{token, good, _>>=_, Read, read, ends, then, expressionAt}
-use Rattle.faults.specs.SingleFault.{tooMany, lower, opensTooMany}
-use Rattle.code.specs.Fault.{sight, faultFor, countFault, actionAt, actionsAt, faultyLine, lineParts, bodyAt, restAt, lineAt}
-use Rattle.code.specs.declared.check.Line.{Line}
-use Rattle.set.specs.Set.{namesKnown, soundLines}
-use Rattle.action.specs.Action.{World, Did, actionOf}
-use Rattle.actions.specs.Actions.{actionsOf}
+use Rattle.tokens.specs.SingleFault.{tooMany, lower, opensTooMany}
+use Rattle.checking.specs.Fault.{sight, faultFor, countFault, actionAt, actionsAt, faultyLine, lineParts, bodyAt, restAt, lineAt}
+use Rattle.checking.specs.declared.check.Line.{Line}
+use Rattle.engine.specs.Set.{namesKnown, soundLines}
+use Rattle.engine.specs.Action.{World, Did, actionOf}
+use Rattle.engine.specs.Actions.{actionsOf}
 use Rattle.soundness.specs.GoodAnswers.{Holds, holds-then}
 use Rattle.soundness.specs.WriteLaws.{lower-zero, unless-zero}
 use Rattle.soundness.specs.PassLaws.{between-some, equal-some, number-some, Passed, passed-none, passed-next, passed-on, Past, expressionAt-past, fault-past, action-past, names-known}

@@ -13,28 +13,28 @@ use borrow.Author.Tests.{eqb-true, not-true}
 use Rattle.values.specs.Choice.{either, ifNot, both}
 use Rattle.values.specs.Value.{unit, inRange}
 use Rattle.values.specs.ValueLaws.{abs-range}
-use Rattle.time.specs.Time.{timer}
-use Rattle.time.specs.TimeLaws.{grown-keeps}
-use Rattle.fifo.specs.FifoLaws.{PlacesRanged, zero-in-range, InRange}
+use Rattle.values.specs.Time.{timer}
+use Rattle.values.specs.TimeLaws.{grown-keeps}
+use Rattle.values.specs.FifoLaws.{PlacesRanged, zero-in-range, InRange}
 use Rattle.values.specs.Numbers.{clash}
 use Rattle.tokens.specs.Token.{WHEN, WHENEVER, FROM, EVERY, isKeyword, setSize}
 use Rattle.tokens.specs.Reading.{Answer, good, stop}
-use Rattle.operators.specs.Operators.{isYes}
+use Rattle.working.specs.Operators.{isYes}
 use Rattle.working.specs.Working.{conditionValue}
-use Rattle.state.specs.declared.state.State.{State}
-use Rattle.calls.specs.declared.host.Called.{Called}
-use Rattle.set.specs.Set.{lineOf, soundLines}
-use Rattle.state.specs.State.{stateCells, powerOn}
-use Rattle.cells.specs.Cells.{inputCount, inputCell, inputCells, beatCells}
-use Rattle.timers.specs.Timers.{timerCells, grownCells}
-use Rattle.state.specs.Sound.{isSound}
-use Rattle.action.specs.Action.{World, Did, fromGot}
-use Rattle.actions.specs.Actions.{actionsOf}
-use Rattle.turns.specs.Turn.{Entry, Turned, remembered, counted, takesTurn, doTurn, tryTurn, turnOf, turnsFrom}
-use Rattle.keyword.specs.Keyword.{tries, remembers}
+use Rattle.engine.specs.declared.state.State.{State}
+use Rattle.engine.specs.declared.calls.Called.{Called}
+use Rattle.engine.specs.Set.{lineOf, soundLines}
+use Rattle.engine.specs.State.{stateCells, powerOn}
+use Rattle.engine.specs.Cells.{inputCount, inputCell, inputCells, beatCells}
+use Rattle.engine.specs.Timers.{timerCells, grownCells}
+use Rattle.engine.specs.Sound.{isSound}
+use Rattle.engine.specs.Action.{World, Did, fromGot}
+use Rattle.engine.specs.Actions.{actionsOf}
+use Rattle.engine.specs.Turn.{Entry, Turned, remembered, counted, takesTurn, doTurn, tryTurn, turnOf, turnsFrom}
+use Rattle.engine.specs.Keyword.{tries, remembers}
 use Rattle.engine.specs.Beat.{bufferSize, areInputs, begun, ended, beatOf, answered, beatAnswer}
-use Rattle.calls.specs.Calls.{lockCall, unlockCall, cancelCall}
-use Rattle.cells.proofs.CellLaws.{length-inputs}
+use Rattle.engine.specs.Calls.{lockCall, unlockCall, cancelCall}
+use Rattle.engine.proofs.CellLaws.{length-inputs}
 use Rattle.engine.proofs.BeatLaws.{inputs-length}
 use Rattle.soundness.specs.Call.{Call, doBeat, doLock, doUnlock, doCancel, doReset, after, codeAfter, afterAll}
 use Rattle.soundness.specs.GoodAnswers.{Not22, Holds, holds-then}

@@ -11,22 +11,22 @@ use borrow.Author.Tests.{eqb-false, leb-true, le-ltb, not-true}
 use Rattle.values.specs.Choice.{either, ifNot, either-cond}
 use Rattle.values.specs.Value.{top, outOfRange, zeroDivisor, inRange, lessThan, valued, sumOf, differenceOf, productOf, quotientOf, negationOf}
 use Rattle.values.specs.ValueLaws.{Ranged, abs-range, sum-in-range, difference-in-range, product-in-range, quotient-in-range, negation-in-range}
-use Rattle.fifo.specs.Fifo.{places, fifoEmpty, sumFirst, seen, oldestOf, newestOf, totalOf, countOf}
-use Rattle.fifo.specs.FifoLaws.{fits-holds, PlacesRanged, SeenRanged, oldest-in-range, newest-in-range, total-in-range, count-in-range}
+use Rattle.values.specs.Fifo.{places, fifoEmpty, sumFirst, seen, oldestOf, newestOf, totalOf, countOf}
+use Rattle.values.specs.FifoLaws.{fits-holds, PlacesRanged, SeenRanged, oldest-in-range, newest-in-range, total-in-range, count-in-range}
 use Rattle.values.specs.Numbers.{clash}
 use Rattle.values.specs.declared.arithmetic.Worked.{Worked}
 use Rattle.values.specs.declared.arithmetic.Worked.the-variants as W
-use Rattle.fifo.specs.declared.fifo.Seen.{Seen}
-use Rattle.fifo.specs.declared.fifo.Seen.the-variants as S
+use Rattle.values.specs.declared.fifo.Seen.{Seen}
+use Rattle.values.specs.declared.fifo.Seen.the-variants as S
 use Rattle.tokens.specs.Token.{MINUS, PLUS, TIMES, OVER, R, FIFO1, isLogic, isFifo, thousandths}
 use Rattle.tokens.specs.Reading.{Answer, good}
 use Rattle.tokens.specs.Index.{isInside}
-use Rattle.variables.specs.Variables.{cellOf, run, countAt, fromSeen, fifoValue, fifoAt, variableValue}
-use Rattle.faults.specs.SingleFault.{outside, readOnly, lower, unless, numberFault, readFault}
-use Rattle.code.specs.Fault.{wanting, Sight, joinSights, sight}
-use Rattle.operators.specs.Operators.{fromWorked, yesNo, isYes, joinTruths, joinValues}
+use Rattle.working.specs.Variables.{cellOf, run, countAt, fromSeen, fifoValue, fifoAt, variableValue}
+use Rattle.tokens.specs.SingleFault.{outside, readOnly, lower, unless, numberFault, readFault}
+use Rattle.checking.specs.Fault.{wanting, Sight, joinSights, sight}
+use Rattle.working.specs.Operators.{fromWorked, yesNo, isYes, joinTruths, joinValues}
 use Rattle.working.specs.Working.{valueOver}
-use Rattle.action.specs.Action.{alarmOf}
+use Rattle.engine.specs.Action.{alarmOf}
 use Rattle.tokens.proofs.Indices.{last-inside, last-fifo}
 use Rattle.soundness.specs.GoodAnswers.{Not22}
 use Rattle.soundness.specs.CellLaws.{run-ranged}

@@ -13,25 +13,25 @@ use borrow.Author.Tests.{eqb-true, eqb-false, leb-true, ltb-true}
 use Rattle.values.specs.Choice.{either, ifNot, either-cond, both}
 use Rattle.values.specs.Value.{unit, notAllowed, inRange, equalTo, wholeUnits, outputOf}
 use Rattle.values.specs.ValueLaws.{abs-range, whole-in-range, whole-whole, output-either, output-same}
-use Rattle.time.specs.Time.{timer}
-use Rattle.time.specs.TimeLaws.{written-keeps}
-use Rattle.fifo.specs.Fifo.{places, Unused, countAfter, fits, appendAnswer, appended, removeAnswer, removed, emptyAnswer, emptied}
-use Rattle.fifo.specs.FifoLaws.{fits-holds, PlacesRanged, append-length, append-count, append-unused, append-ranged, remove-length, remove-count, remove-unused, remove-ranged, removed-in-range, empty-length, empty-count, empty-unused, empty-ranged, set-each, zero-in-range}
+use Rattle.values.specs.Time.{timer}
+use Rattle.values.specs.TimeLaws.{written-keeps}
+use Rattle.values.specs.Fifo.{places, Unused, countAfter, fits, appendAnswer, appended, removeAnswer, removed, emptyAnswer, emptied}
+use Rattle.values.specs.FifoLaws.{fits-holds, PlacesRanged, append-length, append-count, append-unused, append-ranged, remove-length, remove-count, remove-unused, remove-ranged, removed-in-range, empty-length, empty-count, empty-unused, empty-ranged, set-each, zero-in-range}
 use Rattle.values.specs.Numbers.{clash}
 use Rattle.values.specs.declared.arithmetic.Worked.{Worked}
 use Rattle.values.specs.declared.arithmetic.Worked.the-variants as W
-use Rattle.fifo.specs.declared.fifo.Moved.{Moved}
-use Rattle.fifo.specs.declared.fifo.Moved.the-variants as M
+use Rattle.values.specs.declared.fifo.Moved.{Moved}
+use Rattle.values.specs.declared.fifo.Moved.the-variants as M
 use Rattle.tokens.specs.Token.{OUT, MARKER, PARAM, R, TIMER, FIFO1, isFifo}
 use Rattle.tokens.specs.Reading.{good, _>>=_}
 use Rattle.tokens.specs.Index.{firstIndex, lastIndex, isInside}
-use Rattle.variables.specs.Variables.{runStart, cellOf, cellCount, counts, countAt, run, asCount}
-use Rattle.faults.specs.SingleFault.{outside, readOnly, lower, unless, isWritable, writeFault}
-use Rattle.operators.specs.Operators.{fromWorked}
-use Rattle.state.specs.State.{stateCells}
-use Rattle.cells.specs.Cells.{inputCount}
-use Rattle.state.specs.Sound.{isCell, isOutput}
-use Rattle.writing.specs.Write.{Vars, Changed, Celled, withRunAt, moved, writeTimer, changeAnswer, changed, changeFifo, writeFifo, writeCell, writeInside, writeTo}
+use Rattle.working.specs.Variables.{runStart, cellOf, cellCount, counts, countAt, run, asCount}
+use Rattle.tokens.specs.SingleFault.{outside, readOnly, lower, unless, isWritable, writeFault}
+use Rattle.working.specs.Operators.{fromWorked}
+use Rattle.engine.specs.State.{stateCells}
+use Rattle.engine.specs.Cells.{inputCount}
+use Rattle.engine.specs.Sound.{isCell, isOutput}
+use Rattle.engine.specs.Write.{Vars, Changed, Celled, withRunAt, moved, writeTimer, changeAnswer, changed, changeFifo, writeFifo, writeCell, writeInside, writeTo}
 use Rattle.tokens.proofs.Indices.{last-inside}
 use Rattle.soundness.specs.GoodAnswers.{Not22, Holds, holds-then}
 use Rattle.soundness.specs.CellLaws.{cell-ranged, timer-cell, count-cell, right-output, right-marker, right-parameter, right-timer, fifoCount, CellsSound, run-ranged, replaced-length, r-keeps, cell-keeps, fifo-keeps}

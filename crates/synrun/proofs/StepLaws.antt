@@ -7,8 +7,8 @@ use lib.ListN.{length, take, drop, length-drop}
 use lib.Seq.{length-take-le}
 use Rattle.transcript.specs.declared.session.Stepped.{Stepped}
 use Rattle.transcript.specs.Machine.{Machine, worked, finishedText, outSize}
-use Rattle.transcript.specs.Held.{IsWork}
-use Rattle.transcript.specs.RoomLaws.{finished-text-room}
+use Rattle.transcript.specs.SessionHeld.{IsWork}
+use Rattle.transcript.specs.SessionRoomLaws.{finished-text-room}
 use Rattle.text.specs.PutAt.{putAt}
 use Rattle.text.specs.PutLaws.{put-length}
 use Rattle.transcript.specs.TakenLaws.{worked-room, taken-within, taken-some}

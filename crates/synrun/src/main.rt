@@ -1,18 +1,18 @@
 // synrun: reads standard input, hands it to a session piece by piece, and writes what the session prints. Nothing else happens here.
 //
 // Where reading or writing fails it says so on standard error and stops, without END.
+use engine::empty_set;
 use libc::STDERR_FILENO;
 use libc::STDIN_FILENO;
 use libc::STDOUT_FILENO;
-use set::set::empty_set;
 use tokens::token::SIZE;
-use transcript::session::KEPT;
-use transcript::session::OUT;
-use transcript::session::Session;
-use transcript::session::begin;
-use transcript::session::finish;
-use transcript::session::is_over;
-use transcript::session::step;
+use transcript::KEPT;
+use transcript::OUT;
+use transcript::Session;
+use transcript::begin;
+use transcript::finish;
+use transcript::is_over;
+use transcript::step;
 
 // A session, whether more of its input is wanted, and whether reading or writing failed.
 struct Next {

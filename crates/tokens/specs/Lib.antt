@@ -1,4 +1,6 @@
 -- Token what a token is, Index which indices a variable has, Reading how tokens are read, in any meaning. Definitions only.
+-- SingleFault: the faults of single things. Definitions only.
 pub mod Token
 pub mod Index
 pub mod Reading
+pub mod SingleFault

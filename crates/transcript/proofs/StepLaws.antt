@@ -13,28 +13,28 @@ use lib.ListN.{length, getD, set, take, drop, drop-of-length-le}
 use lib.Seq.{drop-cons}
 use Rattle.tokens.proofs.Between.{never}
 use Rattle.text.specs.Byte.{LF, CR}
-use Rattle.reader.specs.declared.load.Loaded.{Loaded}
+use Rattle.reader.specs.declared.load_text.Loaded.{Loaded}
 use Rattle.text.specs.PutAt.{putAt}
 use Rattle.reader.specs.Load.{loadAnswer, loadSet}
 use Rattle.transcript.specs.declared.session.Place.{Place}
 use Rattle.transcript.specs.declared.session.Session.{Session}
 use Rattle.transcript.specs.declared.session.Ended.{Ended}
-use Rattle.beat_lines.specs.declared.beat_line.Reading.{Reading}
-use Rattle.beat_lines.specs.declared.beat_line.Told.{Told}
-use Rattle.beat_lines.specs.BeatLine.{Lent}
-use Rattle.printing.specs.Output.{loadLine, errorLine}
-use Rattle.beat_lines.specs.Reading.{noReading, readOn, readLent, withoutCR}
-use Rattle.totals.specs.declared.totals.Totals.{Totals}
-use Rattle.totals.specs.Totals.{maxBeats, ended, areFit, errorText}
-use Rattle.totals.specs.TotalsLaws.{error-some}
-use Rattle.tally.specs.Tally.{counted, answerOf, beatText, Tally, tallied}
-use Rattle.tally.specs.TallyLaws.{taken-fit}
+use Rattle.transcript.specs.declared.beat_line.Reading.{Reading}
+use Rattle.transcript.specs.declared.beat_line.Told.{Told}
+use Rattle.transcript.specs.BeatLine.{Lent}
+use Rattle.transcript.specs.Output.{loadLine, errorLine}
+use Rattle.transcript.specs.BeatLineReading.{noReading, readOn, readLent, withoutCR}
+use Rattle.transcript.specs.declared.totals.Totals.{Totals}
+use Rattle.transcript.specs.Totals.{maxBeats, ended, areFit, errorText}
+use Rattle.transcript.specs.TotalsLaws.{error-some}
+use Rattle.transcript.specs.Tally.{counted, answerOf, beatText, Tally, tallied}
+use Rattle.transcript.specs.TallyLaws.{taken-fit}
 use Rattle.transcript.specs.Machine.{TEXT, BEATS, OVER, keptSize, Fed, isFit, withPhase, withPlace, withReading, starAfter, starOn, placeOn, placeEnd, opened, textEnd, beatOf, beatEnd, chunk, lineEnd}
-use Rattle.printing.specs.Put.{IsPut, furthest}
-use Rattle.transcript.specs.Held.{IsFed, machineOf}
-use Rattle.beat_lines.specs.Told.{toldOf, lentIn}
-use Rattle.transcript.specs.RoomLaws.{Fit, Lives, beat-orders, beat-room}
-use Rattle.printing.proofs.OutLaws.{reached}
+use Rattle.transcript.specs.Put.{IsPut, furthest}
+use Rattle.transcript.specs.SessionHeld.{IsFed, machineOf}
+use Rattle.transcript.specs.Told.{toldOf, lentIn}
+use Rattle.transcript.specs.SessionRoomLaws.{Fit, Lives, beat-orders, beat-room}
+use Rattle.transcript.proofs.OutLaws.{reached}
 
 -- what is left to say once it is known what a session came to
 pub fed : {f : Fed} {t s o b exit : List ℕ} {y : Session} {at q : ℕ} → f ≡ record { machine = machineOf t s y; output = o } → IsPut b at o exit q → IsFed f t s b at (record { session = y; end = q }) exit

@@ -11,19 +11,19 @@ use lib.ListN.{length, take, drop, length-drop}
 use lib.Seq.{drop-drop}
 use Rattle.text.specs.Byte.{inLine, run}
 use Rattle.text.specs.ByteLaws.{run-within}
-use Rattle.reader.specs.declared.load.Loaded.{Loaded}
+use Rattle.reader.specs.declared.load_text.Loaded.{Loaded}
 use Rattle.text.specs.PutAt.{putAt}
 use Rattle.reader.specs.Load.{loadAnswer}
 use Rattle.transcript.specs.declared.session.Session.{Session}
 use Rattle.transcript.specs.declared.session.Ended.{Ended}
-use Rattle.printing.specs.Output.{loadLine}
-use Rattle.beat_lines.specs.Reading.{isUntouched}
-use Rattle.totals.specs.Totals.{ended}
+use Rattle.transcript.specs.Output.{loadLine}
+use Rattle.transcript.specs.BeatLineReading.{isUntouched}
+use Rattle.transcript.specs.Totals.{ended}
 use Rattle.transcript.specs.Machine.{TEXT, BEATS, Machine, Fed, Work, isFit, beatEnd, chunk, lineEnd, textOver, lastOver, finished, finishedText, workFrom, worked}
-use Rattle.printing.specs.Put.{IsPut}
-use Rattle.transcript.specs.Held.{IsFed, IsWork, machineOf}
-use Rattle.transcript.specs.RoomLaws.{Fit, Lives, fit-parts, chunk-lives, line-lives}
-use Rattle.printing.proofs.OutLaws.{put-both, put-nothing}
+use Rattle.transcript.specs.Put.{IsPut}
+use Rattle.transcript.specs.SessionHeld.{IsFed, IsWork, machineOf}
+use Rattle.transcript.specs.SessionRoomLaws.{Fit, Lives, fit-parts, chunk-lives, line-lives}
+use Rattle.transcript.proofs.OutLaws.{put-both, put-nothing}
 
 -- what is left to say once it is known what a piece came to
 pub work-is : {w : Work} {t s o b exit : List ℕ} {y : Session} {k q : ℕ} → w ≡ record { machine = machineOf t s y; taken = k; output = o } → IsPut b 0 o exit q → IsWork w t s b (record { session = y; taken = k; written = q }) exit

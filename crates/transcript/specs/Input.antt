@@ -3,8 +3,8 @@ use mathlib.Core.Bool.{Bool, true, false}
 use mathlib.Core.List.{List, [], _∷_, _++_}
 use Prim.Native.Nat.{ℕ}
 use Rattle.text.specs.Byte.{bytes, LF}
-use Rattle.words.specs.Word.{sameBytes}
-use Rattle.lines.specs.Lines.{textLines, withoutReturn}
+use Rattle.text.specs.Word.{sameBytes}
+use Rattle.text.specs.Lines.{textLines, withoutReturn}
 
 -- the set text, and the beat lines
 pub record Input : Type 0 where

@@ -11,13 +11,13 @@ use Rattle.text.specs.PutAt.{putAt}
 use Rattle.reader.specs.Load.{loadAnswer, loadSet}
 use Rattle.transcript.specs.declared.session.Place.{Place}
 use Rattle.transcript.specs.declared.session.Session.{Session}
-use Rattle.beat_lines.specs.declared.beat_line.Reading.{Reading}
-use Rattle.beat_lines.specs.BeatLine.{Lent}
-use Rattle.printing.specs.Output.{loadLine, errorLine}
-use Rattle.totals.specs.declared.totals.Totals.{Totals}
-use Rattle.totals.specs.Totals.{maxBeats, noTotals, ended, areFit}
-use Rattle.tally.specs.Tally.{counted, answerOf, beatText}
-use Rattle.beat_lines.specs.Reading.{noReading, readOn, isUntouched, withoutCR, readLent}
+use Rattle.transcript.specs.declared.beat_line.Reading.{Reading}
+use Rattle.transcript.specs.BeatLine.{Lent}
+use Rattle.transcript.specs.Output.{loadLine, errorLine}
+use Rattle.transcript.specs.declared.totals.Totals.{Totals}
+use Rattle.transcript.specs.Totals.{maxBeats, noTotals, ended, areFit}
+use Rattle.transcript.specs.Tally.{counted, answerOf, beatText}
+use Rattle.transcript.specs.BeatLineReading.{noReading, readOn, isUntouched, withoutCR, readLent}
 
 -- the phases: set text, beat lines, over
 abbrev pub TEXT : ℕ

@@ -7,24 +7,24 @@ use lib.Dec.{eqb, ltb}
 use lib.IntN.{ℤ}
 use lib.ListN.{length, getD, length-append}
 use Rattle.values.specs.Choice.{either}
-use Rattle.orders.specs.OrderLaws.{eight-bytes}
-use Rattle.orders.specs.declared.order.Order.{Order}
+use Rattle.engine.specs.OrderLaws.{eight-bytes}
+use Rattle.engine.specs.declared.order.Order.{Order}
 use Rattle.tokens.specs.Token.{END, M, SETAL, LOCK, isVariable, isDrive, whole, maxLines}
 use Rattle.tokens.specs.Reading.{Answer, good, stop, indexAt}
-use Rattle.operators.specs.Operators.{isYes}
+use Rattle.working.specs.Operators.{isYes}
 use Rattle.working.specs.Working.{rightValue, conditionValue}
-use Rattle.code.specs.declared.check.Line.{Line}
-use Rattle.state.specs.declared.state.State.{State}
-use Rattle.set.specs.Set.{rankIn, noLine, soundLines}
+use Rattle.checking.specs.declared.check.Line.{Line}
+use Rattle.engine.specs.declared.state.State.{State}
+use Rattle.engine.specs.Set.{rankIn, noLine, soundLines}
 use Rattle.soundness.specs.GoodAnswers.{Ok, bind-ok, ok-then}
 use Rattle.soundness.specs.SetLaws.{lines-lined}
-use Rattle.state.specs.Sound.{isSound}
-use Rattle.action.specs.Action.{World, Did, ordered, fromGot, lockOf, takenAt, assignmentOf, driveOf, commandOf, actionOf}
-use Rattle.actions.specs.Actions.{actionsOf}
-use Rattle.drive.specs.Drive.{driveOrder}
-use Rattle.writing.specs.Write.{writeTo}
-use Rattle.turns.specs.Turn.{Entry, Turned, worked, remembered, counted, takesTurn, doTurn, tryTurn, turnOf, turnsFrom}
-use Rattle.keyword.specs.Keyword.{tries, acts, remembers}
+use Rattle.engine.specs.Sound.{isSound}
+use Rattle.engine.specs.Action.{World, Did, ordered, fromGot, lockOf, takenAt, assignmentOf, driveOf, commandOf, actionOf}
+use Rattle.engine.specs.Actions.{actionsOf}
+use Rattle.engine.specs.Drive.{driveOrder}
+use Rattle.engine.specs.Write.{writeTo}
+use Rattle.engine.specs.Turn.{Entry, Turned, worked, remembered, counted, takesTurn, doTurn, tryTurn, turnOf, turnsFrom}
+use Rattle.engine.specs.Keyword.{tries, acts, remembers}
 use Rattle.engine.specs.Beat.{bufferSize, areInputs, begun, beatOf, answered, beatAnswer}
 
 -- ---- the bytes of orders that are added

@@ -5,11 +5,11 @@ use mathlib.Core.Option.{none, some}
 use Prim.Native.Nat.{ℕ, zero, suc, _+_}
 use lib.Dec.{eqb}
 use Rattle.reader.specs.Load.{loadAnswer, loadSet}
-use Rattle.beat_lines.specs.BeatLine.{lineLent}
-use Rattle.printing.specs.Output.{loadLine, errorLine}
-use Rattle.totals.specs.declared.totals.Totals.{Totals}
-use Rattle.totals.specs.Totals.{maxBeats, noTotals, ended}
-use Rattle.tally.specs.Tally.{counted, answerOf, beatText}
+use Rattle.transcript.specs.BeatLine.{lineLent}
+use Rattle.transcript.specs.Output.{loadLine, errorLine}
+use Rattle.transcript.specs.declared.totals.Totals.{Totals}
+use Rattle.transcript.specs.Totals.{maxBeats, noTotals, ended}
+use Rattle.transcript.specs.Tally.{counted, answerOf, beatText}
 use Rattle.transcript.specs.Input.{Input, inputOf}
 
 -- the beats of the lines left

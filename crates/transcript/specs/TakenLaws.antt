@@ -10,7 +10,7 @@ use Rattle.values.specs.Choice.{either}
 use Rattle.text.specs.Byte.{inLine, run}
 use Rattle.text.specs.ByteLaws.{run-within}
 use Rattle.transcript.specs.Machine.{Machine, isFit, chunk, lineEnd, outSize, lineRoom, Work, workFrom, worked}
-use Rattle.transcript.specs.RoomLaws.{line-room}
+use Rattle.transcript.specs.SessionRoomLaws.{line-room}
 
 -- what is printed of a piece has room where output is handed over in
 work-room : (n : ℕ) (m : Machine) (t : List ℕ) (k : ℕ) (o : List ℕ) → length o ≤ outSize → length (workFrom n m t k o .output) ≤ outSize

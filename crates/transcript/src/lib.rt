@@ -1,4 +1,19 @@
 // The whole of synrun but reading and writing: input in pieces of any size, output in pieces (document 01, "On both sides of each edge").
 //
 // No public call asks anything of its caller.
-pub mod session;
+mod beat_line;
+mod out;
+mod output;
+mod session;
+mod tally;
+mod totals;
+
+pub use session::Ended;
+pub use session::KEPT;
+pub use session::OUT;
+pub use session::Session;
+pub use session::Stepped;
+pub use session::begin;
+pub use session::finish;
+pub use session::is_over;
+pub use session::step;

@@ -1,5 +1,7 @@
 // Values: the lowest layer of the control.
 //
-// A value is an i32 of thousandths. All signed arithmetic of the control is done here. No public call asks anything of its
-// caller; what each answers is defined in specs/.
+// A value is an i32 of thousandths. All signed arithmetic of the control is done here. No public call asks anything of its caller.
 pub mod arithmetic;
+pub mod complement;
+pub mod fifo;
+pub mod time;

@@ -5,12 +5,12 @@ use mathlib.Core.List.{List}
 use Prim.Native.Nat.{ℕ}
 use lib.IntN.{ℤ, pos}
 use Rattle.values.specs.Value.{negationOf}
-use Rattle.fifo.specs.Fifo.{unsound}
+use Rattle.values.specs.Fifo.{unsound}
 use Rattle.working.specs.declared.work.Got.{Got}
 use Rattle.tokens.specs.Token.{setSize, thousandths}
 use Rattle.tokens.specs.Reading.{good, Read, read, ends, upTo, Meaning, sumAt, expressionAt}
-use Rattle.variables.specs.Variables.{variableValue}
-use Rattle.operators.specs.Operators.{fromWorked, yesNo, isYes, joinValues}
+use Rattle.working.specs.Variables.{variableValue}
+use Rattle.working.specs.Operators.{fromWorked, yesNo, isYes, joinValues}
 
 -- the meaning of expressions over R and the cells; what is not in the grammar is no part of a sound set
 unfoldable pub valueOver : List ℤ → List ℤ → Meaning ℤ

@@ -1,4 +1,11 @@
-// The working of a line: the value of its condition and of its right sides.
+// The working of a line: its variables, its operators, and the value of its condition and of its right sides.
 //
-// A line is tokens in the set's one array, as in the crate code. No public call asks anything of its caller.
-pub mod work;
+// No public call asks anything of its caller.
+mod join;
+mod pair;
+pub mod variables;
+mod work;
+
+pub use work::Got;
+pub use work::condition;
+pub use work::right_side;

@@ -8,8 +8,8 @@ use lib.ListN.{length}
 use lib.Seq.{length-take-le}
 use denote.Ref.{now}
 use Rattle.transcript.specs.Machine.{isFit}
-use Rattle.transcript.specs.RoomLaws.{fit-parts}
-use Rattle.printing.proofs.OutLaws.{put-nothing, reached}
+use Rattle.transcript.specs.SessionRoomLaws.{fit-parts}
+use Rattle.transcript.proofs.OutLaws.{put-nothing, reached}
 use Rattle.transcript.proofs.WorkLaws.{put-whole, size-within, finish-unfit, finish-text, finish-over, finish-new, finish-last}
 use Rattle.transcript.proofs.session.finish.Statement.{statement}
 use Rattle.transcript.proofs.session.finish.Tie as tie

@@ -2,10 +2,10 @@
 use borrow.Author.Needs.{needs}
 use native.Mathlib.Omega.{arith}
 use denote.Ref.{now}
-use Rattle.transcript.specs.Held.{machineOf}
-use Rattle.transcript.specs.RoomLaws.{beat-end-room}
-use Rattle.printing.proofs.OutLaws.{put-both, reached}
-use Rattle.totals.proofs.TestLaws.{put-as}
+use Rattle.transcript.specs.SessionHeld.{machineOf}
+use Rattle.transcript.specs.SessionRoomLaws.{beat-end-room}
+use Rattle.transcript.proofs.OutLaws.{put-both, reached}
+use Rattle.transcript.proofs.TestLaws.{put-as}
 use Rattle.transcript.proofs.WorkLaws.{last-beats, last-else}
 use Rattle.transcript.proofs.session.last_over.Statement.{statement}
 use Rattle.transcript.proofs.session.last_over.Tie as tie

@@ -2,7 +2,7 @@
 use borrow.Author.Needs.{needs}
 use native.Mathlib.Omega.{arith}
 use Rattle.transcript.proofs.StepLaws.{fed, opens, opens-not}
-use Rattle.printing.proofs.OutLaws.{put-nothing, reached}
+use Rattle.transcript.proofs.OutLaws.{put-nothing, reached}
 use Rattle.transcript.proofs.session.open_set.Statement.{statement}
 use Rattle.transcript.proofs.session.open_set.Tie as tie
 

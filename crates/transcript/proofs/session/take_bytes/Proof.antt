@@ -1,7 +1,7 @@
 -- `session::take_bytes` meets its contract: by the phase.
 use borrow.Author.Needs.{needs}
 use native.Mathlib.Omega.{arith}
-use Rattle.transcript.specs.RoomLaws.{Fit}
+use Rattle.transcript.specs.SessionRoomLaws.{Fit}
 use Rattle.transcript.proofs.StepLaws.{alive, text-taken, beats-taken, none-taken}
 use Rattle.transcript.proofs.session.take_bytes.Statement.{statement}
 use Rattle.transcript.proofs.session.take_bytes.Tie as tie

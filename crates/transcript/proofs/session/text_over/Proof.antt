@@ -1,8 +1,8 @@
 -- `session::text_over` meets its contract: by the code of the load.
 use borrow.Author.Needs.{needs}
 use native.Mathlib.Omega.{arith}
-use Rattle.printing.proofs.OutLaws.{reached}
-use Rattle.totals.proofs.TestLaws.{put-as}
+use Rattle.transcript.proofs.OutLaws.{reached}
+use Rattle.transcript.proofs.TestLaws.{put-as}
 use Rattle.transcript.proofs.WorkLaws.{over-good, over-not}
 use Rattle.transcript.proofs.session.text_over.Statement.{statement}
 use Rattle.transcript.proofs.session.text_over.Tie as tie

@@ -1,8 +1,8 @@
 -- `session::work_beat` meets its contract: what the beat comes to, and END behind the last.
 use borrow.Author.Needs.{needs}
-use Rattle.beat_lines.specs.Told.{lentIn}
+use Rattle.transcript.specs.Told.{lentIn}
 use Rattle.transcript.proofs.StepLaws.{fed, end-near, beat-last, beat-more}
-use Rattle.printing.proofs.OutLaws.{put-both, reached}
+use Rattle.transcript.proofs.OutLaws.{put-both, reached}
 use Rattle.transcript.proofs.session.work_beat.Statement.{statement}
 use Rattle.transcript.proofs.session.work_beat.Tie as tie
 

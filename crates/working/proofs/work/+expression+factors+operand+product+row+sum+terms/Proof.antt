@@ -11,13 +11,13 @@ use Rattle.values.specs.Choice.{both}
 use Rattle.values.proofs.Signed.{back}
 use Rattle.tokens.specs.Token.{SAME, ATLEAST, PLUS, MINUS, TIMES, OVER, IN, IM, isFactor, isTerm}
 use Rattle.tokens.specs.Reading.{then, isRow, more, readClose, readProduct, readSum, readOperand, sumAt, expressionAt}
-use Rattle.operators.specs.Pair.{pairOf, said}
+use Rattle.working.specs.Pair.{pairOf, said}
 use Rattle.working.specs.Working.{valueOver, negated, inverted}
 use Rattle.tokens.proofs.Answers.{stepped}
 use Rattle.tokens.proofs.Arms.{spent, number-arm, variable-arm, open-arm, minus-arm, not-arm, truth-arm}
 use Rattle.tokens.proofs.Between.{no-end, row-no-end}
 use Rattle.tokens.proofs.Rows.{Kept, row-stops, row-ends, row-spent, row-goes, product-is, product-begins, sum-is, sum-begins, expression-is, expression-stops, rest-compares, rest-rows, rest-none}
-use Rattle.operators.proofs.Pairs.{said-stop, said-value, pair-said, alarm-said}
+use Rattle.working.proofs.Pairs.{said-stop, said-value, pair-said, alarm-said}
 use Rattle.tokens.proofs.token.is_compare.Reads as is-compare
 use Rattle.tokens.proofs.token.is_factor.Reads as is-factor
 use Rattle.tokens.proofs.token.is_logic.Reads as is-logic
@@ -25,10 +25,10 @@ use Rattle.tokens.proofs.token.is_row.Reads as is-row
 use Rattle.tokens.proofs.token.is_term.Reads as is-term
 use Rattle.tokens.proofs.token.is_variable.Reads as is-variable
 use Rattle.tokens.proofs.token.token_at.Reads as token-at
-use Rattle.operators.proofs.pair.alarm_of.Reads as alarm-of
-use Rattle.operators.proofs.pair.next_of.Reads as next-of
-use Rattle.operators.proofs.pair.pair_of.Reads as pair-of
-use Rattle.operators.proofs.pair.value_of.Reads as value-of
+use Rattle.working.proofs.pair.alarm_of.Reads as alarm-of
+use Rattle.working.proofs.pair.next_of.Reads as next-of
+use Rattle.working.proofs.pair.pair_of.Reads as pair-of
+use Rattle.working.proofs.pair.value_of.Reads as value-of
 use Rattle.working.proofs.work.closed.Reads as closed
 use Rattle.working.proofs.work.expression.Reads as expression
 use Rattle.working.proofs.work.factors.Reads as factors

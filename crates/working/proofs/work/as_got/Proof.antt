@@ -10,7 +10,7 @@ use Rattle.values.proofs.Signed.{back}
 use Rattle.tokens.specs.Reading.{read}
 use Rattle.working.specs.declared.work.Got.{Got}
 use Rattle.working.specs.Working.{told}
-use Rattle.operators.proofs.Pairs.{said-stop, said-value}
+use Rattle.working.proofs.Pairs.{said-stop, said-value}
 use Rattle.working.proofs.work.as_got.Statement.{statement}
 use Rattle.working.proofs.work.as_got.Tie as tie
 

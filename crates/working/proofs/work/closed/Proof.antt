@@ -3,10 +3,10 @@ use borrow.Author.Needs.{needs}
 use mathlib.Core.Path.{refl, sym, ap, _∙_}
 use native.Mathlib.Omega.{arith}
 use Rattle.tokens.specs.Reading.{readClose}
-use Rattle.operators.specs.Pair.{said}
+use Rattle.working.specs.Pair.{said}
 use Rattle.working.specs.Working.{valueOver}
 use Rattle.tokens.proofs.Arms.{closes, closes-not}
-use Rattle.operators.proofs.Pairs.{passes, enters, alarm-said, next-said}
+use Rattle.working.proofs.Pairs.{passes, enters, alarm-said, next-said}
 use Rattle.working.proofs.work.closed.Statement.{statement}
 use Rattle.working.proofs.work.closed.Tie as tie
 

@@ -5,9 +5,9 @@ use mathlib.Core.Bool.{Bool, not}
 use native.Mathlib.Omega.{arith}
 use mir.Syntax.{w32}
 use Rattle.values.proofs.Signed.{back}
-use Rattle.operators.specs.Operators.{isYes, yesNo}
+use Rattle.working.specs.Operators.{isYes, yesNo}
 use Rattle.working.specs.Working.{inverted}
-use Rattle.operators.proofs.Pairs.{room, passes, enters, pairs}
+use Rattle.working.proofs.Pairs.{room, passes, enters, pairs}
 use Rattle.working.proofs.work.inverted_pair.Statement.{statement}
 use Rattle.working.proofs.work.inverted_pair.Tie as tie
 

@@ -5,10 +5,10 @@ use Prim.Native.Nat.{ℕ}
 use native.Mathlib.Omega.{arith}
 use lib.IntN.{ℤ}
 use Rattle.tokens.specs.Reading.{Answer, upTo}
-use Rattle.operators.specs.Operators.{yesNo, joinTruths, joinValues}
+use Rattle.working.specs.Operators.{yesNo, joinTruths, joinValues}
 use Rattle.values.proofs.Signed.{both}
-use Rattle.operators.proofs.Joins.{compared}
-use Rattle.operators.proofs.Pairs.{room, passes, enters, pairs}
+use Rattle.working.proofs.Joins.{compared}
+use Rattle.working.proofs.Pairs.{room, passes, enters, pairs}
 use Rattle.working.proofs.work.join_compare.Statement.{statement}
 use Rattle.working.proofs.work.join_compare.Tie as tie
 

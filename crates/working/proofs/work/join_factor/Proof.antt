@@ -6,10 +6,10 @@ use native.Mathlib.Omega.{arith}
 use lib.IntN.{ℤ}
 use Rattle.values.specs.Value.{productOf, quotientOf}
 use Rattle.tokens.specs.Reading.{upTo}
-use Rattle.operators.specs.Operators.{joinValues}
+use Rattle.working.specs.Operators.{joinValues}
 use Rattle.values.proofs.Signed.{both}
-use Rattle.operators.proofs.Joins.{times, over}
-use Rattle.operators.proofs.Pairs.{room, passes, enters, gives}
+use Rattle.working.proofs.Joins.{times, over}
+use Rattle.working.proofs.Pairs.{room, passes, enters, gives}
 use Rattle.working.proofs.work.join_factor.Statement.{statement}
 use Rattle.working.proofs.work.join_factor.Tie as tie
 

@@ -8,9 +8,9 @@ use lib.IntN.{ℤ}
 use mir.Syntax.{w32}
 use Rattle.values.proofs.Signed.{back}
 use Rattle.tokens.specs.Reading.{Answer, upTo}
-use Rattle.operators.specs.Operators.{yesNo, isYes, joinLogic, joinValues}
-use Rattle.operators.proofs.Joins.{in-row}
-use Rattle.operators.proofs.Pairs.{room, passes, enters, pairs}
+use Rattle.working.specs.Operators.{yesNo, isYes, joinLogic, joinValues}
+use Rattle.working.proofs.Joins.{in-row}
+use Rattle.working.proofs.Pairs.{room, passes, enters, pairs}
 use Rattle.working.proofs.work.join_row.Statement.{statement}
 use Rattle.working.proofs.work.join_row.Tie as tie
 

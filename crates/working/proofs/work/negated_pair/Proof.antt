@@ -6,7 +6,7 @@ use mir.Syntax.{w32}
 use Rattle.values.specs.Value.{negationOf}
 use Rattle.values.proofs.Signed.{back}
 use Rattle.working.specs.Working.{negated}
-use Rattle.operators.proofs.Pairs.{room, passes, enters, gives}
+use Rattle.working.proofs.Pairs.{room, passes, enters, gives}
 use Rattle.working.proofs.work.negated_pair.Statement.{statement}
 use Rattle.working.proofs.work.negated_pair.Tie as tie
 

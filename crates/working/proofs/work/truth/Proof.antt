@@ -3,10 +3,10 @@ use borrow.Author.Needs.{needs}
 use mathlib.Core.Path.{sym, ap, _∙_}
 use native.Mathlib.Omega.{arith}
 use lib.Dec.{lit<}
-use Rattle.operators.specs.Pair.{said}
+use Rattle.working.specs.Pair.{said}
 use Rattle.working.specs.Working.{valueOver}
 use Rattle.tokens.proofs.Arms.{yes-truth, no-truth, not-truth}
-use Rattle.operators.proofs.Pairs.{pair-said, alarm-said}
+use Rattle.working.proofs.Pairs.{pair-said, alarm-said}
 use Rattle.working.proofs.work.truth.Statement.{statement}
 use Rattle.working.proofs.work.truth.Tie as tie
 

@@ -4,11 +4,11 @@ use borrow.Author.Tests.{not-true, not-false}
 use mathlib.Core.Path.{refl, sym, ap, _∙_}
 use Prim.Native.Nat.{ℕ, _+_}
 use native.Mathlib.Omega.{arith}
-use Rattle.operators.specs.Pair.{said}
-use Rattle.variables.specs.Variables.{variableValue}
+use Rattle.working.specs.Pair.{said}
+use Rattle.working.specs.Variables.{variableValue}
 use Rattle.working.specs.Working.{valueOver}
 use Rattle.tokens.proofs.Arms.{indexed, indexed-not}
-use Rattle.operators.proofs.Pairs.{gives, alarm-said}
+use Rattle.working.proofs.Pairs.{gives, alarm-said}
 use Rattle.working.proofs.work.variable.Statement.{statement}
 use Rattle.working.proofs.work.variable.Tie as tie
 

@@ -1,2 +1,0 @@
--- Laws that several proofs cite: ActionsLaws on actions in a row.
-pub mod ActionsLaws

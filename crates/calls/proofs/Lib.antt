@@ -1,2 +1,0 @@
--- Laws that several proofs cite: CallLaws on the host's calls.
-pub mod CallLaws

@@ -1,2 +1,0 @@
--- Cells: the cells of a beat. Definitions only.
-pub mod Cells

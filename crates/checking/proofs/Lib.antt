@@ -1,0 +1,7 @@
+-- Laws that several proofs cite: SeenLaws on what the check sees as one number, CountLaws on the count of brackets, SumLaws on a sum or an expression that begins with an operand, SignLaws on signs one behind the other,
+-- FaultLaws on the faults and parts of a line.
+mod SeenLaws
+mod CountLaws
+mod SumLaws
+mod FaultLaws
+mod SignLaws

@@ -1,0 +1,9 @@
+// The check of a line of a set: its faults 4 to 10, and where its parts lie.
+//
+// No public call asks anything of its caller.
+mod check;
+mod seen;
+
+pub use check::Line;
+pub use check::is_removal;
+pub use check::line_at;

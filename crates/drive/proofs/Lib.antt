@@ -1,2 +1,0 @@
--- DriveHeldLaws: what an answer says of the definition's.
-pub mod DriveHeldLaws

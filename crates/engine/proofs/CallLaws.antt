@@ -1,0 +1,94 @@
+-- Laws of the host's calls: what a call answers, and the turns of reset's two loops.
+use mathlib.Core.Path.{_≡_, refl, sym, ap, _∙_}
+use mathlib.Core.Bool.{Bool, true, false, or-true, or-false}
+use mathlib.Core.List.{List, _++_, append-assoc}
+use Prim.Native.Nat.{ℕ, zero, suc, _+_, _-_, _<_, _≤_}
+use native.Mathlib.Omega.{arith}
+use native.Mathlib.Numerals.{add-one}
+use lib.IntN.{ℤ, pos}
+use lib.ListN.{length, take, drop, getD, set, replicate, length-append, length-replicate, take-append-drop}
+use lib.Seq.{length-take-le, set-getD, getD-set-other}
+use borrow.Author.Tests.{eq-eqb, ne-eqb}
+use Rattle.values.proofs.Lists.{put, replicate-more}
+use Rattle.checking.specs.declared.check.Line.{Line}
+use Rattle.engine.specs.declared.set.Lines.{Lines}
+use Rattle.engine.specs.declared.state.State.{State}
+use Rattle.engine.specs.declared.calls.Called.{Called}
+use Rattle.engine.specs.declared.find.Found.{Found}
+use Rattle.engine.specs.Set.{noLine, soundLines}
+use Rattle.engine.specs.Sound.{isSound}
+use Rattle.engine.specs.Calls.{called, resetCancelled, zeroed, resetState, resetCall}
+
+-- ---- what a call answers
+
+module _ (st : State) (f : Found) (change : ℕ → State) where
+  refuses : (f .code ≡ 0 → ⊥) → called st f change ≡ record { code = f .code; state = st }
+  unfolding called
+  refuses z = simp (called, ne-eqb (f .code) 0 z)
+
+  does : f .code ≡ 0 → called st f change ≡ record { code = 0; state = change (f .rank) }
+  unfolding called
+  does z = simp (called, eq-eqb (f .code) 0 z)
+
+module _ (st : State) (f g : Found) (e : f ≡ g) (change : ℕ → State) where
+  pub called-refused : (f .code ≡ 0 → ⊥) → _≡_ {A = Called} (record { code = f .code; state = st }) (called st g change)
+  called-refused z = sym (refuses st f change z) ∙ ap (λ (x : Found). called st x change) e
+
+  pub called-done : f .code ≡ 0 → _≡_ {A = Called} (record { code = 0; state = change (f .rank) }) (called st g change)
+  called-done z = sym (does st f change z) ∙ ap (λ (x : Found). called st x change) e
+
+-- ---- reset
+
+-- what reset has not come to is as it was
+pub reset-keeps : (ls : List Line) (cs : List Bool) (n m : ℕ) → n ≤ m → getD (resetCancelled ls cs n) m false ≡ getD cs m false
+unfolding resetCancelled
+reset-keeps ls cs zero m h = refl
+reset-keeps ls cs (suc n) m h = getD-set-other (resetCancelled ls cs n) n m _ false (λ z. omega arith) ∙ reset-keeps ls cs n m (omega arith)
+
+module _ (ls : List Line) (cs : List Bool) where
+  pub reset-none : cs ≡ resetCancelled ls cs 0
+  unfolding resetCancelled
+  reset-none = refl
+
+  module _ (k : ℕ) (x : List Bool) (e : x ≡ resetCancelled ls cs k) where
+    pub reset-id : getD ls k noLine .ids ≡ false → set x k true ≡ resetCancelled ls cs (k + 1)
+    unfolding resetCancelled
+    reset-id z = rw (e, add-one k, z, or-true)
+
+    pub reset-ids : getD ls k noLine .ids ≡ true → x ≡ resetCancelled ls cs (k + 1)
+    unfolding resetCancelled
+    reset-ids z =
+        let h : getD cs k false ≡ getD (resetCancelled ls cs k) k false = sym (reset-keeps ls cs k k (omega arith)) in
+        rw (e, add-one k, z, or-false, h, set-getD)
+
+-- cells from 16 on, zero up to place i
+module _ (c : List ℤ) where
+  unfoldable pub zeroTo : ℕ → List ℤ
+  zeroTo i = take 16 c ++ (replicate (i - 16) (pos 0) ++ drop i c)
+
+  pub zero-none : c ≡ zeroTo 16
+  unfolding zeroTo
+  zero-none = sym (take-append-drop 16 c)
+
+  pub zero-all : zeroTo 88 ≡ zeroed c
+  unfolding zeroTo zeroed
+  zero-all = refl
+
+  pub zero-turn : (i : ℕ) (x : List ℤ) → x ≡ zeroTo i → 16 ≤ i → i < length c → set x i (pos 0) ≡ zeroTo (i + 1)
+  unfolding zeroTo
+  zero-turn i x e h l =
+      let p = take 16 c ++ replicate (i - 16) (pos 0) in
+      let n : length p ≡ i = simp (length-append, length-replicate, length-take-le 16 c (omega arith)) (omega arith) in
+      let m : i + 1 - 16 ≡ i - 16 + 1 = omega arith in
+      rw (e, ← append-assoc) (put p i n c l (pos 0) (pos 0) ∙ rw (append-assoc, replicate-more, m))
+
+module _ (s : List ℕ) (st : State) where
+  pub reset-unsound : isSound s st ≡ false → resetCall s st ≡ record { code = 22; state = st }
+  unfolding resetCall
+  reset-unsound z = rw (resetCall, z)
+
+  -- the lines of the set are l, the cells cs and the cancelled lines xs
+  pub reset-sound : isSound s st ≡ true → (l : Lines) → l ≡ soundLines s → (cs : List ℤ) → cs ≡ zeroed (st .cells) → (xs : List Bool) → xs ≡ resetCancelled (l .items) (st .cancelled) (l .count)
+      → resetCall s st ≡ record { code = 0; state = record { r = st .r; cells = cs; runs = replicate 8 false; locked = replicate 32 false; cancelled = xs; memory = replicate 32 false } }
+  unfolding resetCall resetState
+  reset-sound z l e cs g xs h = rw (h, g, e) (rw (resetCall, z))

@@ -1,0 +1,173 @@
+-- Laws of the lines of a set: a turn of each loop over them, and how many there are.
+use mathlib.Core.Path.{_≡_, refl, sym, ap, _∙_}
+use mathlib.Core.Bool.{Bool, true, false}
+use mathlib.Core.List.{List}
+use Prim.Native.Nat.{ℕ, zero, suc, _+_, _-_, _<_, _≤_}
+use native.Mathlib.Omega.{arith}
+use native.Mathlib.Nat.{sub-zero}
+use native.Mathlib.Numerals.{add-one}
+use lib.Dec.{eqb, ltb}
+use lib.ListN.{length, drop, getD, set, replicate, drop-of-length-le}
+use lib.Seq.{drop-cons}
+use borrow.Author.Tests.{ltb-true, ltb-false, lt-ltb, le-ltb, eq-eqb, ne-eqb}
+use Rattle.checking.specs.declared.check.Line.{Line}
+use Rattle.tokens.specs.Token.{END, whole, setSize}
+use Rattle.checking.specs.Fault.{lineAt}
+use Rattle.engine.specs.declared.set.Lines.{Lines}
+use Rattle.engine.specs.Set.{lineCount, lineOf, noLine, noLines, linesFrom, linesRead, rankIn, isLock, namesKnown, allKnown, namedLines, soundLines}
+
+one-less : (k : ℕ) → suc k - 1 ≡ k
+one-less k = omega arith
+
+-- what is left of n before rank k
+pub turn : (n k : ℕ) → k < n → n - k ≡ suc (n - (k + 1))
+turn n k h = omega arith
+
+-- ---- the rank of a number
+
+module _ (ns : List ℕ) (n k : ℕ) where
+  pub rank-here : k < length ns → getD ns k 0 ≡ n → rankIn (drop k ns) n k ≡ k
+  unfolding rankIn
+  rank-here h e = rw (drop-cons ns k 0 h, rankIn, eq-eqb (getD ns k 0) n e)
+
+  pub rank-on : k < length ns → (getD ns k 0 ≡ n → ⊥) → rankIn (drop k ns) n k ≡ rankIn (drop (k + 1) ns) n (k + 1)
+  unfolding rankIn
+  rank-on h f = rw (drop-cons ns k 0 h, rankIn, ne-eqb (getD ns k 0) n f, add-one k)
+
+  pub rank-none : length ns ≤ k → rankIn (drop k ns) n k ≡ k
+  unfolding rankIn
+  rank-none h = rw (drop-of-length-le ns {i = k} h)
+
+-- ---- names of lines, from place p on with `left` places left; t is the token at p
+
+module _ (s ns : List ℕ) (p t : ℕ) (e : t ≡ getD s p 0) where
+  pub names-end : t ≡ END → (left : ℕ) → 0 < left → namesKnown s ns left p ≡ true
+  unfolding namesKnown
+  names-end z zero l = absurd (omega arith)
+  names-end z (suc m) l = rw (namesKnown, eq-eqb (getD s p 0) END (sym e ∙ z))
+
+  module _ (f : t ≡ END → ⊥) where
+    pub names-other : isLock t ≡ false → (left : ℕ) → 0 < left → namesKnown s ns left p ≡ namesKnown s ns (left - 1) (p + 1)
+    unfolding namesKnown
+    names-other h zero l = absurd (omega arith)
+    names-other h (suc m) l = rw (one-less m) (simp (namesKnown, ne-eqb (getD s p 0) END (λ z. f (e ∙ z)), ap isLock (sym e) ∙ h))
+
+    -- y stands two places on, v is the number that it has, x that number's rank
+    module _ (h : isLock t ≡ true) (y v x : ℕ) (u : y ≡ getD s (p + 2) 0) (w : v ≡ whole y) (g : x ≡ rankIn ns v 0) where
+      named : x ≡ rankIn ns (whole (getD s (p + 2) 0)) 0
+      named = g ∙ ap (λ (n : ℕ). rankIn ns n 0) (w ∙ ap whole u)
+
+      pub names-unknown : 32 ≤ x → (left : ℕ) → 0 < left → namesKnown s ns left p ≡ false
+      unfolding namesKnown
+      names-unknown k zero l = absurd (omega arith)
+      names-unknown k (suc m) l = simp (namesKnown, ne-eqb (getD s p 0) END (λ z. f (e ∙ z)), ap isLock (sym e) ∙ h, le-ltb (rankIn ns (whole (getD s (p + 2) 0)) 0) 32 (rw named at k))
+
+      pub names-lock : x < 32 → (left : ℕ) → 0 < left → namesKnown s ns left p ≡ namesKnown s ns (left - 1) (p + 1)
+      unfolding namesKnown
+      names-lock k zero l = absurd (omega arith)
+      names-lock k (suc m) l = rw (one-less m) (simp (namesKnown, ne-eqb (getD s p 0) END (λ z. f (e ∙ z)), ap isLock (sym e) ∙ h, lt-ltb (rankIn ns (whole (getD s (p + 2) 0)) 0) 32 (rw named at k)))
+
+pub names-none : (s ns : List ℕ) (p left : ℕ) → left ≤ 0 → namesKnown s ns left p ≡ true
+unfolding namesKnown
+names-none s ns p zero h = refl
+names-none s ns p (suc m) h = absurd (omega arith)
+
+-- ---- the names of the lines of n from rank k on; p is where that line begins
+
+module _ (s ns : List ℕ) (k n p : ℕ) (x : Bool) (e : p ≡ getD s (1 + k) 0) (g : x ≡ namesKnown s ns setSize p) (l : k < n) where
+  names : namesKnown s ns setSize (getD s (1 + k) 0) ≡ x
+  names = ap (namesKnown s ns setSize) (sym e) ∙ sym g
+
+  pub known-not : x ≡ false → allKnown s ns (n - k) k ≡ false
+  unfolding allKnown
+  known-not z = rw (turn n k l) (simp (allKnown, names, z))
+
+  pub known-on : x ≡ true → allKnown s ns (n - k) k ≡ allKnown s ns (n - (k + 1)) (k + 1)
+  unfolding allKnown
+  known-on z = rw (turn n k l) (simp (allKnown, names, z))
+
+pub known-none : (s ns : List ℕ) (k m : ℕ) → m ≤ 0 → allKnown s ns m k ≡ true
+unfolding allKnown
+known-none s ns k zero h = refl
+known-none s ns k (suc m) h = absurd (omega arith)
+
+-- ---- the lines of n from rank k on; x is that line, which begins at p
+
+module _ (s : List ℕ) (k last n : ℕ) (ns : List ℕ) (ls : List Line) where
+  module _ (p : ℕ) (q : p ≡ getD s (1 + k) 0) (x : Line) (g : x ≡ lineAt s p) (l : k < n) where
+    this : x ≡ lineOf s k
+    this = g ∙ ap (lineAt s) q
+
+    pub lines-fault : (x .fault ≡ 0 → ⊥) → linesFrom s (n - k) k last ns ls ≡ noLines
+    unfolding linesFrom
+    lines-fault f = rw (turn n k l) (simp (linesFrom, ne-eqb (lineOf s k .fault) 0 (λ z. f (ap (λ (y : Line). y .fault) this ∙ z))))
+
+    module _ (z : x .fault ≡ 0) where
+      sane : eqb (lineOf s k .fault) 0 ≡ true
+      sane = eq-eqb (lineOf s k .fault) 0 (ap (λ (y : Line). y .fault) (sym this) ∙ z)
+
+      pub lines-order : x .number ≤ last → linesFrom s (n - k) k last ns ls ≡ noLines
+      unfolding linesFrom
+      lines-order h = rw (turn n k l) (simp (linesFrom, sane, le-ltb last (lineOf s k .number) (rw this at h)))
+
+      pub lines-on : last < x .number → linesFrom s (n - k) k last ns ls ≡ linesFrom s (n - (k + 1)) (k + 1) (x .number) (set ns k (x .number)) (set ls k x)
+      unfolding linesFrom
+      lines-on h = rw (turn n k l, this) (simp (linesFrom, sane, lt-ltb last (lineOf s k .number) (rw this at h)))
+
+  pub lines-none : (m : ℕ) → m ≤ 0 → linesFrom s m k last ns ls ≡ record { sound = true; count = k; numbers = ns; items = ls }
+  unfolding linesFrom
+  lines-none zero h = refl
+  lines-none (suc m) h = absurd (omega arith)
+
+pub read-many : (s : List ℕ) → 32 < lineCount s → linesRead s ≡ noLines
+unfolding linesRead
+read-many s h = rw (linesRead, lt-ltb 32 (lineCount s) h)
+
+pub read-few : (s : List ℕ) (n : ℕ) → n ≡ lineCount s → n ≤ 32 → linesFrom s (n - 0) 0 0 (replicate 32 0) (replicate 32 noLine) ≡ linesRead s
+unfolding linesRead
+read-few s n e h = rw (sub-zero, e, linesRead, le-ltb 32 (lineCount s) (rw e at h))
+
+-- ---- there are at most 32 lines
+
+abbrev choose : Bool → Lines → Lines → Lines
+choose b x y = elim b [ true ↦ x | false ↦ y ]
+
+few : (b : Bool) (x y : Lines) → x .count ≤ 32 → y .count ≤ 32 → choose b x y .count ≤ 32
+few true x y h k = h
+few false x y h k = k
+
+from-count : (s : List ℕ) (m k last : ℕ) (ns : List ℕ) (ls : List Line) → k + m ≤ 32 → linesFrom s m k last ns ls .count ≤ 32
+unfolding linesFrom
+from-count s zero k last ns ls h = omega arith
+from-count s (suc m) k last ns ls h =
+    few (eqb (lineOf s k .fault) 0) _ noLines
+    (few (ltb last (lineOf s k .number)) _ noLines
+    (from-count s m (k + 1) (lineOf s k .number) (set ns k (lineOf s k .number)) (set ls k (lineOf s k)) (omega arith))
+    (omega arith)) (omega arith)
+
+pub read-count : (s : List ℕ) → linesRead s .count ≤ 32
+read-count s = go (ltb 32 (lineCount s)) refl
+  where
+    go : (b : Bool) → ltb 32 (lineCount s) ≡ b → linesRead s .count ≤ 32
+    go true e = rw (read-many s (ltb-true 32 (lineCount s) e)) (omega arith)
+    go false e =
+        let h = ltb-false 32 (lineCount s) e in
+        rw (← read-few s (lineCount s) refl h) (from-count s (lineCount s - 0) 0 0 (replicate 32 0) (replicate 32 noLine) (omega arith))
+
+pub sound-count : (s : List ℕ) → soundLines s .count ≤ 32
+unfolding soundLines namedLines
+sound-count s = few (allKnown s (linesRead s .numbers) (linesRead s .count) 0) (linesRead s) noLines (read-count s) (omega arith)
+
+-- ---- the lines of a set that passes each check
+
+module _ (s : List ℕ) (l : Lines) (b : Bool) (e : l ≡ linesRead s) (g : b ≡ allKnown s (l .numbers) (l .count) 0) where
+  all-named : allKnown s (linesRead s .numbers) (linesRead s .count) 0 ≡ b
+  all-named = ap (λ (y : Lines). allKnown s (y .numbers) (y .count) 0) (sym e) ∙ sym g
+
+  pub named-not : b ≡ false → soundLines s ≡ noLines
+  unfolding soundLines namedLines
+  named-not z = rw (soundLines, namedLines, all-named ∙ z)
+
+  pub named-all : b ≡ true → soundLines s ≡ l
+  unfolding soundLines namedLines
+  named-all z = rw (soundLines, namedLines, all-named ∙ z) (sym e)

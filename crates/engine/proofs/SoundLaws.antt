@@ -1,0 +1,106 @@
+-- Laws of soundness: a turn of a loop that tests each element of a list, and of the one over the ranks.
+use mathlib.Core.Path.{_≡_, refl, sym, ap, _∙_}
+use mathlib.Core.Bool.{Bool, true, false, cond, _&&_, _||_}
+use mathlib.Core.List.{List, _∷_}
+use Prim.Native.Nat.{ℕ, zero, suc, _+_, _-_, _<_, _≤_}
+use native.Mathlib.Omega.{arith}
+use native.Mathlib.Numerals.{add-one}
+use lib.IntN.{ℤ, pos}
+use lib.ListN.{length, drop, getD, drop-of-length-le}
+use lib.Seq.{drop-cons}
+use Rattle.values.specs.Numbers.{clash}
+use Rattle.values.specs.Value.{inRange, equalTo, outputOf}
+use Rattle.values.specs.declared.arithmetic.Worked.the-variants.{Value, Alarm}
+use Rattle.engine.specs.Sound.{allRanged, isCell, areCells, allZero, isFlag, areFlags, stateSound, isSound}
+use Rattle.engine.specs.Set.{soundLines}
+use Rattle.engine.specs.declared.set.Lines.{Lines}
+use Rattle.engine.specs.declared.state.State.{State}
+use Rattle.engine.proofs.SetLaws.{turn}
+
+-- a rule f for a list, from place i on: the test p of its first element, and the rule for the rest; x is what the test of the element at i said
+module _ (p : ℕ → ℤ → Bool) (f : List ℤ → ℕ → Bool) (some : (v : ℤ) (vs : List ℤ) (i : ℕ) → f (v ∷ vs) i ≡ (p i v && f vs (i + 1))) (xs : List ℤ) (i : ℕ) (l : i < length xs) (x : Bool) (e : x ≡ p i (getD xs i (pos 0))) where
+  falls : f (drop i xs) i ≡ (x && f (drop (i + 1) xs) (i + 1))
+  falls = rw (drop-cons xs i (pos 0) l, add-one i, e) (some (getD xs i (pos 0)) (drop (suc i) xs) i ∙ rw add-one)
+
+  each-not : x ≡ false → f (drop i xs) i ≡ false
+  each-not z = falls ∙ rw z
+
+  each-on : x ≡ true → f (drop i xs) i ≡ f (drop (i + 1) xs) (i + 1)
+  each-on z = falls ∙ rw z
+
+module _ (xs : List ℤ) (i : ℕ) where
+  module _ (l : i < length xs) (x : Bool) where
+    pub ranged-not : x ≡ inRange (getD xs i (pos 0)) → x ≡ false → allRanged (drop i xs) ≡ false
+    unfolding allRanged
+    ranged-not = each-not (λ _ v. inRange v) (λ vs _. allRanged vs) (λ v vs _. refl) xs i l x
+
+    pub ranged-on : x ≡ inRange (getD xs i (pos 0)) → x ≡ true → allRanged (drop i xs) ≡ allRanged (drop (i + 1) xs)
+    unfolding allRanged
+    ranged-on = each-on (λ _ v. inRange v) (λ vs _. allRanged vs) (λ v vs _. refl) xs i l x
+
+    pub zero-not : x ≡ equalTo (getD xs i (pos 0)) (pos 0) → x ≡ false → allZero (drop i xs) ≡ false
+    unfolding allZero
+    zero-not = each-not (λ _ v. equalTo v (pos 0)) (λ vs _. allZero vs) (λ v vs _. refl) xs i l x
+
+    pub zero-on : x ≡ equalTo (getD xs i (pos 0)) (pos 0) → x ≡ true → allZero (drop i xs) ≡ allZero (drop (i + 1) xs)
+    unfolding allZero
+    zero-on = each-on (λ _ v. equalTo v (pos 0)) (λ vs _. allZero vs) (λ v vs _. refl) xs i l x
+
+    pub cells-not : x ≡ isCell i (getD xs i (pos 0)) → x ≡ false → areCells (drop i xs) i ≡ false
+    unfolding areCells
+    cells-not = each-not isCell areCells (λ v vs _. refl) xs i l x
+
+    pub cells-on : x ≡ isCell i (getD xs i (pos 0)) → x ≡ true → areCells (drop i xs) i ≡ areCells (drop (i + 1) xs) (i + 1)
+    unfolding areCells
+    cells-on = each-on isCell areCells (λ v vs _. refl) xs i l x
+
+  module _ (l : length xs ≤ i) where
+    pub ranged-none : allRanged (drop i xs) ≡ true
+    unfolding allRanged
+    ranged-none = rw (drop-of-length-le xs {i = i} l)
+
+    pub zero-none : allZero (drop i xs) ≡ true
+    unfolding allZero
+    zero-none = rw (drop-of-length-le xs {i = i} l)
+
+    pub cells-none : areCells (drop i xs) i ≡ true
+    unfolding areCells
+    cells-none = rw (drop-of-length-le xs {i = i} l)
+
+-- ---- the ranks from k on
+
+module _ (count : ℕ) (locked cancelled memory : List Bool) (k : ℕ) where
+  module _ (l : k < 32) (x : Bool) (e : x ≡ isFlag count k (getD locked k false) (getD cancelled k false) (getD memory k false)) where
+    pub flags-not : x ≡ false → areFlags count locked cancelled memory (32 - k) k ≡ false
+    unfolding areFlags
+    flags-not z = rw (turn 32 k l) (simp (areFlags, sym e ∙ z))
+
+    pub flags-on : x ≡ true → areFlags count locked cancelled memory (32 - k) k ≡ areFlags count locked cancelled memory (32 - (k + 1)) (k + 1)
+    unfolding areFlags
+    flags-on z = rw (turn 32 k l) (simp (areFlags, sym e ∙ z))
+
+  pub flags-none : (m : ℕ) → m ≤ 0 → areFlags count locked cancelled memory m k ≡ true
+  unfolding areFlags
+  flags-none zero h = refl
+  flags-none (suc m) h = absurd (omega arith)
+
+-- ---- an output: an alarm of `output` is not 0
+
+pub output-alarm : (v : ℤ) (k : ℕ) → outputOf v ≡ Alarm k → k ≡ 0 → ⊥
+unfolding outputOf
+output-alarm v k e z = go (equalTo v (pos 0) || equalTo v (pos 1000)) e
+  where
+    go : (b : Bool) → cond b (Value v) (Alarm 34) ≡ Alarm k → ⊥
+    go true q = clash (cc)
+    go false q = let y : 34 ≡ k = cc in omega arith
+
+-- ---- a set, whose lines are l, and a state, of which x was said
+
+module _ (s : List ℕ) (st : State) (l : Lines) (e : l ≡ soundLines s) where
+  pub unsound-set : l .sound ≡ false → isSound s st ≡ false
+  unfolding isSound
+  unsound-set z = rw (isSound, ← e, z)
+
+  pub sound-as : l .sound ≡ true → (x : Bool) → x ≡ stateSound (l .count) st → isSound s st ≡ x
+  unfolding isSound
+  sound-as z x g = simp (isSound, ap (λ (y : Lines). y .sound) (sym e) ∙ z) (ap (λ (y : Lines). stateSound (y .count) st) (sym e) ∙ sym g)

@@ -1,0 +1,123 @@
+-- Laws of the turns: what a line's turn comes to by its tests, the bits of the word, and turns in a row.
+use mathlib.Core.Path.{_≡_, refl, sym, ap, _∙_}
+use mathlib.Core.Bool.{Bool, true, false}
+use mathlib.Core.List.{List, [], _∷_, _++_, map}
+use Prim.Native.Nat.{ℕ, zero, suc, _+_, _-_, _*_, _^_, _<_, _≤_}
+use native.Mathlib.Nat.{pow-le-pow-right, two-pow-succ}
+use native.Mathlib.Numerals.{add-one}
+use native.Mathlib.Omega.{arith}
+use borrow.Author.Tests.{lt-ltb, le-ltb}
+use lib.IntN.{ℤ}
+use lib.ListN.{getD}
+use Rattle.values.specs.Numbers.{clash}
+use Rattle.values.specs.Fifo.{unsound}
+use Rattle.tokens.specs.Reading.{Answer, good, stop, _>>=_}
+use Rattle.working.specs.Operators.{isYes}
+use Rattle.working.specs.Working.{conditionValue}
+use Rattle.checking.specs.declared.check.Line.{Line}
+use Rattle.engine.specs.declared.action.Done.{Done}
+use Rattle.engine.specs.Set.{noLine}
+use Rattle.engine.specs.Action.{World, Did, fromGot}
+use Rattle.engine.specs.Turn.{Entry, worked, Turned, lockEntry, remembered, doTurn, tryTurn, turnOf, turnsFrom}
+use Rattle.engine.specs.Keyword.{tries, acts, remembers}
+use Rattle.engine.specs.ActionHeld.{worldOf, IsDone}
+use Rattle.engine.specs.TurnHeld.{IsTurned, withLines}
+use Rattle.values.specs.Choice.{contrary}
+
+-- what actions did is what their turn comes to
+pub done-turned : (x : Done) (r c : List ℤ) (out : List ℕ) (y : Answer Did) (es : List Entry) → IsDone x r c out y → IsTurned x r c out (y >>= λ d. good (record { world = d .world; entries = es ++ map lockEntry (d .notes) }))
+done-turned x r c out (good d) es h = (h .0, h .1 .1)
+done-turned x r c out (stop k) es h = h
+
+-- ---- the bits of the word
+
+pub doubled : (k : ℕ) → k < 32 → 2 ^ k + 2 ^ k ≤ 4294967296
+doubled k h = omega (arith, pow-le-pow-right {n = 2} (omega arith) {i = suc k} {j = 32} (omega arith), two-pow-succ k)
+
+-- a line's bit, and the bits of those before it
+pub room : (k : ℕ) {bit acted : ℕ} → k < 32 → bit ≡ 2 ^ k → acted < bit → acted + bit < 4294967296
+room k h e f = omega (arith, doubled k h)
+
+-- the word of at most 32 lines
+pub word-fits : (k : ℕ) → k ≤ 32 → 2 ^ k ≤ 4294967296
+word-fits k h = omega (arith, pow-le-pow-right {n = 2} (omega arith) {i = k} {j = 32} h)
+
+-- the next bit is twice as much
+pub next-bit : (k : ℕ) {bit : ℕ} → bit ≡ 2 ^ k → bit * 2 ≡ 2 ^ (k + 1)
+next-bit k e = rw (e, add-one k, two-pow-succ k) (omega arith)
+
+-- ---- the turn of a line that is tried
+
+module _ (s numbers : List ℕ) (cancelled : List Bool) (automatic : Bool) (l : Line) (k : ℕ) (x : World) where
+  pub untried : tries (l .keyword) (getD (x .memory) k false) ≡ false → tryTurn s numbers cancelled automatic l k x ≡ doTurn s numbers cancelled automatic l k x [] (acts (l .keyword) (getD (x .memory) k false) false)
+  unfolding tryTurn
+  untried t = simp (tryTurn, t)
+
+  module _ (t : tries (l .keyword) (getD (x .memory) k false) ≡ true) where
+    pub stops : {a : ℕ} → fromGot (conditionValue s (x .vars .r) (x .vars .cells) (l .condition)) ≡ stop a → tryTurn s numbers cancelled automatic l k x ≡ stop a
+    unfolding tryTurn
+    stops e = simp (tryTurn, t, e)
+
+    pub tried-so : {v : ℤ} {q : ℕ} → fromGot (conditionValue s (x .vars .r) (x .vars .cells) (l .condition)) ≡ good (v, q) → tryTurn s numbers cancelled automatic l k x ≡ doTurn s numbers cancelled automatic l k (remembered x k (remembers (l .keyword) (getD (x .memory) k false) (isYes v))) (worked k (isYes v) ∷ []) (acts (l .keyword) (getD (x .memory) k false) (isYes v))
+    unfolding tryTurn
+    tried-so e = simp (tryTurn, t, e)
+
+-- ---- turns in a row
+
+-- what they come to, apart from what is written down
+abbrev pub passed : Answer Turned → Answer World
+passed (good t) = good (t .world)
+passed (stop k) = stop k
+
+module _ (x : Done) (r c : List ℤ) (out : List ℕ) where
+  pub turned-good : (y : Answer Turned) → IsTurned x r c out y → x .good ≡ true → (es : List Entry) × (y ≡ good (record { world = worldOf r c out (x .flags); entries = es }))
+  turned-good (good t) h e = (t .entries, ap (λ (w : World). good (record { world = w; entries = t .entries })) (sym (h .1)))
+  turned-good (stop k) h e = contrary e (h .0)
+
+  pub turned-stop : (y : Answer Turned) → IsTurned x r c out y → x .good ≡ false → y ≡ stop (x .alarm)
+  turned-stop (good t) h e = contrary (h .0) e
+  turned-stop (stop k) h e = cc
+
+  -- what holds what one comes to holds what the other comes to
+  pub all-pass : (y z : Answer Turned) → passed y ≡ passed z → IsTurned x r c out y → IsTurned x r c out z
+  all-pass (good t) (good u) q h = (h .0, h .1 ∙ (cc))
+  all-pass (good t) (stop k) q h = clash (cc)
+  all-pass (stop k) (good u) q h = clash (cc)
+  all-pass (stop k) (stop l) q h = (h .0, h .1 ∙ (cc))
+
+module _ (s numbers : List ℕ) (cancelled : List Bool) (automatic : Bool) (ls : List Line) where
+  -- the turns behind one, of m lines from rank k on
+  unfoldable behind : ℕ → ℕ → Turned → Answer Turned
+  behind m k t = turnsFrom s numbers cancelled automatic ls m k (t .world) >>= λ u. good (record { world = u .world; entries = t .entries ++ u .entries })
+
+  module _ (k : ℕ) (x : World) where
+    pub turns-none : (m : ℕ) → m ≤ 0 → turnsFrom s numbers cancelled automatic ls m k x ≡ good (record { world = x; entries = [] })
+    unfolding turnsFrom
+    turns-none zero h = refl
+    turns-none (suc m) h = absurd (omega arith)
+
+    first : {y : Answer Turned} → turnOf s numbers cancelled automatic (getD ls k noLine) k x ≡ y → (m : ℕ) → 0 < m → turnsFrom s numbers cancelled automatic ls m k x ≡ (y >>= behind (m - 1) (k + 1))
+    unfolding turnsFrom behind
+    first e zero h = absurd (omega arith)
+    first e (suc m) h = let q : suc m - 1 ≡ m = omega arith in rw (q, ← e)
+
+    pub turns-stop : {a : ℕ} → turnOf s numbers cancelled automatic (getD ls k noLine) k x ≡ stop a → (m : ℕ) → 0 < m → turnsFrom s numbers cancelled automatic ls m k x ≡ stop a
+    turns-stop e m h = first e m h
+
+    pub turns-on : (t : Turned) → turnOf s numbers cancelled automatic (getD ls k noLine) k x ≡ good t → (m : ℕ) → 0 < m → passed (turnsFrom s numbers cancelled automatic ls (m - 1) (k + 1) (t .world)) ≡ passed (turnsFrom s numbers cancelled automatic ls m k x)
+    unfolding behind
+    turns-on t e m h = rw (first e m h) (go (turnsFrom s numbers cancelled automatic ls (m - 1) (k + 1) (t .world)))
+      where
+        go : (y : Answer Turned) → passed y ≡ passed (y >>= λ u. good (record { world = u .world; entries = t .entries ++ u .entries }))
+        go (good u) = refl
+        go (stop a) = refl
+
+-- ---- the lines of a set
+
+pub few-lines : (n : ℕ) (a : Answer Turned) → n ≤ 32 → withLines n a ≡ a
+unfolding withLines
+few-lines n a h = simp (withLines, le-ltb 32 n h)
+
+pub many-lines : (n : ℕ) (a : Answer Turned) → 32 < n → withLines n a ≡ stop unsound
+unfolding withLines
+many-lines n a h = simp (withLines, lt-ltb 32 n h)

@@ -1,0 +1,27 @@
+-- `action::add_order` meets its contract: what `put` ensures is the bytes of one order more.
+use borrow.Author.Needs.{needs}
+use mathlib.Core.Path.{refl, ap, _∙_}
+use Prim.Native.Nat.{_+_, _*_, _≤_}
+use native.Mathlib.Omega.{arith}
+use lib.ListN.{length, take}
+use denote.Ref.{now}
+use Rattle.engine.specs.ActionHeld.{worldOf}
+use Rattle.engine.proofs.ActionHeldLaws.{with-orders}
+use Rattle.engine.proofs.ActionLaws.{one-more}
+use Rattle.engine.proofs.action.add_order.Statement.{statement}
+use Rattle.engine.proofs.action.add_order.Tie as tie
+
+pub add-order-spec : {M : Type 1} → statement M
+add-order-spec =
+    tie.close
+    (tie.spec
+    (λ c. search needs)
+    (λ c κs. search needs)
+    (λ c. search needs)
+    (λ c κs. search needs)
+    (λ c.
+    let p = c .before .before in
+    let a = p .before .before .before .args in
+    let n = a .flags .count in
+    let l : 8 * n + 8 ≤ length (now (a .out)) = search needs in
+    (λ r cs. rw (c .did-all .ensures) (refl, (refl, with-orders (worldOf r cs (now (a .out)) (a .flags)) (ap (take (8 * (n + 1))) (p .put .ensures .1) ∙ one-more (now (a .out)) n (a .o) l))), rw (c .did-all .ensures) (omega arith, refl))))

@@ -1,0 +1,59 @@
+-- `action::assign` meets its contract: the right side may stop, then the write may, else both are held.
+use borrow.Author.Needs.{needs}
+use borrow.Author.Tests.{not-true, not-false}
+use mathlib.Core.Path.{_≡_, refl}
+use Prim.Native.Nat.{_+_}
+use native.Mathlib.Omega.{arith}
+use denote.Ref.{now}
+use mir.Syntax.{w32}
+use Rattle.values.proofs.Signed.{back}
+use Rattle.tokens.specs.Reading.{Answer, good, indexAt}
+use Rattle.engine.specs.Write.{Vars, writeTo}
+use Rattle.engine.specs.Action.{Taken, takenAt, assignmentOf}
+use Rattle.engine.specs.WriteHeld.{varsOf, IsWritten}
+use Rattle.engine.proofs.ActionHeldLaws.{taken-good, taken-stop, same-flags}
+use Rattle.engine.proofs.WriteHeldLaws.{written-good, written-stop}
+use Rattle.engine.proofs.action.assign.Statement.{statement}
+use Rattle.engine.proofs.action.assign.Tie as tie
+
+-- the right side
+abbrev side : tie.After-take → Answer Taken
+side c = let a = c .before .before .before .before .args in takenAt (now (a .code)) (varsOf (now (a .r)) (now (a .cells)) (a .flags .runs)) (a .p + 5)
+
+taken : (c : tie.Else1) → let t = c .before .take in side (c .before) ≡ good (record { value = t .result .value; vars = varsOf (t .last .1 .0) (t .last .1 .1 .0) (c .before .before .before .before .before .args .flags .runs); next = t .result .next })
+taken c = let t = c .before .take in taken-good (t .result) (t .last .1 .0) (t .last .1 .1 .0) (c .before .before .before .before .before .args .flags .runs) (side (c .before)) (t .ensures) (not-false _ (c .if1 .left))
+
+-- the write
+abbrev wrote : tie.After-write → Answer Vars
+wrote c =
+    let t = c .before .before .before .before .before .before .before in
+    let a = t .before .before .before .before .args in
+    writeTo (varsOf (t .take .last .1 .0) (t .take .last .1 .1 .0) (a .flags .runs)) (a .w) (indexAt (now (a .code)) (a .w) (a .p)) (t .take .result .value)
+
+written : (c : tie.After-write) → IsWritten (c .write .result) (c .write .last .0) (c .write .last .1 .0) (wrote c)
+written c = rw (c .before .before .index-at .ensures, back w32 (record { sfits = c .before .struct-told .given .1 .1 .0 .1 })) at (c .write .ensures)
+
+pub assign-spec : {M : Type 1} → statement M
+unfolding assignmentOf
+assign-spec =
+    tie.close
+    (tie.spec
+    (λ c. search needs)
+    (λ c κs. search needs)
+    (λ c κs. search needs)
+    (λ c.
+    let s = c .before .before in
+    let t = s .take in
+    (λ out. simp (assignmentOf, taken-stop (t .result) (t .last .1 .0) (t .last .1 .1 .0) (s .before .before .before .before .args .flags .runs) (side s) (t .ensures) (not-true _ (c .before .if1 .taken)), c .not-done .ensures) (refl, refl), same-flags 0 (c .not-done .ensures)))
+    (λ c κs. search needs)
+    (λ c κs. search needs)
+    (λ c κs. search needs)
+    (λ c.
+    let s = c .before .before in
+    let w = s .write in
+    (λ out. simp (assignmentOf, taken (s .before .before .before .before .before .before), written-stop (w .result) (w .last .0) (w .last .1 .0) (wrote s) (written s) (not-true _ (c .before .if2 .taken)), c .not-done2 .ensures) (refl, refl), same-flags 0 (c .not-done2 .ensures)))
+    (λ c κs. search needs)
+    (λ c.
+    let s = c .before .before .before in
+    let w = s .write in
+    (λ out. simp (assignmentOf, taken (s .before .before .before .before .before .before), written-good (w .result) (w .last .0) (w .last .1 .0) (wrote s) (written s) (not-false _ (c .before .before .if2 .left)), c .did-all .ensures) (refl, (refl, refl)), rw (c .did-all .ensures) (omega arith, refl))))

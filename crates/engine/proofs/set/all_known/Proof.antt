@@ -1,0 +1,34 @@
+-- `set::all_known` meets its contract: in the loop what is known from rank `k` on is what is known of all; SetLaws has the turn.
+use borrow.Author.Needs.{needs}
+use borrow.Author.Tests.{not-true, not-false}
+use native.Mathlib.Omega.{arith}
+use native.Mathlib.Nat.{sub-zero}
+use mathlib.Core.Path.{_≡_, sym, _∙_}
+use Prim.Native.Nat.{_-_, _≤_}
+use Rattle.engine.specs.Set.{allKnown}
+use Rattle.engine.proofs.SetLaws.{known-not, known-on, known-none}
+use Rattle.engine.proofs.set.all_known.Statement.{statement}
+use Rattle.engine.proofs.set.all_known.Tie as tie
+
+abbrev Inv-loop : tie.InvT-loop
+Inv-loop set numbers count k₀ k = (allKnown set numbers (count - k) k ≡ allKnown set numbers count 0) × (k ≤ count)
+
+abbrev μ-loop : tie.MeasureT-loop
+μ-loop set numbers count k₀ k = count - k
+
+pub all-known-spec : {M : Type 1} → statement M
+all-known-spec =
+    tie.close
+    (tie.spec
+    Inv-loop
+    μ-loop
+    (λ c. (rw sub-zero, omega arith))
+    (λ c. search needs)
+    (λ c κs. search needs)
+    (λ c. search needs)
+    (λ c κs. search needs)
+    (λ c. sym (known-not _ _ _ _ _ _ (c .before .before .token-at .ensures .0) (c .before .names-known .ensures) (omega arith) (not-true _ (c .if1 .taken))) ∙ c .before .before .before .before .before .loop .inv .0)
+    (λ c. omega arith)
+    (λ c. omega arith)
+    (λ c. (sym (known-on _ _ _ _ _ _ (c .before .before .token-at .ensures .0) (c .before .names-known .ensures) (omega arith) (not-false _ (c .if1 .left))) ∙ c .before .before .before .before .before .loop .inv .0, omega arith))
+    (λ c. sym (known-none _ _ _ _ (omega arith)) ∙ c .before .loop .inv .0))

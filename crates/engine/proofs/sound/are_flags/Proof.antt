@@ -1,0 +1,33 @@
+-- `sound::are_flags` meets its contract: in the loop the flags from rank `k` on are those of all; SoundLaws has the turn.
+use borrow.Author.Needs.{needs}
+use borrow.Author.Tests.{not-true, not-false}
+use native.Mathlib.Omega.{arith}
+use mathlib.Core.Path.{_≡_, refl, sym, _∙_}
+use Prim.Native.Nat.{_-_, _≤_}
+use Rattle.engine.specs.Sound.{areFlags}
+use Rattle.engine.proofs.SoundLaws.{flags-not, flags-on, flags-none}
+use Rattle.engine.proofs.sound.are_flags.Statement.{statement}
+use Rattle.engine.proofs.sound.are_flags.Tie as tie
+
+abbrev Inv-loop : tie.InvT-loop
+Inv-loop count locked cancelled memory k₀ k = (areFlags count locked cancelled memory (32 - k) k ≡ areFlags count locked cancelled memory 32 0) × (k ≤ 32)
+
+abbrev μ-loop : tie.MeasureT-loop
+μ-loop count locked cancelled memory k₀ k = 32 - k
+
+pub are-flags-spec : {M : Type 1} → statement M
+are-flags-spec =
+    tie.close
+    (tie.spec
+    Inv-loop
+    μ-loop
+    (λ c. (refl, omega arith))
+    (λ c. search needs)
+    (λ c. search needs)
+    (λ c. search needs)
+    (λ c κs. search needs)
+    (λ c. sym (flags-not _ _ _ _ (c .before .before .before .loop .k) (omega arith) _ (c .before .is-flag .ensures) (not-true _ (c .if1 .taken))) ∙ c .before .before .before .loop .inv .0)
+    (λ c. omega arith)
+    (λ c. omega arith)
+    (λ c. (sym (flags-on _ _ _ _ (c .before .before .before .loop .k) (omega arith) _ (c .before .is-flag .ensures) (not-false _ (c .if1 .left))) ∙ c .before .before .before .loop .inv .0, omega arith))
+    (λ c. sym (flags-none _ _ _ _ (c .before .loop .k) _ (omega arith)) ∙ c .before .loop .inv .0))

@@ -1,0 +1,76 @@
+-- `write::write_cell` meets its contract: an index inside lies below the last cell; each return by the tests that led to it.
+use borrow.Author.Needs.{needs}
+use borrow.Author.Tests.{ne-eqb}
+use mathlib.Core.Path.{refl, sym, ap, _∙_}
+use Prim.Native.Nat.{_<_}
+use native.Mathlib.Omega.{arith}
+use mir.Syntax.{w32}
+use Rattle.values.specs.Value.{wholeUnits, outputOf}
+use Rattle.values.proofs.Signed.{back}
+use Rattle.tokens.proofs.Indices.{last-inside}
+use Rattle.working.proofs.VariableCells.{cell-inside}
+use Rattle.engine.specs.Write.{writeCell}
+use Rattle.engine.proofs.write.write_cell.Statement.{statement}
+use Rattle.engine.proofs.write.write_cell.Tie as tie
+
+cell-fits : (c : tie.After-cell-of) → c .cell-of .result < 122
+cell-fits c = let p = c .before .pre in rw (c .cell-of .ensures) (cell-inside _ _ (p .1 .1) (p .1 .0) (p .0))
+
+timer-fits : (c : tie.Else4) → let s = c .before .before .before .before .before in s .args .i < 8
+timer-fits c = omega (arith, rw (c .if4 .left) at (last-inside _ _ (c .before .before .before .before .before .pre .0)))
+
+pub write-cell-spec : {M : Type 1} → statement M
+unfolding writeCell
+write-cell-spec =
+    tie.close
+    (tie.spec
+    (λ c κs. search needs)
+    (λ c κs. search needs)
+    (λ c. omega (arith, cell-fits (c .before .before)))
+    (λ c. cell-fits (c .before .before))
+    (λ c κs. search needs)
+    (λ c.
+    let m = c .before in
+    let s = m .before .before in
+    let e = back w32 (record { sfits = m .whole-units .ok }) ∙ m .whole-units .ensures ∙ ap wholeUnits (back w32 (s .before .fits .v)) in
+    rw (c .written-so .ensures, e, s .cell-of .ensures, m .before .if1 .taken) (refl, (refl, refl)))
+    (λ c. omega (arith, cell-fits (c .before .before)))
+    (λ c. cell-fits (c .before .before))
+    (λ c κs. search needs)
+    (λ c.
+    let s = c .before .before .before in
+    rw (c .written-so2 .ensures, back w32 (s .before .fits .v), s .cell-of .ensures, c .before .if2 .taken) (refl, (refl, refl)))
+    (λ c κs. search needs)
+    (λ c. search needs)
+    (λ c. omega (arith, cell-fits (c .before .before .before .before .before .before .before)))
+    (λ c. cell-fits (c .before .before .before .before .before .before .before))
+    (λ c κs. search needs)
+    (λ c. search needs)
+    (λ c κs. search needs)
+    (λ c.
+    let o = c .before .before .before .before in
+    let s = o .before .before .before .before in
+    let e = sym (c .before .before .u .given .1) ∙ o .output .ensures ∙ ap outputOf (back w32 (s .before .fits .v)) in
+    rw (c .written-so3 .ensures, back w32 (record { sfits = c .before .known-told .given .0 .1 }), s .cell-of .ensures, o .before .if3 .taken, ← e) (refl, (refl, refl)))
+    (λ c.
+    let o = c .before .before .before .before in
+    let s = o .before .before .before .before in
+    let e = sym (c .before .before .a .given .1) ∙ o .output .ensures ∙ ap outputOf (back w32 (s .before .fits .v)) in
+    rw (o .before .if3 .taken, ← e, c .not-written .ensures) (refl, refl))
+    (λ c κs. search needs)
+    (λ c.
+    let s = c .before .before .before .before in
+    simp (writeCell, ne-eqb _ _ (s .if1 .left), ne-eqb _ _ (c .before .before .before .if2 .left), ne-eqb _ _ (c .before .before .if3 .left), ne-eqb _ _ (c .before .if4 .taken), c .not-written2 .ensures) (refl, refl))
+    (λ c. omega (arith, cell-fits (c .before .before .before .before)))
+    (λ c. cell-fits (c .before .before .before .before))
+    (λ c. omega (arith, timer-fits (c .before)))
+    (λ c κs. search needs)
+    (λ c. omega (arith, cell-fits (c .before .before .before .before .before .before .before)))
+    (λ c. cell-fits (c .before .before .before .before .before .before .before))
+    (λ c. omega (arith, timer-fits (c .before .before .before)))
+    (λ c κs. search needs)
+    (λ c.
+    let w = c .before .before in
+    let s = w .before .before .before .before .before .before in
+    let e = rw (back w32 (record { sfits = w .before .before2 .given }), back w32 (s .before .fits .v)) at (w .written .ensures) in
+    rw (c .written-so4 .ensures, back w32 (record { sfits = c .before .struct-told .given .0 .1 .1 .0 .1 }), e, s .cell-of .ensures, w .before .before .if4 .left) (refl, (refl, refl))))

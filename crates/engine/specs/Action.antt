@@ -1,0 +1,134 @@
+-- An action of a line (document 01, "Lines of text", "Values and time" and "A beat"): what it makes of the variables, the locks and the orders, or its alarm. Definitions only.
+use mathlib.Core.Bool.{Bool, true, false, cond}
+use mathlib.Core.List.{List, [], _∷_, _++_}
+use Prim.Native.Nat.{ℕ, _+_}
+use lib.Dec.{eqb, ltb}
+use lib.IntN.{ℤ, pos, natAbs}
+use lib.ListN.{getD, set}
+use Rattle.values.specs.Value.{lessThan}
+use Rattle.values.specs.Fifo.{unsound}
+use Rattle.engine.specs.Order.{orderBytes, maxOrders}
+use Rattle.engine.specs.declared.order.Order.{Order}
+use Rattle.engine.specs.declared.order.Kind.the-variants as K
+use Rattle.tokens.specs.Token.{END, M, SETAL, LOCK, isVariable, isDrive, whole, maxLines}
+use Rattle.tokens.specs.Reading.{token, Answer, good, stop, _>>=_, indexAt}
+use Rattle.checking.specs.Fault.{isRemoval}
+use Rattle.working.specs.Working.{rightValue}
+use Rattle.working.specs.declared.work.Got.{Got}
+use Rattle.engine.specs.Set.{rankIn}
+use Rattle.engine.specs.Write.{Vars, changeFifo, withChanged, writeTo}
+use Rattle.engine.specs.Drive.{driveOrder, orderOf}
+
+-- the beat under way: the variables, which lines are locked, each line's memory, the word of the lines that acted, and the bytes of the orders so far
+pub record World : Type 0 where
+  pub vars : Vars
+  pub locked : List Bool
+  pub memory : List Bool
+  pub acted : ℕ
+  pub orders : List ℕ
+
+-- ---- orders
+
+abbrev pub ordered : World → Order → World
+ordered x o = record { vars = x .vars; locked = x .locked; memory = x .memory; acted = x .acted; orders = x .orders ++ orderBytes o }
+
+-- ---- an action
+
+-- a lock or release that a line gave, by the rank of the line it names
+abbrev pub Note : Type 0
+Note = ℕ × Bool
+
+-- what an action did: the world, the place behind it, and what is written down of locks and releases
+pub record Did : Type 0 where
+  pub world : World
+  pub next : ℕ
+  pub notes : List Note
+
+abbrev pub did : ℕ → World → Answer Did
+did q x = good (record { world = x; next = q; notes = [] })
+
+abbrev pub withVars : World → Vars → World
+withVars x v = record { vars = v; locked = x .locked; memory = x .memory; acted = x .acted; orders = x .orders }
+
+-- the number of an alarm that working gave, never 0
+unfoldable pub alarmOf : ℤ → ℕ
+alarmOf v = cond (lessThan v (pos 1)) unsound (cond (lessThan (pos 255) v) unsound (natAbs v))
+
+abbrev pub fromGot : Got → Answer (ℤ × ℕ)
+fromGot g = elim (g .good) [ true ↦ good (g .value, g .next) | false ↦ stop (alarmOf (g .value)) ]
+
+abbrev pub withLock : World → ℕ → Bool → World
+withLock x k b = record { vars = x .vars; locked = set (x .locked) k b; memory = x .memory; acted = x .acted; orders = x .orders }
+
+-- LOCK and UNLOCK of the line of rank k take effect at once; naming a cancelled line, they do nothing
+unfoldable pub lockOf : List Bool → World → Bool → ℕ → ℕ → Answer Did
+lockOf cancelled x b k q =
+    elim (ltb k maxLines) [
+      | true ↦
+          elim (getD cancelled k false) [
+            | true ↦ did q x
+            | false ↦ good (record { world = withLock x k b; next = q; notes = (k, b) ∷ [] })
+          ]
+      | false ↦ stop unsound
+    ]
+
+-- what stands right of =, worked
+pub record Taken : Type 0 where
+  pub value : ℤ
+  pub vars : Vars
+  pub next : ℕ
+
+-- the value of the right side at p, the variables and the place behind it: FIFO [0] as the whole right side removes the oldest
+unfoldable pub takenAt : List ℕ → Vars → ℕ → Answer Taken
+takenAt s x p =
+    elim (isRemoval s p) [
+      | true ↦ changeFifo (x .r) (x .cells) 1 (getD s p 0) (pos 0) >>= λ a. good (record { value = a .value; vars = withChanged x a; next = p + 4 })
+      | false ↦ fromGot (rightValue s (x .r) (x .cells) p) >>= λ a. good (record { value = a .0; vars = x; next = a .1 })
+    ]
+
+-- variable = sum
+unfoldable pub assignmentOf : List ℕ → World → ℕ → ℕ → Answer Did
+assignmentOf s x w p =
+    takenAt s (x .vars) (p + 5) >>= λ a.
+    writeTo (a .vars) w (indexAt s w p) (a .value) >>= λ v.
+    did (a .next) (withVars x v)
+
+-- POS[axis]=, FA[axis]=, MOV[axis]= and a sum; an axis that no byte holds is in no sound set
+unfoldable pub driveOf : List ℕ → ℕ → World → ℕ → ℕ → Answer Did
+driveOf s number x w p =
+    elim (ltb 255 (indexAt s w p)) [
+      | true ↦ stop unsound
+      | false ↦
+          fromGot (rightValue s (x .vars .r) (x .vars .cells) (p + 5)) >>= λ a.
+          driveOrder number w (indexAt s w p) (a .0) >>= λ o.
+          did (a .1) (ordered x o)
+    ]
+
+module _ (s numbers : List ℕ) (cancelled : List Bool) (number : ℕ) where
+  -- M= and a number; SETAL, LOCK, UNLOCK and a number in brackets
+  unfoldable pub commandOf : World → ℕ → ℕ → Answer Did
+  commandOf x w p =
+      elim (eqb w M) [
+        | true ↦ did (p + 3) (ordered x (orderOf number K.M 0 (pos (whole (token s (p + 2))))))
+        | false ↦
+            elim (eqb w SETAL) [
+              | true ↦ did (p + 4) (ordered x (orderOf number K.Setal 0 (pos (whole (token s (p + 2))))))
+              | false ↦ lockOf cancelled x (eqb w LOCK) (rankIn numbers (whole (token s (p + 2))) 0) (p + 4)
+            ]
+      ]
+
+  -- the action at p
+  unfoldable pub actionOf : World → ℕ → Answer Did
+  actionOf x p =
+      elim (eqb (token s p) END) [
+        | true ↦ stop unsound
+        | false ↦
+            elim (isVariable (token s p)) [
+              | true ↦ assignmentOf s x (token s p) p
+              | false ↦ elim (isDrive (token s p)) [ true ↦ driveOf s number x (token s p) p | false ↦ commandOf x (token s p) p ]
+            ]
+      ]
+
+-- an action is taken only where the n orders so far leave room for one more: those of a beat always do
+unfoldable pub roomForOne : ℕ → Answer Did → Answer Did
+roomForOne n a = elim (ltb n maxOrders) [ true ↦ a | false ↦ stop unsound ]

@@ -1,0 +1,68 @@
+-- Sound, as document 01 lists it ("Codes"). Definitions only.
+use mathlib.Core.Bool.{Bool, true, false, cond, not, _&&_}
+use mathlib.Core.List.{List, [], _∷_}
+use Prim.Native.Nat.{ℕ, zero, suc, _+_, _*_}
+use lib.Dec.{eqb, leb, ltb}
+use lib.IntN.{ℤ, pos}
+use lib.ListN.{getD, take, drop}
+use Rattle.values.specs.Value.{inRange, lessThan, equalTo, wholeUnits, outputOf, codeOf}
+use Rattle.values.specs.Fifo.{places}
+use Rattle.working.specs.Variables.{asCount}
+use Rattle.engine.specs.declared.state.State.{State}
+use Rattle.engine.specs.Set.{soundLines}
+
+-- the code of whatever is not sound
+abbrev pub unsoundCode : ℕ
+unsoundCode = 22
+
+-- all values within range
+unfoldable pub allRanged : List ℤ → Bool
+allRanged [] = true
+allRanged (v ∷ vs) = inRange v && allRanged vs
+
+abbrev pub isOutput : ℤ → Bool
+isOutput v = eqb (codeOf (outputOf v)) 0
+
+-- outputs 0 or 1, markers whole, parameters any, timers not negative, FIFO counts at most 16
+unfoldable pub isCell : ℕ → ℤ → Bool
+isCell i v =
+    inRange v &&
+    cond (ltb i 16) (isOutput v)
+    (cond (ltb i 48) (equalTo (wholeUnits v) v)
+    (cond (ltb i 80) true
+    (cond (ltb i 88) (not (lessThan v (pos 0))) (leb (asCount v) places))))
+
+unfoldable pub areCells : List ℤ → ℕ → Bool
+areCells [] i = true
+areCells (v ∷ vs) i = isCell i v && areCells vs (i + 1)
+
+-- unused places 0: of FIFO k, from 0, in R and with its count
+unfoldable pub allZero : List ℤ → Bool
+allZero [] = true
+allZero (v ∷ vs) = equalTo v (pos 0) && allZero vs
+
+abbrev pub fifoRun : List ℤ → ℕ → List ℤ
+fifoRun r k = take places (drop (100 + places * k) r)
+
+unfoldable pub isFifoSound : List ℤ → List ℤ → ℕ → Bool
+isFifoSound r c k = allZero (drop (asCount (getD c (88 + k) (pos 0))) (fifoRun r k))
+
+-- cancelled lines without lock or memory; nothing for a rank that the set does not have
+unfoldable pub isFlag : ℕ → ℕ → Bool → Bool → Bool → Bool
+isFlag count k locked cancelled memory =
+    cond (ltb k count) (cond cancelled (not locked && not memory) true) (not locked && (not memory && not cancelled))
+
+-- so for m ranks from k on
+unfoldable pub areFlags : ℕ → List Bool → List Bool → List Bool → ℕ → ℕ → Bool
+areFlags count locked cancelled memory zero k = true
+areFlags count locked cancelled memory (suc m) k =
+    isFlag count k (getD locked k false) (getD cancelled k false) (getD memory k false) && areFlags count locked cancelled memory m (k + 1)
+
+unfoldable pub stateSound : ℕ → State → Bool
+stateSound count st =
+    allRanged (st .r) && (areCells (st .cells) 0 && (isFifoSound (st .r) (st .cells) 0 && (isFifoSound (st .r) (st .cells) 1
+    && (isFifoSound (st .r) (st .cells) 2 && (isFifoSound (st .r) (st .cells) 3 && areFlags count (st .locked) (st .cancelled) (st .memory) 32 0)))))
+
+-- a set and a state are sound
+unfoldable pub isSound : List ℕ → State → Bool
+isSound s st = soundLines s .sound && stateSound (soundLines s .count) st

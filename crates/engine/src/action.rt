@@ -1,0 +1,322 @@
+// One action of a line: an assignment, POS, FA, MOV, M, SETAL, LOCK or UNLOCK, each by its own rule.
+//
+// R, the cells of the beat and the orders so far are lent and written in place; a beat that ends in an alarm throws them away.
+ghost use mathlib.Core.Path.{_≡_};
+ghost use mathlib.Core.Bool.{true, false};
+ghost use Prim.Native.Nat.{ℕ, _+_, _<_};
+ghost use mathlib.Core.List.{List};
+ghost use lib.IntN.{ℤ, pos};
+ghost use Rattle.working.specs.Working.{rightValue};
+ghost use Rattle.engine.specs.Action.{fromGot, alarmOf, did, ordered, takenAt, assignmentOf, driveOf, lockOf, commandOf, actionOf, roomForOne};
+ghost use Rattle.engine.specs.Order.{maxOrders};
+ghost use Rattle.engine.specs.WriteHeld.{varsOf};
+ghost use Rattle.engine.specs.ActionHeld.{worldOf, IsWorked, IsTaken, IsDone, Within};
+ghost use Rattle.tokens.specs.Token.{setSize};
+use crate::drive::drive_order;
+use crate::order::Kind;
+use crate::order::MAX_ORDERS;
+use crate::order::ORDER_BYTES;
+use crate::order::ORDERS;
+use crate::order::Order;
+use crate::order::put;
+use crate::set::rank_in;
+use crate::write::take_oldest;
+use crate::write::write;
+use checking::is_removal;
+use tokens::token::END;
+use tokens::token::LINES;
+use tokens::token::LOCK;
+use tokens::token::M;
+use tokens::token::SETAL;
+use tokens::token::SIZE;
+use tokens::token::index_at;
+use tokens::token::is_drive;
+use tokens::token::is_variable;
+use tokens::token::token_at;
+use tokens::token::whole_of;
+use values::arithmetic::Worked;
+use working::right_side;
+use working::variables::CELLS;
+use working::variables::RS;
+use working::variables::TIMERS;
+use working::variables::UNSOUND;
+
+// What a beat under way holds beside R, the cells and the orders: which timers run, which lines are locked, their memory, the word of those that acted, and
+// the count of orders.
+pub struct Flags {
+    pub runs: [bool; TIMERS],
+    pub locked: [bool; LINES],
+    pub memory: [bool; LINES],
+    pub acted: u64,
+    pub count: usize,
+}
+
+// What stands right of =, worked: its value and the place behind it.
+pub struct Took {
+    pub good: bool,
+    pub alarm: u8,
+    pub value: i32,
+    pub next: usize,
+}
+
+// What actions did: the flags and the place behind them, or an alarm.
+pub struct Done {
+    pub good: bool,
+    pub alarm: u8,
+    pub next: usize,
+    pub flags: Flags,
+}
+
+// ---- right sides
+
+fn not_taken(alarm: u8) -> Took
+    ensures { λ x. ⌜ x ≡ record { good = false; alarm = alarm; value = pos 0; next = 0 } ⌝ }
+{
+    Took {
+        good: false,
+        alarm: alarm,
+        value: 0,
+        next: 0,
+    }
+}
+
+// The number of an alarm that working gave.
+pub fn alarm_of(v: i32) -> u8
+    ensures { λ x. ⌜ x ≡ alarmOf v ⌝ }
+{
+    if v < 1 {
+        return UNSOUND;
+    }
+    if 255 < v {
+        return UNSOUND;
+    }
+    v as u8
+}
+
+// The right side at place p, worked; it changes nothing.
+fn work(code: &[u32; SIZE], r: &[i32; RS], cells: &[i32; CELLS], p: usize) -> Took
+    ensures { λ x. ⌜ IsWorked x (fromGot (rightValue (now (code .entry)) (now (r .entry)) (now (cells .entry)) p)) ⌝ }
+{
+    let g = right_side(code, r, cells, p);
+    let good = g.good;
+    if !good {
+        return not_taken(alarm_of(g.value));
+    }
+    Took {
+        good: true,
+        alarm: 0,
+        value: g.value,
+        next: g.next,
+    }
+}
+
+// The right side of an assignment at place p: FIFO [0] as the whole right side removes the oldest.
+fn take(
+    code: &[u32; SIZE],
+    r: &mut [i32; RS],
+    cells: &mut [i32; CELLS],
+    runs: [bool; TIMERS],
+    p: usize,
+) -> Took
+    requires { ⌜ p < setSize + 5 ⌝ }
+    ensures { λ x. ⌜ IsTaken x (now (r .exit)) (now (cells .exit)) runs (takenAt (now (code .entry)) (varsOf (now (r .entry)) (now (cells .entry)) runs) p) ⌝ }
+{
+    if !is_removal(code, p) {
+        return work(code, r, cells, p);
+    }
+    match take_oldest(r, cells, token_at(code, p)) {
+        Worked::Value(v) => Took {
+            good: true,
+            alarm: 0,
+            value: v,
+            next: p + 4,
+        },
+        Worked::Alarm(a) => not_taken(a),
+    }
+}
+
+// ---- actions
+
+pub fn did_all(next: usize, flags: Flags) -> Done
+    ensures { λ x. ⌜ x ≡ record { good = true; alarm = 0; next = next; flags = flags } ⌝ }
+{
+    Done {
+        good: true,
+        alarm: 0,
+        next: next,
+        flags: flags,
+    }
+}
+
+pub fn not_done(alarm: u8, flags: Flags) -> Done
+    ensures { λ x. ⌜ x ≡ record { good = false; alarm = alarm; next = 0; flags = flags } ⌝ }
+{
+    Done {
+        good: false,
+        alarm: alarm,
+        next: 0,
+        flags: flags,
+    }
+}
+
+// variable = sum.
+fn assign(
+    code: &[u32; SIZE],
+    r: &mut [i32; RS],
+    cells: &mut [i32; CELLS],
+    flags: Flags,
+    w: u32,
+    p: usize,
+) -> Done
+    requires { ⌜ p < setSize ⌝ }
+    ensures { λ x. ⌜ ((out : List ℕ) → IsDone x (now (r .exit)) (now (cells .exit)) out (assignmentOf (now (code .entry)) (worldOf (now (r .entry)) (now (cells .entry)) out flags) w p)) × Within 0 x flags ⌝ }
+{
+    let runs = flags.runs;
+    let t = take(code, r, cells, runs, p + 5);
+    let good = t.good;
+    if !good {
+        return not_done(t.alarm, flags);
+    }
+    let x = write(r, cells, runs, w, index_at(code, w, p), t.value);
+    let written = x.good;
+    if !written {
+        return not_done(x.alarm, flags);
+    }
+    let mut next = flags;
+    let now_runs = x.runs;
+    next.runs = now_runs;
+    did_all(t.next, next)
+}
+
+// An order goes behind those of the beat so far.
+fn add_order(out: &mut [u8; ORDERS], flags: Flags, o: Order, next: usize) -> Done
+    requires { ⌜ flags .count < maxOrders ⌝ }
+    ensures { λ x. ⌜ ((r c : List ℤ) → IsDone x r c (now (out .exit)) (did next (ordered (worldOf r c (now (out .entry)) flags) o))) × Within 1 x flags ⌝ }
+{
+    let at = flags.count * ORDER_BYTES;
+    put(out, at, o);
+    let mut f = flags;
+    f.count = flags.count + 1;
+    did_all(next, f)
+}
+
+// POS[axis]=, FA[axis]=, MOV[axis]= and a sum; an axis that no byte holds is in no sound set.
+fn drive(
+    code: &[u32; SIZE],
+    r: &[i32; RS],
+    cells: &[i32; CELLS],
+    out: &mut [u8; ORDERS],
+    flags: Flags,
+    number: u8,
+    w: u32,
+    p: usize,
+) -> Done
+    requires { ⌜ (p < setSize) × (flags .count < maxOrders) ⌝ }
+    ensures { λ x. ⌜ IsDone x (now (r .entry)) (now (cells .entry)) (now (out .exit)) (driveOf (now (code .entry)) number (worldOf (now (r .entry)) (now (cells .entry)) (now (out .entry)) flags) w p) × Within 1 x flags ⌝ }
+{
+    let axis = index_at(code, w, p);
+    if 255 < axis {
+        return not_done(UNSOUND, flags);
+    }
+    let t = work(code, r, cells, p + 5);
+    let good = t.good;
+    if !good {
+        return not_done(t.alarm, flags);
+    }
+    let d = drive_order(number, w, axis as u8, t.value);
+    let ordered = d.good;
+    if !ordered {
+        return not_done(d.alarm, flags);
+    }
+    let o = d.order;
+    add_order(out, flags, o, t.next)
+}
+
+// LOCK and UNLOCK take effect at once; naming a cancelled line, they do nothing.
+fn set_lock(cancelled: &[bool; LINES], flags: Flags, on: bool, k: usize, next: usize) -> Done
+    ensures { λ x. ⌜ ((r c : List ℤ) (out : List ℕ) → IsDone x r c out (lockOf (now (cancelled .entry)) (worldOf r c out flags) on k next)) × Within 0 x flags ⌝ }
+{
+    if LINES <= k {
+        return not_done(UNSOUND, flags);
+    }
+    if cancelled[k] {
+        return did_all(next, flags);
+    }
+    let mut f = flags;
+    f.locked[k] = on;
+    did_all(next, f)
+}
+
+// M= and a number; SETAL, LOCK, UNLOCK and a number in brackets.
+fn command(
+    code: &[u32; SIZE],
+    numbers: &[u8; LINES],
+    cancelled: &[bool; LINES],
+    out: &mut [u8; ORDERS],
+    flags: Flags,
+    number: u8,
+    w: u32,
+    p: usize,
+) -> Done
+    requires { ⌜ (p < setSize) × (flags .count < maxOrders) ⌝ }
+    ensures { λ x. ⌜ ((r c : List ℤ) → IsDone x r c (now (out .exit)) (commandOf (now (code .entry)) (now (numbers .entry)) (now (cancelled .entry)) number (worldOf r c (now (out .entry)) flags) w p)) × Within 1 x flags ⌝ }
+{
+    let n = whole_of(token_at(code, p + 2));
+    if w == M {
+        return add_order(
+            out,
+            flags,
+            Order {
+                kind: Kind::M,
+                line: number,
+                target: 0,
+                value: n as i32,
+            },
+            p + 3,
+        );
+    }
+    if w == SETAL {
+        return add_order(
+            out,
+            flags,
+            Order {
+                kind: Kind::Setal,
+                line: number,
+                target: 0,
+                value: n as i32,
+            },
+            p + 4,
+        );
+    }
+    set_lock(cancelled, flags, w == LOCK, rank_in(numbers, n), p + 4)
+}
+
+// The action at place p, of the line with that number; where one more order has no room, no sound set and no beat is so.
+pub fn action(
+    code: &[u32; SIZE],
+    numbers: &[u8; LINES],
+    cancelled: &[bool; LINES],
+    r: &mut [i32; RS],
+    cells: &mut [i32; CELLS],
+    out: &mut [u8; ORDERS],
+    flags: Flags,
+    number: u8,
+    p: usize,
+) -> Done
+    ensures { λ x. ⌜ IsDone x (now (r .exit)) (now (cells .exit)) (now (out .exit)) (roomForOne (flags .count) (actionOf (now (code .entry)) (now (numbers .entry)) (now (cancelled .entry)) number (worldOf (now (r .entry)) (now (cells .entry)) (now (out .entry)) flags) p)) × Within 1 x flags ⌝ }
+{
+    if MAX_ORDERS <= flags.count {
+        return not_done(UNSOUND, flags);
+    }
+    let w = token_at(code, p);
+    if w == END {
+        return not_done(UNSOUND, flags);
+    }
+    if is_variable(w) {
+        return assign(code, r, cells, flags, w, p);
+    }
+    if is_drive(w) {
+        return drive(code, r, cells, out, flags, number, w, p);
+    }
+    command(code, numbers, cancelled, out, flags, number, w, p)
+}

@@ -1,0 +1,150 @@
+// The host's calls: lock, unlock, cancel and reset. Each answers a code, 0 for success, and the state.
+ghost use mathlib.Core.Path.{_≡_};
+ghost use Prim.Native.Nat.{_≤_};
+ghost use lib.ListN.{length};
+ghost use Rattle.engine.specs.Calls.{lockCall, unlockCall, cancelCall, resetCancelled, resetCall, lockedCall, zeroed};
+ghost use Rattle.tokens.specs.Token.{maxLines};
+use crate::find::find;
+use crate::set::Lines;
+use crate::set::sound_lines;
+use crate::sound::is_state_sound;
+use crate::state::State;
+use tokens::token::LINES;
+use tokens::token::SIZE;
+use working::variables::COUNT_AT;
+use working::variables::MARKER_AT;
+use working::variables::TIMERS;
+
+pub const UNSOUND: u8 = 22;
+
+// What a call answers.
+pub struct Called {
+    pub code: u8,
+    pub state: State,
+}
+
+fn set_lock(set: &[u32; SIZE], state: State, n: u32, on: bool) -> Called
+    ensures { λ x. ⌜ x ≡ lockedCall (now (set .entry)) state n on ⌝ }
+{
+    let f = find(set, state, n);
+    let code = f.code;
+    if code != 0 {
+        return Called {
+            code: code,
+            state: state,
+        };
+    }
+    let k = f.rank;
+    let mut next = state;
+    next.locked[k] = on;
+    Called {
+        code: 0,
+        state: next,
+    }
+}
+
+// The line with the number n is locked.
+pub fn lock(set: &[u32; SIZE], state: State, n: u32) -> Called
+    ensures { λ x. ⌜ x ≡ lockCall (now (set .entry)) state n ⌝ }
+{
+    set_lock(set, state, n, true)
+}
+
+// The line with the number n is unlocked.
+pub fn unlock(set: &[u32; SIZE], state: State, n: u32) -> Called
+    ensures { λ x. ⌜ x ≡ unlockCall (now (set .entry)) state n ⌝ }
+{
+    set_lock(set, state, n, false)
+}
+
+// The line with the number n is cancelled, until the next load.
+pub fn cancel(set: &[u32; SIZE], state: State, n: u32) -> Called
+    ensures { λ x. ⌜ x ≡ cancelCall (now (set .entry)) state n ⌝ }
+{
+    let f = find(set, state, n);
+    let code = f.code;
+    if code != 0 {
+        return Called {
+            code: code,
+            state: state,
+        };
+    }
+    let k = f.rank;
+    let mut next = state;
+    next.locked[k] = false;
+    next.cancelled[k] = true;
+    next.memory[k] = false;
+    Called {
+        code: 0,
+        state: next,
+    }
+}
+
+// Every ID line is cancelled.
+fn cancel_ids(lines: Lines, cancelled: [bool; LINES]) -> [bool; LINES]
+    requires { ⌜ lines .count ≤ maxLines ⌝ }
+    ensures { λ x. ⌜ x ≡ resetCancelled (lines .items) cancelled (lines .count) ⌝ }
+{
+    let mut now_cancelled = cancelled;
+    let count = lines.count;
+    let items = lines.items;
+    let mut k: usize = 0;
+    while k < count {
+        let l = items[k];
+        let ids = l.ids;
+        if !ids {
+            now_cancelled[k] = true;
+        }
+        k += 1;
+    }
+    now_cancelled
+}
+
+// Markers, parameters and timers are 0.
+fn zero_cells(cells: &mut [i32])
+    requires { ⌜ 88 ≤ length (now cells) ⌝ }
+    ensures { λ x. ⌜ now (cells .exit) ≡ zeroed (now (cells .entry)) ⌝ }
+{
+    let mut i = MARKER_AT;
+    while i < COUNT_AT {
+        cells[i] = 0;
+        i += 1;
+    }
+}
+
+// Reset: ID lines are cancelled, IDS lines unlocked and their memory cleared, markers and parameters 0, timers stopped at 0; R, FIFOs and outputs stay.
+pub fn reset(set: &[u32; SIZE], state: State) -> Called
+    ensures { λ x. ⌜ x ≡ resetCall (now (set .entry)) state ⌝ }
+{
+    let lines = sound_lines(set);
+    let sound = lines.sound;
+    if !sound {
+        return Called {
+            code: UNSOUND,
+            state: state,
+        };
+    }
+    if !is_state_sound(lines.count, state) {
+        return Called {
+            code: UNSOUND,
+            state: state,
+        };
+    }
+    let mut cells = state.cells;
+    zero_cells(&mut cells);
+    let r = state.r;
+    let was = state.cancelled;
+    let cancelled = cancel_ids(lines, was);
+    let next = State {
+        r: r,
+        cells: cells,
+        runs: [false; TIMERS],
+        locked: [false; LINES],
+        cancelled: cancelled,
+        memory: [false; LINES],
+    };
+    Called {
+        code: 0,
+        state: next,
+    }
+}

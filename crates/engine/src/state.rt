@@ -1,0 +1,30 @@
+// The state: every variable but the inputs, and for each line, by rank, whether it is locked, cancelled, and its memory.
+ghost use mathlib.Core.Path.{_≡_};
+ghost use Rattle.engine.specs.State.{powerOn};
+use tokens::token::LINES;
+use working::variables::RS;
+use working::variables::STATE_CELLS;
+use working::variables::TIMERS;
+
+pub struct State {
+    pub r: [i32; RS],
+    pub cells: [i32; STATE_CELLS],
+    pub runs: [bool; TIMERS],
+    pub locked: [bool; LINES],
+    pub cancelled: [bool; LINES],
+    pub memory: [bool; LINES],
+}
+
+// The state of power-on: all 0, timers stopped, no lock, cancel or memory.
+pub fn power_on() -> State
+    ensures { λ x. ⌜ x ≡ powerOn ⌝ }
+{
+    State {
+        r: [0i32; RS],
+        cells: [0i32; STATE_CELLS],
+        runs: [false; TIMERS],
+        locked: [false; LINES],
+        cancelled: [false; LINES],
+        memory: [false; LINES],
+    }
+}

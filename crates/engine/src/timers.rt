@@ -1,0 +1,29 @@
+// The timers among the cells of a state.
+ghost use mathlib.Core.Path.{_≡_};
+ghost use Prim.Native.Nat.{_+_};
+ghost use Rattle.engine.specs.Timers.{grownCells};
+use values::time::Millis;
+use values::time::Timer;
+use values::time::grown;
+use working::variables::STATE_CELLS;
+use working::variables::TIMER_AT;
+use working::variables::TIMERS;
+
+// The running timers grow.
+pub fn grow_timers(cells: &mut [i32; STATE_CELLS], runs: &[bool; TIMERS])
+    ensures { λ x. ⌜ now (cells .exit) ≡ grownCells (now (runs .entry)) (now (cells .entry)) 8 ⌝ }
+{
+    let mut i: usize = 0;
+    while i < TIMERS {
+        let at = TIMER_AT + i;
+        let v = cells[at];
+        let on = runs[i];
+        let t = grown(Timer {
+            time: Millis(v),
+            runs: on,
+        });
+        let next = t.time.0;
+        cells[at] = next;
+        i += 1;
+    }
+}

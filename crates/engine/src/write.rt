@@ -1,0 +1,211 @@
+// Writes to variables: a FIFO, a cell, R.
+ghost use mathlib.Core.Path.{_≡_};
+ghost use mathlib.Core.Bool.{true, false};
+ghost use Prim.Native.Nat.{_+_, _≤_};
+ghost use lib.ListN.{length};
+ghost use Rattle.tokens.specs.Token.{isFifo};
+ghost use Rattle.tokens.specs.Index.{isInside};
+ghost use Rattle.engine.specs.Write.{changeAnswer, changed, runAt, withRunAt, changeFifo, takeOldest, writeFifo, writeCell, writeTo};
+ghost use Rattle.engine.specs.WriteHeld.{varsOf, IsChanged, IsCelled, IsWritten};
+ghost use Rattle.values.specs.Fifo.{places};
+use tokens::index::is_inside;
+use tokens::token::FIFO1;
+use tokens::token::MARKER;
+use tokens::token::OUT;
+use tokens::token::PARAM;
+use tokens::token::R;
+use tokens::token::TIMER;
+use tokens::token::is_fifo;
+use values::arithmetic::Worked;
+use values::arithmetic::output;
+use values::arithmetic::whole_units;
+use values::fifo::Moved;
+use values::fifo::PLACES;
+use values::fifo::append;
+use values::fifo::empty;
+use values::fifo::remove;
+use values::time::Millis;
+use values::time::Timer;
+use values::time::written;
+use working::variables::CELLS;
+use working::variables::COUNT_CELLS;
+use working::variables::RS;
+use working::variables::RUNS;
+use working::variables::TIMERS;
+use working::variables::UNSOUND;
+use working::variables::cell_of;
+use working::variables::count_of;
+
+// What a write gives.
+pub struct Wrote {
+    pub good: bool,
+    pub alarm: u8,
+    pub runs: [bool; TIMERS],
+}
+
+// A FIFO's part and count: 0 appends, 1 removes, else empties by a written value.
+fn change(part: &mut [i32], op: u8, count: u8, v: i32) -> Moved
+    ensures { λ x. ⌜ x ≡ changeAnswer op (now (part .entry)) count v ⌝ }
+    ensures { λ x. ⌜ now (part .exit) ≡ changed op (now (part .entry)) count v ⌝ }
+{
+    if op == 0 {
+        return append(part, count, v);
+    }
+    if op == 1 {
+        return remove(part, count);
+    }
+    empty(part, count, v)
+}
+
+// The run of R from place `start` on is changed so.
+fn change_run(r: &mut [i32], start: usize, op: u8, count: u8, v: i32) -> Moved
+    requires { ⌜ start + places ≤ length (now r) ⌝ }
+    ensures { λ x. ⌜ x ≡ changeAnswer op (runAt start (now (r .entry))) count v ⌝ }
+    ensures { λ x. ⌜ now (r .exit) ≡ withRunAt start (now (r .entry)) (changed op (runAt start (now (r .entry))) count v) ⌝ }
+{
+    let end = start + PLACES;
+    change(&mut r[start..end], op, count, v)
+}
+
+// The FIFO with the word w is changed, in R and in its count.
+fn change_fifo(r: &mut [i32; RS], cells: &mut [i32; CELLS], op: u8, w: u32, v: i32) -> Worked
+    requires { ⌜ isFifo w ≡ true ⌝ }
+    ensures { λ x. ⌜ IsChanged x (now (r .exit)) (now (cells .exit)) (changeFifo (now (r .entry)) (now (cells .entry)) op w v) ⌝ }
+{
+    let k = (w - FIFO1) as usize;
+    let at = COUNT_CELLS + k;
+    let count = count_of(cells[at]);
+    match change_run(r, RUNS + PLACES * k, op, count, v) {
+        Moved::Done(u, n) => {
+            cells[at] = n as i32;
+            Worked::Value(u)
+        }
+        Moved::Alarm(a) => Worked::Alarm(a),
+        Moved::Unfit => Worked::Alarm(UNSOUND),
+    }
+}
+
+// The oldest value of the FIFO with the word w is removed; a word that names no FIFO is in no sound set.
+pub fn take_oldest(r: &mut [i32; RS], cells: &mut [i32; CELLS], w: u32) -> Worked
+    ensures { λ x. ⌜ IsChanged x (now (r .exit)) (now (cells .exit)) (takeOldest (now (r .entry)) (now (cells .entry)) w) ⌝ }
+{
+    if !is_fifo(w) {
+        return Worked::Alarm(UNSOUND);
+    }
+    change_fifo(r, cells, 1, w, 0)
+}
+
+fn written_so(runs: [bool; TIMERS]) -> Wrote
+    ensures { λ x. ⌜ x ≡ record { good = true; alarm = 0; runs = runs } ⌝ }
+{
+    Wrote {
+        good: true,
+        alarm: 0,
+        runs: runs,
+    }
+}
+
+fn not_written(alarm: u8, runs: [bool; TIMERS]) -> Wrote
+    ensures { λ x. ⌜ x ≡ record { good = false; alarm = alarm; runs = runs } ⌝ }
+{
+    Wrote {
+        good: false,
+        alarm: alarm,
+        runs: runs,
+    }
+}
+
+// Writing FIFO [0] appends, writing [4] empties.
+fn write_fifo(
+    r: &mut [i32; RS],
+    cells: &mut [i32; CELLS],
+    runs: [bool; TIMERS],
+    w: u32,
+    i: u32,
+    v: i32,
+) -> Wrote
+    requires { ⌜ isFifo w ≡ true ⌝ }
+    ensures { λ x. ⌜ IsWritten x (now (r .exit)) (now (cells .exit)) (writeFifo (varsOf (now (r .entry)) (now (cells .entry)) runs) w i v) ⌝ }
+{
+    if i == 0 {
+        return match change_fifo(r, cells, 0, w, v) {
+            Worked::Value(_) => written_so(runs),
+            Worked::Alarm(a) => not_written(a, runs),
+        };
+    }
+    if i != 4 {
+        return not_written(UNSOUND, runs);
+    }
+    match change_fifo(r, cells, 2, w, v) {
+        Worked::Value(_) => written_so(runs),
+        Worked::Alarm(a) => not_written(a, runs),
+    }
+}
+
+// Outputs, markers, parameters and timers, each by its own rule.
+fn write_cell(cells: &mut [i32; CELLS], runs: [bool; TIMERS], w: u32, i: u32, v: i32) -> Wrote
+    requires { ⌜ (isInside w i ≡ true) × ((isFifo w ≡ false) × (w ≡ 37 → ⊥)) ⌝ }
+    ensures { λ x. ⌜ IsCelled x (now (cells .exit)) (writeCell (now (cells .entry)) runs w i v) ⌝ }
+{
+    let at = cell_of(w, i);
+    if w == MARKER {
+        cells[at] = whole_units(v);
+        return written_so(runs);
+    }
+    if w == PARAM {
+        cells[at] = v;
+        return written_so(runs);
+    }
+    if w == OUT {
+        return match output(v) {
+            Worked::Value(u) => {
+                cells[at] = u;
+                written_so(runs)
+            }
+            Worked::Alarm(a) => not_written(a, runs),
+        };
+    }
+    if w != TIMER {
+        return not_written(UNSOUND, runs);
+    }
+    let n = i as usize;
+    let before = cells[at];
+    let ran = runs[n];
+    let t = written(
+        Timer {
+            time: Millis(before),
+            runs: ran,
+        },
+        v,
+    );
+    let time = t.time.0;
+    cells[at] = time;
+    let mut now_runs = runs;
+    now_runs[n] = t.runs;
+    written_so(now_runs)
+}
+
+// The variable w[i] is written.
+pub fn write(
+    r: &mut [i32; RS],
+    cells: &mut [i32; CELLS],
+    runs: [bool; TIMERS],
+    w: u32,
+    i: u32,
+    v: i32,
+) -> Wrote
+    ensures { λ x. ⌜ IsWritten x (now (r .exit)) (now (cells .exit)) (writeTo (varsOf (now (r .entry)) (now (cells .entry)) runs) w i v) ⌝ }
+{
+    if !is_inside(w, i) {
+        return not_written(UNSOUND, runs);
+    }
+    if w == R {
+        let at = i as usize;
+        r[at] = v;
+        return written_so(runs);
+    }
+    if is_fifo(w) {
+        return write_fifo(r, cells, runs, w, i, v);
+    }
+    write_cell(cells, runs, w, i, v)
+}

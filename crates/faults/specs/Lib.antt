@@ -1,2 +1,0 @@
--- SingleFault: the faults of single things. Definitions only.
-pub mod SingleFault

@@ -1,2 +1,0 @@
--- Laws that the proofs of the functions cite: a turn of each loop over the lines of a draft.
-pub mod ArrangeLaws

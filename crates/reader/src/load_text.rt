@@ -1,0 +1,52 @@
+// Loading a text.
+ghost use mathlib.Core.Path.{_≡_};
+ghost use Rattle.reader.specs.Load.{loadAnswer, loadSet};
+ghost use Rattle.reader.specs.DraftLoad.{answered};
+use crate::arrange::arrange;
+use crate::arrange::first_unknown;
+use crate::put::put;
+use crate::read::read_text;
+use engine::State;
+use engine::empty_set;
+use engine::power_on;
+use tokens::token::SIZE;
+
+pub const NOT_IN_SET: u8 = 12;
+
+// What loading answers: 0 and 0 if the text is taken, else a code and a line; and the state, that of power-on in each case.
+pub struct Loaded {
+    pub code: u8,
+    pub line: u32,
+    pub state: State,
+}
+
+fn answered(code: u8, line: u32) -> Loaded
+    ensures { λ x. ⌜ x ≡ answered code line ⌝ }
+{
+    Loaded {
+        code: code,
+        line: line,
+        state: power_on(),
+    }
+}
+
+// Loading a text into a set: 1 and 2 first, then the first faulty line, then 12. On any code the set is empty.
+pub fn load(text: &[u8], set: &mut [u32; SIZE]) -> Loaded
+    ensures { λ x. ⌜ x ≡ loadAnswer (now (text .entry)) ⌝ }
+    ensures { λ x. ⌜ now (set .exit) ≡ loadSet (now (text .entry)) ⌝ }
+{
+    *set = empty_set();
+    let mut s = empty_set();
+    let d = read_text(text, &mut s);
+    let code = d.code;
+    if code != 0 {
+        return answered(code, d.line);
+    }
+    let k = first_unknown(&s, d);
+    if k != 0 {
+        return answered(NOT_IN_SET, k);
+    }
+    put(set, 0, d.count as u32);
+    arrange(&s, d, set);
+    answered(0, 0)
+}

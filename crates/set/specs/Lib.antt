@@ -1,2 +1,0 @@
--- Set: what the array of a set holds, and when that is sound. Definitions only.
-pub mod Set

@@ -1,2 +1,0 @@
--- BeatLaws: a beat as it is put.
-pub mod BeatLaws

@@ -1,2 +1,0 @@
--- Laws that the proofs of the functions cite: TextLaws on the draft of a text.
-pub mod TextLaws

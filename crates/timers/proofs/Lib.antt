@@ -1,2 +1,0 @@
--- TimerLaws: timers that a loop grows.
-pub mod TimerLaws

@@ -1,2 +1,0 @@
--- Timers: the timers among the cells. Definitions only.
-pub mod Timers

@@ -1,0 +1,26 @@
+-- How the code holds what it prints and reads: text put at a place of a buffer, what a beat line lends, what a session came to. Definitions only.
+use mathlib.Core.Path.{_≡_}
+use mathlib.Core.List.{List}
+use Prim.Native.Nat.{ℕ}
+use lib.ListN.{length}
+use Rattle.text.specs.PutAt.{putAt}
+use Rattle.transcript.specs.declared.session.Session.{Session}
+use Rattle.transcript.specs.declared.session.Stepped.{Stepped}
+use Rattle.transcript.specs.declared.session.Ended.{Ended}
+use Rattle.transcript.specs.Machine.{Machine, Fed, Work}
+use Rattle.transcript.specs.Put.{IsPut}
+
+abbrev pub machineOf : List ℕ → List ℕ → Session → Machine
+machineOf t s x = record { text = t; lines = s; session = x }
+
+-- a session came to f: its text and its set, and what was put into a buffer at a place
+pub record IsFed (f : Fed) (text lines buffer : List ℕ) (at : ℕ) (x : Ended) (exit : List ℕ) : Type 0 where
+  pub machine : f .machine ≡ machineOf text lines (x .session)
+  pub output : IsPut buffer at (f .output) exit (x .end)
+
+-- a piece of input came to w
+pub record IsWork (w : Work) (text lines buffer : List ℕ) (x : Stepped) (exit : List ℕ) : Type 0 where
+  pub machine : w .machine ≡ machineOf text lines (x .session)
+  pub taken : x .taken ≡ w .taken
+  pub written : x .written ≡ length (w .output)
+  pub output : exit ≡ putAt buffer 0 (w .output)

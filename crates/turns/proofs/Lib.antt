@@ -1,2 +1,0 @@
--- Laws that several proofs cite: TurnLaws on turns.
-pub mod TurnLaws

@@ -1,0 +1,165 @@
+// The variables that a line reads: where they lie, and what each reads.
+//
+// R lies in an array of its own. The others lie in one array of cells: the inputs, analogues and positions of the beat, then outputs, markers,
+// parameters, timers, and the counts of the four FIFOs. The same table stands in specs/Variables.
+ghost use mathlib.Core.Path.{_≡_};
+ghost use mathlib.Core.Bool.{true};
+ghost use Rattle.tokens.specs.Token.{isFifo};
+ghost use Rattle.working.specs.Variables.{cellOf, cellStart, asCount, fromSeen, fifoValue, fifoAt, variableValue};
+use tokens::index::first_index;
+use tokens::index::is_inside;
+use tokens::token::FIFO1;
+use tokens::token::IM;
+use tokens::token::INA;
+use tokens::token::MARKER;
+use tokens::token::OUT;
+use tokens::token::PARAM;
+use tokens::token::R;
+use tokens::token::TIMER;
+use tokens::token::is_fifo;
+use values::arithmetic::Worked;
+use values::fifo::PLACES;
+use values::fifo::Seen;
+
+// The places of R.
+pub const RS: usize = 164;
+// The cells, and the first of them for each variable that is no R and no FIFO.
+pub const CELLS: usize = 122;
+
+pub const IN_CELLS: usize = 0;
+
+pub const INA_CELLS: usize = 16;
+
+pub const IM_CELLS: usize = 24;
+
+pub const OUT_CELLS: usize = 30;
+
+pub const MARKER_CELLS: usize = 46;
+
+pub const PARAM_CELLS: usize = 78;
+
+pub const TIMER_CELLS: usize = 110;
+
+// The counts of the four FIFOs.
+pub const COUNT_CELLS: usize = 118;
+// The cells of a state: outputs 0..15, markers 16..47, parameters 48..79, timers 80..87, counts of the FIFOs 88..91. In a beat the input cells stand
+// before them: inputs, analogues, positions.
+pub const STATE_CELLS: usize = 92;
+
+pub const MARKER_AT: usize = 16;
+
+pub const TIMER_AT: usize = 80;
+
+pub const COUNT_AT: usize = 88;
+
+pub const TIMERS: usize = 8;
+// Where the first FIFO's run of R starts.
+pub const RUNS: usize = 100;
+// Document 01's code for what no sound set or state has.
+pub const UNSOUND: u8 = 22;
+
+fn cell_start(w: u32) -> usize
+    ensures { λ r. ⌜ r ≡ cellStart w ⌝ }
+{
+    if w == MARKER {
+        return MARKER_CELLS;
+    }
+    if w == PARAM {
+        return PARAM_CELLS;
+    }
+    if w == TIMER {
+        return TIMER_CELLS;
+    }
+    if w == OUT {
+        return OUT_CELLS;
+    }
+    if w == INA {
+        return INA_CELLS;
+    }
+    if w == IM { IM_CELLS } else { IN_CELLS }
+}
+
+// The cell of w[i].
+pub fn cell_of(w: u32, i: u32) -> usize
+    ensures { λ r. ⌜ r ≡ cellOf w i ⌝ }
+{
+    let start = cell_start(w);
+    let first = first_index(w);
+    if i < first {
+        return start;
+    }
+    start + (i - first) as usize
+}
+
+// A cell as the count of a FIFO; what is no count is beyond every count.
+pub fn count_of(cell: i32) -> u8
+    ensures { λ r. ⌜ r ≡ asCount cell ⌝ }
+{
+    if cell < 0 {
+        return 255;
+    }
+    if (PLACES as i32) < cell {
+        return 255;
+    }
+    cell as u8
+}
+
+fn from_seen(s: Seen) -> Worked
+    ensures { λ r. ⌜ r ≡ fromSeen s ⌝ }
+{
+    match s {
+        Seen::Value(v) => Worked::Value(v),
+        Seen::Alarm(k) => Worked::Alarm(k),
+        Seen::Unfit => Worked::Alarm(UNSOUND),
+    }
+}
+
+// What a FIFO, its part of R and its count, reads at [1] to [4].
+fn fifo_value(part: &[i32], count: u8, i: u32) -> Worked
+    ensures { λ r. ⌜ r ≡ fifoValue (now (part .entry)) count i ⌝ }
+{
+    if i == 1 {
+        return from_seen(values::fifo::oldest(part, count));
+    }
+    if i == 2 {
+        return from_seen(values::fifo::newest(part, count));
+    }
+    if i == 3 {
+        return from_seen(values::fifo::total(part, count));
+    }
+    if i == 4 {
+        return from_seen(values::fifo::count_value(part, count));
+    }
+    Worked::Alarm(UNSOUND)
+}
+
+// What the FIFO of the word w reads, over R and the cells.
+fn fifo_at(r: &[i32; RS], cells: &[i32; CELLS], w: u32, i: u32) -> Worked
+    requires { ⌜ isFifo w ≡ true ⌝ }
+    ensures { λ x. ⌜ x ≡ fifoAt (now (r .entry)) (now (cells .entry)) w i ⌝ }
+{
+    let k = (w - FIFO1) as usize;
+    let start = RUNS + PLACES * k;
+    let end = start + PLACES;
+    let count = count_of(cells[COUNT_CELLS + k]);
+    let all = &r[..];
+    fifo_value(&all[start..end], count, i)
+}
+
+// What the variable w[i] reads.
+pub fn variable_value(r: &[i32; RS], cells: &[i32; CELLS], w: u32, i: u32) -> Worked
+    ensures { λ x. ⌜ x ≡ variableValue (now (r .entry)) (now (cells .entry)) w i ⌝ }
+{
+    if !is_inside(w, i) {
+        return Worked::Alarm(UNSOUND);
+    }
+    if w == R {
+        let at = i as usize;
+        return Worked::Value(r[at]);
+    }
+    if is_fifo(w) {
+        return fifo_at(r, cells, w, i);
+    }
+    let at = cell_of(w, i);
+    Worked::Value(cells[at])
+}

@@ -1,4 +1,0 @@
-// What an action writes to a variable.
-//
-// No public call asks anything of its caller.
-pub mod write;
