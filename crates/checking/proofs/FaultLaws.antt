@@ -7,17 +7,18 @@ use native.Mathlib.Omega.{arith}
 use lib.Dec.{eqb}
 use lib.ListN.{getD, drop}
 use borrow.Author.Tests.{not-true, not-false, eq-eqb, ne-eqb}
+use Rattle.values.specs.Codes.{tooDeep, notInGrammar}
 use Rattle.checking.specs.declared.check.Line.{Line}
 use Rattle.tokens.specs.Token.{setSize, FIFO1, FIFO4, END, EQUALS, OPEN, CLOSE, IDS, DO, M, isFactor, isTerm, isFifo, isCall, isKeyword, isWhole, whole}
-use Rattle.tokens.specs.Reading.{Read, read, ends, then, isIndexed, indexAt, expressionAt}
+use Rattle.tokens.specs.Descent.{Read, read, ends, then, isIndexed, indexAt, expressionAt}
 use Rattle.checking.specs.Fault.{sight, faultFor, isRemoval, assignmentAt, commandAt, actionAt, countFault, actionsAt, numberOf, faultyLine, judged, lineParts, bodyAt, restAt}
-use Rattle.tokens.specs.SingleFault.{notInGrammar, tooDeep, lower, codeFault, callFault, opensTooMany}
+use Rattle.tokens.specs.SingleFault.{lower, codeFault, callFault, opensTooMany}
 use Rattle.values.specs.Choice.{both, chosen, refused}
 use Rattle.tokens.proofs.Between.{tested}
-use Rattle.checking.specs.Seen.{nextOf, faultOf, faulted, bodyFrom}
-use Rattle.checking.specs.Brackets.{Plain, InGrammar, Joined}
-use Rattle.checking.proofs.SeenLaws.{Made, faulted-stop, faulted-read}
-use Rattle.checking.proofs.CountLaws.{plain-high}
+use Rattle.checking.specs.SightNumber.{nextOf, faultOf, faulted, bodyFrom}
+use Rattle.checking.specs.Brackets.{NoBracket, InGrammar, Joined}
+use Rattle.checking.proofs.SightNumberLaws.{Made, faulted-stop, faulted-read}
+use Rattle.checking.proofs.BracketCountLaws.{other-high}
 
 -- ---- actions
 
@@ -26,11 +27,11 @@ unfolding isRemoval
 removal s p w t e f = rw (e, f)
 
 -- it stands there as FIFO and its index
-pub removal-tokens : (s : List ℕ) (p : ℕ) → isRemoval s p ≡ true → Plain (getD s p 0) × (isIndexed s (getD s p 0) p ≡ true)
+pub removal-tokens : (s : List ℕ) (p : ℕ) → isRemoval s p ≡ true → NoBracket (getD s p 0) × (isIndexed s (getD s p 0) p ≡ true)
 unfolding isRemoval
 removal-tokens s p h =
     let a = both (isFifo (getD s p 0)) _ h in
-    (plain-high FIFO1 FIFO4 (getD s p 0) (omega arith) refl (a .0), both (isIndexed s (getD s p 0) p) _ (a .1) .0)
+    (other-high FIFO1 FIFO4 (getD s p 0) (omega arith) refl (a .0), both (isIndexed s (getD s p 0) p) _ (a .1) .0)
 
 -- M=, or SETAL, LOCK or UNLOCK: the word w at p, by the test that told
 module _ (s : List ℕ) (kw w p : ℕ) where
@@ -219,9 +220,9 @@ module _ (s : List ℕ) (p kw cp f q : ℕ) {t : ℕ} (e : t ≡ getD s q 0) whe
 
 -- behind the head: no keyword, or the keyword kw
 module _ (s : List ℕ) (p f kw : ℕ) {o : Bool} (k : kw ≡ getD s (p + 3) 0) (i : o ≡ isKeyword kw) where
-  pub rest-plain : not o ≡ true → bodyAt s p 0 0 f (p + 3) ≡ restAt s p f
+  pub rest-always : not o ≡ true → bodyAt s p 0 0 f (p + 3) ≡ restAt s p f
   unfolding restAt
-  rest-plain h = sym (simp (restAt, tested isKeyword k i (not-true o h)))
+  rest-always h = sym (simp (restAt, tested isKeyword k i (not-true o h)))
 
   pub rest-keyword : not o ≡ false → bodyFrom s p kw (p + 4) (then (faultFor true (expressionAt s sight setSize (p + 4))) (λ g q. read (lower f g) q)) ≡ restAt s p f
   unfolding restAt

@@ -1,7 +1,7 @@
--- Laws that several proofs cite: SeenLaws on what the check sees as one number, CountLaws on the count of brackets, SumLaws on a sum or an expression that begins with an operand, SignLaws on signs one behind the other,
+-- Laws that several proofs cite: SightNumberLaws on what the check sees as one number, BracketCountLaws on the count of brackets, SumLaws on a sum or an expression that begins with an operand, SignLaws on signs one behind the other,
 -- FaultLaws on the faults and parts of a line.
-mod SeenLaws
-mod CountLaws
+mod SightNumberLaws
+mod BracketCountLaws
 mod SumLaws
 mod FaultLaws
 mod SignLaws

@@ -8,10 +8,10 @@ use lib.Dec.{eqb}
 use lib.ListN.{getD}
 use borrow.Author.Tests.{eqb-true, eq-eqb, ne-eqb}
 use Rattle.tokens.specs.Token.{MINUS}
-use Rattle.tokens.specs.Reading.{Read, read, ends, then, readOperand}
+use Rattle.tokens.specs.Descent.{Read, read, ends, then, readOperand}
 use Rattle.tokens.specs.SingleFault.{lower, wantingFault}
 use Rattle.checking.specs.Fault.{Sight, sight}
-use Rattle.checking.specs.Seen.{signedSight, signsBehind}
+use Rattle.checking.specs.SightNumber.{signedSight, signsBehind}
 use Rattle.tokens.proofs.Arms.{minus-arm}
 
 module _ (s : List ℕ) (k p t n : ℕ) (e : t ≡ getD s (p + 1) 0) where

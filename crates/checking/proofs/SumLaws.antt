@@ -6,7 +6,7 @@ use Prim.Native.Nat.{ℕ, _≤_}
 use native.Mathlib.Omega.{arith}
 use borrow.Author.Tests.{not-true, le-leb}
 use Rattle.tokens.specs.Token.{CLOSE, PLUS, MINUS, TIMES, OVER, between, isFactor, isTerm, isCompare, isLogic}
-use Rattle.tokens.specs.Reading.{Read, read, ends, token, readSum, readExpression}
+use Rattle.tokens.specs.Descent.{Read, read, ends, token, readSum, readExpression}
 use Rattle.tokens.proofs.Between.{outside, never}
 use Rattle.tokens.proofs.Rows.{row-stops, row-ends, product-begins, sum-begins, expression-is, rest-none}
 use Rattle.checking.specs.Fault.{Sight, sight}

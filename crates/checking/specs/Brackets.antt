@@ -5,10 +5,10 @@ use Prim.Native.Nat.{ℕ, _+_, _≤_}
 use lib.ListN.{drop, getD}
 use Rattle.tokens.specs.Token.{END, OPEN, CLOSE}
 use Rattle.tokens.specs.SingleFault.{bracketsOpen, opensTooMany}
-use Rattle.checking.specs.Seen.{nextOf, depthOf}
+use Rattle.checking.specs.SightNumber.{nextOf, depthOf}
 
 -- a token that the count passes over
-pub record Plain (t : ℕ) : Type 0 where
+pub record NoBracket (t : ℕ) : Type 0 where
   pub no-end : t ≡ END → ⊥
   pub no-open : t ≡ OPEN → ⊥
   pub no-close : t ≡ CLOSE → ⊥

@@ -4,10 +4,11 @@ use mathlib.Core.List.{List}
 use Prim.Native.Nat.{ℕ, zero, suc, _+_}
 use lib.Dec.{eqb, leb}
 use lib.ListN.{drop}
+use Rattle.values.specs.Codes.{tooDeep, notInGrammar, tooManyActions}
 use Rattle.checking.specs.declared.check.Line.{Line}
 use Rattle.tokens.specs.Token.{setSize, END, EQUALS, OPEN, CLOSE, IDS, DO, M, isVariable, isFifo, isDrive, isCall, isKeyword, isId, isFactor, isTerm, isLogic, isWhole, whole, maxActions}
-use Rattle.tokens.specs.Reading.{token, good, Read, read, ends, then, Meaning, isIndexed, indexAt, sumAt, expressionAt}
-use Rattle.tokens.specs.SingleFault.{callFault, codeFault, idFault, lower, notInGrammar, numberFault, opensTooMany, readFault, tooDeep, tooMany, unless, wantingFault, writeFault}
+use Rattle.tokens.specs.Descent.{token, good, Read, read, ends, then, Meaning, isIndexed, indexAt, sumAt, expressionAt}
+use Rattle.tokens.specs.SingleFault.{callFault, codeFault, idFault, lower, numberFault, opensTooMany, readFault, unless, wantingFault, writeFault}
 
 -- ---- 5 to 8 in an expression
 
@@ -50,7 +51,7 @@ faultFor t (ends k) = ends k
 
 -- 10: at most eight actions
 unfoldable pub countFault : ℕ → ℕ
-countFault n = unless (leb n maxActions) tooMany
+countFault n = unless (leb n maxActions) tooManyActions
 
 -- a line's number as a byte; 0 for one above 255
 unfoldable pub numberOf : ℕ → ℕ

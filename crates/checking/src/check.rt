@@ -7,25 +7,23 @@ ghost use mathlib.Core.Bool.{true, false};
 ghost use Prim.Native.Nat.{_+_, _<_, _≤_};
 ghost use lib.ListN.{drop};
 ghost use Rattle.tokens.specs.Token.{PLUS, OVER, between, setSize};
-ghost use Rattle.tokens.specs.Reading.{read, then, readOperand, readClose, readVariable, readTruth, factorsBehind, termsBehind, rowBehind, restBehind, sumAt, expressionAt};
-ghost use Rattle.tokens.specs.SingleFault.{lower, notInGrammar, opensTooMany};
-ghost use Rattle.checking.specs.Seen.{nextOf, faultOf, sightOf, seen, faulted, signedSight, signsBehind, bodyFrom};
-ghost use Rattle.checking.specs.Brackets.{Plain, CountsOn, InGrammar, Counted, Onward, InBrackets, SameEnd, Joined};
+ghost use Rattle.tokens.specs.Descent.{read, then, readOperand, readClose, readVariable, readTruth, factorsBehind, termsBehind, rowBehind, restBehind, sumAt, expressionAt};
+ghost use Rattle.tokens.specs.SingleFault.{lower, opensTooMany};
+ghost use Rattle.values.specs.Codes.{notInGrammar};
+ghost use Rattle.checking.specs.SightNumber.{nextOf, faultOf, sightOf, seen, faulted, signedSight, signsBehind, bodyFrom};
+ghost use Rattle.checking.specs.Brackets.{NoBracket, CountsOn, InGrammar, Counted, Onward, InBrackets, SameEnd, Joined};
 ghost use Rattle.checking.specs.Fault.{sight, isRemoval, assignedAt, assignmentAt, commandAt, actionAt, countFault, actionsAt, numberOf, faultyLine, judged, lineParts, restAt, lineAt, lowest};
-use crate::seen::DEEPER;
-use crate::seen::NOTHING;
-use crate::seen::deeper_of;
-use crate::seen::depth_of;
-use crate::seen::fault_of;
-use crate::seen::is_faultless;
-use crate::seen::next_of;
-use crate::seen::number_seen;
-use crate::seen::truth_of;
-use crate::seen::truth_seen;
+use crate::sight_number::DEEPER;
+use crate::sight_number::NOTHING;
+use crate::sight_number::deeper_of;
+use crate::sight_number::depth_of;
+use crate::sight_number::fault_of;
+use crate::sight_number::is_faultless;
+use crate::sight_number::next_of;
+use crate::sight_number::number_seen;
+use crate::sight_number::truth_of;
+use crate::sight_number::truth_seen;
 use tokens::fault::BRACKETS;
-use tokens::fault::NOT_IN_GRAMMAR;
-use tokens::fault::TOO_DEEP;
-use tokens::fault::TOO_MANY;
 use tokens::fault::call_fault;
 use tokens::fault::code_fault;
 use tokens::fault::id_fault;
@@ -67,6 +65,9 @@ use tokens::token::is_variable;
 use tokens::token::is_whole;
 use tokens::token::token_at;
 use tokens::token::whole_of;
+use values::codes::NOT_IN_GRAMMAR;
+use values::codes::TOO_DEEP;
+use values::codes::TOO_MANY_ACTIONS;
 
 // How many brackets may be open.
 const DEEPEST: u8 = BRACKETS as u8;
@@ -143,13 +144,13 @@ fn as_wanted(wanted: bool, a: u64) -> u64
 }
 
 // How many more minus signs stand directly behind the one at place `at`, at most `most`: behind one more the check sees the same.
-fn signs_behind(code: &[u32; SIZE], at: usize, most: usize) -> usize
+fn signs_behind(set: &[u32; SIZE], at: usize, most: usize) -> usize
     requires { ⌜ at < setSize ⌝ }
-    ensures { λ x. ⌜ (x ≡ signsBehind (now (code .entry)) most at) × ((x ≤ most) × (at + x < setSize)) ⌝ }
+    ensures { λ x. ⌜ (x ≡ signsBehind (now (set .entry)) most at) × ((x ≤ most) × (at + x < setSize)) ⌝ }
 {
     let mut n: usize = 0;
     while n < most {
-        if token_at(code, at + n + 1) != MINUS {
+        if token_at(set, at + n + 1) != MINUS {
             return n;
         }
         n += 1;
@@ -158,14 +159,14 @@ fn signs_behind(code: &[u32; SIZE], at: usize, most: usize) -> usize
 }
 
 // What was seen in brackets, if they are closed behind it: one deeper, but nine stays nine.
-fn closed(code: &[u32; SIZE], a: u64) -> u64
-    ensures { λ x. ⌜ (seen x ≡ then (seen a) (readClose (now (code .entry)) sight)) × InBrackets (now (code .entry)) a x ⌝ }
+fn closed(set: &[u32; SIZE], a: u64) -> u64
+    ensures { λ x. ⌜ (seen x ≡ then (seen a) (readClose (now (set .entry)) sight)) × InBrackets (now (set .entry)) a x ⌝ }
 {
     let i = next_of(a);
     if i == 0 {
         return a;
     }
-    if token_at(code, i) != CLOSE {
+    if token_at(set, i) != CLOSE {
         return NOTHING;
     }
     if DEEPEST < depth_of(a) {
@@ -174,20 +175,20 @@ fn closed(code: &[u32; SIZE], a: u64) -> u64
     a + DEEPER + 1
 }
 
-fn variable(code: &[u32; SIZE], w: u32, at: usize) -> u64
+fn variable(set: &[u32; SIZE], w: u32, at: usize) -> u64
     requires { ⌜ at < setSize ⌝ }
-    ensures { λ x. ⌜ (seen x ≡ readVariable (now (code .entry)) sight w at) × Counted (now (code .entry)) (at + 1) x ⌝ }
+    ensures { λ x. ⌜ (seen x ≡ readVariable (now (set .entry)) sight w at) × Counted (now (set .entry)) (at + 1) x ⌝ }
 {
-    if !is_indexed(code, w, at) {
+    if !is_indexed(set, w, at) {
         return NOTHING;
     }
-    number_seen(read_fault(w, index_at(code, w, at)), 0, at + 4)
+    number_seen(read_fault(w, index_at(set, w, at)), 0, at + 4)
 }
 
 // TRUE, FALSE or nothing of the grammar.
-fn truth(code: &[u32; SIZE], t: u32, at: usize) -> u64
+fn truth(set: &[u32; SIZE], t: u32, at: usize) -> u64
     requires { ⌜ ((t ≡ 0 → ⊥) → at < setSize) ⌝ }
-    ensures { λ x. ⌜ (seen x ≡ readTruth (now (code .entry)) sight t at) × ((InGrammar x → Plain t) × Counted (now (code .entry)) (at + 1) x) ⌝ }
+    ensures { λ x. ⌜ (seen x ≡ readTruth (now (set .entry)) sight t at) × ((InGrammar x → NoBracket t) × Counted (now (set .entry)) (at + 1) x) ⌝ }
 {
     if t == TRUE {
         return truth_seen(0, 0, at + 1);
@@ -211,35 +212,35 @@ fn is_arithmetic(t: u32) -> bool
 // ---- the walk over an expression. An operand with no operator behind it is handed up at once, first of all before a ), and what joins stands apart: so a bracket costs
 // two calls.
 
-fn operand(code: &[u32; SIZE], at: usize, left: usize) -> u64
-    ensures { λ x. ⌜ (seen x ≡ readOperand (now (code .entry)) sight left at) × Counted (now (code .entry)) at x ⌝ }
+fn operand(set: &[u32; SIZE], at: usize, left: usize) -> u64
+    ensures { λ x. ⌜ (seen x ≡ readOperand (now (set .entry)) sight left at) × Counted (now (set .entry)) at x ⌝ }
 {
     if left == 0 {
         return NOTHING;
     }
-    let t = token_at(code, at);
+    let t = token_at(set, at);
     if NUMBER <= t {
         return number_seen(number_fault(t - NUMBER), 0, at + 1);
     }
     if is_variable(t) {
-        return variable(code, t, at);
+        return variable(set, t, at);
     }
     if t == OPEN {
-        return closed(code, expression(code, at + 1, left - 1));
+        return closed(set, expression(set, at + 1, left - 1));
     }
     if t == MINUS {
-        let n = signs_behind(code, at, left - 1);
-        return as_wanted(false, operand(code, at + n + 1, left - 1 - n));
+        let n = signs_behind(set, at, left - 1);
+        return as_wanted(false, operand(set, at + n + 1, left - 1 - n));
     }
     if t == NOT {
-        return as_wanted(true, operand(code, at + 1, left - 1));
+        return as_wanted(true, operand(set, at + 1, left - 1));
     }
-    truth(code, t, at)
+    truth(set, t, at)
 }
 
 // What was seen, and as many factors as follow.
-fn factors(code: &[u32; SIZE], w: u64, left: usize) -> u64
-    ensures { λ x. ⌜ (seen x ≡ then (seen w) (factorsBehind (now (code .entry)) sight left)) × Onward (now (code .entry)) w x ⌝ }
+fn factors(set: &[u32; SIZE], w: u64, left: usize) -> u64
+    ensures { λ x. ⌜ (seen x ≡ then (seen w) (factorsBehind (now (set .entry)) sight left)) × Onward (now (set .entry)) w x ⌝ }
 {
     let mut a = w;
     let mut rounds = left;
@@ -248,19 +249,19 @@ fn factors(code: &[u32; SIZE], w: u64, left: usize) -> u64
         if i == 0 {
             return a;
         }
-        let t = token_at(code, i);
+        let t = token_at(set, i);
         if !is_factor(t) {
             return a;
         }
-        a = join(false, false, a, operand(code, i + 1, left));
+        a = join(false, false, a, operand(set, i + 1, left));
         rounds -= 1;
     }
     a
 }
 
 // What was seen, and as many terms as follow.
-fn terms(code: &[u32; SIZE], w: u64, left: usize) -> u64
-    ensures { λ x. ⌜ (seen x ≡ then (seen w) (termsBehind (now (code .entry)) sight left)) × Onward (now (code .entry)) w x ⌝ }
+fn terms(set: &[u32; SIZE], w: u64, left: usize) -> u64
+    ensures { λ x. ⌜ (seen x ≡ then (seen w) (termsBehind (now (set .entry)) sight left)) × Onward (now (set .entry)) w x ⌝ }
 {
     let mut a = w;
     let mut rounds = left;
@@ -269,7 +270,7 @@ fn terms(code: &[u32; SIZE], w: u64, left: usize) -> u64
         if i == 0 {
             return a;
         }
-        let t = token_at(code, i);
+        let t = token_at(set, i);
         if !is_term(t) {
             return a;
         }
@@ -277,30 +278,30 @@ fn terms(code: &[u32; SIZE], w: u64, left: usize) -> u64
             false,
             false,
             a,
-            factors(code, operand(code, i + 1, left), left),
+            factors(set, operand(set, i + 1, left), left),
         );
         rounds -= 1;
     }
     a
 }
 
-fn sum(code: &[u32; SIZE], at: usize, left: usize) -> u64
-    ensures { λ x. ⌜ (seen x ≡ sumAt (now (code .entry)) sight left at) × Counted (now (code .entry)) at x ⌝ }
+fn sum(set: &[u32; SIZE], at: usize, left: usize) -> u64
+    ensures { λ x. ⌜ (seen x ≡ sumAt (now (set .entry)) sight left at) × Counted (now (set .entry)) at x ⌝ }
 {
-    let a = operand(code, at, left);
+    let a = operand(set, at, left);
     let i = next_of(a);
     if i == 0 {
         return a;
     }
-    if !is_arithmetic(token_at(code, i)) {
+    if !is_arithmetic(token_at(set, i)) {
         return a;
     }
-    terms(code, factors(code, a, left), left)
+    terms(set, factors(set, a, left), left)
 }
 
 // What was seen, and the row of the operator `first` behind it.
-fn row(code: &[u32; SIZE], first: u32, w: u64, left: usize) -> u64
-    ensures { λ x. ⌜ (seen x ≡ then (seen w) (rowBehind (now (code .entry)) sight first left)) × Onward (now (code .entry)) w x ⌝ }
+fn row(set: &[u32; SIZE], first: u32, w: u64, left: usize) -> u64
+    ensures { λ x. ⌜ (seen x ≡ then (seen w) (rowBehind (now (set .entry)) sight first left)) × Onward (now (set .entry)) w x ⌝ }
 {
     let mut a = w;
     let mut rounds = left;
@@ -309,69 +310,69 @@ fn row(code: &[u32; SIZE], first: u32, w: u64, left: usize) -> u64
         if i == 0 {
             return a;
         }
-        let t = token_at(code, i);
+        let t = token_at(set, i);
         if !is_row(first, t) {
             return a;
         }
-        a = join(true, true, a, sum(code, i + 1, left));
+        a = join(true, true, a, sum(set, i + 1, left));
         rounds -= 1;
     }
     a
 }
 
 // A sum that was seen, and the comparison or the row behind it.
-fn compared(code: &[u32; SIZE], a: u64, left: usize) -> u64
-    ensures { λ x. ⌜ (seen x ≡ then (seen a) (restBehind (now (code .entry)) sight left)) × Onward (now (code .entry)) a x ⌝ }
+fn compared(set: &[u32; SIZE], a: u64, left: usize) -> u64
+    ensures { λ x. ⌜ (seen x ≡ then (seen a) (restBehind (now (set .entry)) sight left)) × Onward (now (set .entry)) a x ⌝ }
 {
     let i = next_of(a);
     if i == 0 {
         return a;
     }
-    let t = token_at(code, i);
+    let t = token_at(set, i);
     if is_compare(t) {
-        return join(false, true, a, sum(code, i + 1, left));
+        return join(false, true, a, sum(set, i + 1, left));
     }
     if !is_logic(t) {
         return a;
     }
-    row(code, t, a, left)
+    row(set, t, a, left)
 }
 
-fn expression(code: &[u32; SIZE], at: usize, left: usize) -> u64
-    ensures { λ x. ⌜ (seen x ≡ expressionAt (now (code .entry)) sight left at) × Counted (now (code .entry)) at x ⌝ }
+fn expression(set: &[u32; SIZE], at: usize, left: usize) -> u64
+    ensures { λ x. ⌜ (seen x ≡ expressionAt (now (set .entry)) sight left at) × Counted (now (set .entry)) at x ⌝ }
 {
-    let a = operand(code, at, left);
+    let a = operand(set, at, left);
     let i = next_of(a);
     if i == 0 {
         return a;
     }
-    let t = token_at(code, i);
+    let t = token_at(set, i);
     if t == CLOSE {
         return a;
     }
     if !is_arithmetic(t) {
-        return compared(code, a, left);
+        return compared(set, a, left);
     }
-    compared(code, terms(code, factors(code, a, left), left), left)
+    compared(set, terms(set, factors(set, a, left), left), left)
 }
 
 // ---- actions
 
 // FIFO [0] as a whole, unbracketed right side.
-pub fn is_removal(code: &[u32; SIZE], at: usize) -> bool
-    ensures { λ x. ⌜ x ≡ isRemoval (now (code .entry)) at ⌝ }
+pub fn is_removal(set: &[u32; SIZE], at: usize) -> bool
+    ensures { λ x. ⌜ x ≡ isRemoval (now (set .entry)) at ⌝ }
 {
-    let w = token_at(code, at);
+    let w = token_at(set, at);
     if !is_fifo(w) {
         return false;
     }
-    if !is_indexed(code, w, at) {
+    if !is_indexed(set, w, at) {
         return false;
     }
-    if index_at(code, w, at) != 0 {
+    if index_at(set, w, at) != 0 {
         return false;
     }
-    let t = token_at(code, at + 4);
+    let t = token_at(set, at + 4);
     if is_factor(t) {
         return false;
     }
@@ -379,41 +380,41 @@ pub fn is_removal(code: &[u32; SIZE], at: usize) -> bool
 }
 
 // The right side of an assignment to a variable.
-fn assigned(code: &[u32; SIZE], at: usize) -> u64
+fn assigned(set: &[u32; SIZE], at: usize) -> u64
     requires { ⌜ at < setSize + 5 ⌝ }
-    ensures { λ x. ⌜ (faulted x ≡ assignedAt (now (code .entry)) setSize at) × Counted (now (code .entry)) at x ⌝ }
+    ensures { λ x. ⌜ (faulted x ≡ assignedAt (now (set .entry)) setSize at) × Counted (now (set .entry)) at x ⌝ }
 {
-    if is_removal(code, at) {
+    if is_removal(set, at) {
         return number_seen(0, 0, at + 4);
     }
-    as_wanted(false, sum(code, at, SIZE))
+    as_wanted(false, sum(set, at, SIZE))
 }
 
 // An action that begins with a word, its index and =.
-fn assignment(code: &[u32; SIZE], w: u32, at: usize) -> u64
+fn assignment(set: &[u32; SIZE], w: u32, at: usize) -> u64
     requires { ⌜ at < setSize ⌝ }
-    ensures { λ x. ⌜ (faulted x ≡ assignmentAt (now (code .entry)) setSize w at) × ((InGrammar x → Plain w) × Counted (now (code .entry)) (at + 5) x) ⌝ }
+    ensures { λ x. ⌜ (faulted x ≡ assignmentAt (now (set .entry)) setSize w at) × ((InGrammar x → NoBracket w) × Counted (now (set .entry)) (at + 5) x) ⌝ }
 {
     if is_variable(w) {
-        let a = number_seen(write_fault(w, index_at(code, w, at)), 0, at);
-        return join_faults(a, assigned(code, at + 5));
+        let a = number_seen(write_fault(w, index_at(set, w, at)), 0, at);
+        return join_faults(a, assigned(set, at + 5));
     }
     if is_drive(w) {
-        return as_wanted(false, sum(code, at + 5, SIZE));
+        return as_wanted(false, sum(set, at + 5, SIZE));
     }
     NOTHING
 }
 
 // M= and a number; or SETAL, LOCK or UNLOCK and a number in brackets.
-fn command(code: &[u32; SIZE], keyword: u32, w: u32, at: usize) -> u64
+fn command(set: &[u32; SIZE], keyword: u32, w: u32, at: usize) -> u64
     requires { ⌜ at < setSize ⌝ }
-    ensures { λ x. ⌜ (faulted x ≡ commandAt (now (code .entry)) keyword w at) × ((InGrammar x → Plain w) × Counted (now (code .entry)) (at + 1) x) ⌝ }
+    ensures { λ x. ⌜ (faulted x ≡ commandAt (now (set .entry)) keyword w at) × ((InGrammar x → NoBracket w) × Counted (now (set .entry)) (at + 1) x) ⌝ }
 {
-    let n = token_at(code, at + 2);
+    let n = token_at(set, at + 2);
     if !is_whole(n) {
         return NOTHING;
     }
-    let sign = token_at(code, at + 1);
+    let sign = token_at(set, at + 1);
     if w == M {
         if sign != EQUALS {
             return NOTHING;
@@ -426,51 +427,51 @@ fn command(code: &[u32; SIZE], keyword: u32, w: u32, at: usize) -> u64
     if sign != OPEN {
         return NOTHING;
     }
-    if token_at(code, at + 3) != CLOSE {
+    if token_at(set, at + 3) != CLOSE {
         return NOTHING;
     }
     number_seen(call_fault(w, whole_of(n)), 1, at + 4)
 }
 
-fn action(code: &[u32; SIZE], keyword: u32, at: usize) -> u64
-    ensures { λ x. ⌜ (faulted x ≡ actionAt (now (code .entry)) keyword setSize at) × Counted (now (code .entry)) at x ⌝ }
+fn action(set: &[u32; SIZE], keyword: u32, at: usize) -> u64
+    ensures { λ x. ⌜ (faulted x ≡ actionAt (now (set .entry)) keyword setSize at) × Counted (now (set .entry)) at x ⌝ }
 {
-    let w = token_at(code, at);
+    let w = token_at(set, at);
     if w == END {
         return NOTHING;
     }
-    if !is_indexed(code, w, at) {
-        return command(code, keyword, w, at);
+    if !is_indexed(set, w, at) {
+        return command(set, keyword, w, at);
     }
-    if token_at(code, at + 4) != EQUALS {
+    if token_at(set, at + 4) != EQUALS {
         return NOTHING;
     }
-    assignment(code, w, at)
+    assignment(set, w, at)
 }
 
 // 10 for more actions than a line may have.
 fn count_fault(n: usize) -> u8
     ensures { λ x. ⌜ x ≡ countFault n ⌝ }
 {
-    if n <= ACTIONS { 0 } else { TOO_MANY }
+    if n <= ACTIONS { 0 } else { TOO_MANY_ACTIONS }
 }
 
 // What was seen, and one or more actions behind it up to the line's end: the lowest fault of all.
-fn actions(code: &[u32; SIZE], keyword: u32, w: u64) -> u64
+fn actions(set: &[u32; SIZE], keyword: u32, w: u64) -> u64
     requires { ⌜ InGrammar w ⌝ }
-    ensures { λ x. ⌜ (faulted x ≡ actionsAt (now (code .entry)) keyword setSize setSize 0 (faultOf w) (nextOf w)) × Onward (now (code .entry)) w x ⌝ }
+    ensures { λ x. ⌜ (faulted x ≡ actionsAt (now (set .entry)) keyword setSize setSize 0 (faultOf w) (nextOf w)) × Onward (now (set .entry)) w x ⌝ }
 {
     let mut low = w;
     let mut n: usize = 0;
     let mut rounds: usize = SIZE;
     while 0 < rounds {
-        low = join_faults(low, action(code, keyword, next_of(low)));
+        low = join_faults(low, action(set, keyword, next_of(low)));
         let i = next_of(low);
         if i == 0 {
             return NOTHING;
         }
         n += 1;
-        if token_at(code, i) == END {
+        if token_at(set, i) == END {
             return join_faults(low, number_seen(count_fault(n), 0, i));
         }
         rounds -= 1;
@@ -503,25 +504,25 @@ fn number_of(n: u32) -> u8
 
 // Whether the line at `at` opens too many brackets; `a` is what was read of it. The count goes on behind that, or, where it is too deep or nothing, is taken from the
 // line's start.
-fn is_too_deep(code: &[u32; SIZE], at: usize, a: u64) -> bool
-    requires { ⌜ Counted (now code) at a ⌝ }
-    ensures { λ x. ⌜ x ≡ opensTooMany (drop at (now (code .entry))) 0 ⌝ }
+fn is_too_deep(set: &[u32; SIZE], at: usize, a: u64) -> bool
+    requires { ⌜ Counted (now set) at a ⌝ }
+    ensures { λ x. ⌜ x ≡ opensTooMany (drop at (now (set .entry))) 0 ⌝ }
 {
     let i = next_of(a);
     if i == 0 {
-        return opens_too_many(code, at);
+        return opens_too_many(set, at);
     }
     if DEEPEST < depth_of(a) {
-        return opens_too_many(code, at);
+        return opens_too_many(set, at);
     }
-    opens_too_many(code, i)
+    opens_too_many(set, i)
 }
 
 // A line that is not in the grammar.
-fn refused(code: &[u32; SIZE], at: usize) -> Line
-    ensures { λ x. ⌜ x ≡ judged (now (code .entry)) at (faultyLine notInGrammar) ⌝ }
+fn refused(set: &[u32; SIZE], at: usize) -> Line
+    ensures { λ x. ⌜ x ≡ judged (now (set .entry)) at (faultyLine notInGrammar) ⌝ }
 {
-    if opens_too_many(code, at) {
+    if opens_too_many(set, at) {
         return faulty(TOO_DEEP);
     }
     faulty(NOT_IN_GRAMMAR)
@@ -529,17 +530,17 @@ fn refused(code: &[u32; SIZE], at: usize) -> Line
 
 // The parts of the line at `at`, if nothing is wrong with it; `a` is all that was read of it.
 fn parts(
-    code: &[u32; SIZE],
+    set: &[u32; SIZE],
     at: usize,
     keyword: u32,
     condition: usize,
     actions: usize,
     a: u64,
 ) -> Line
-    requires { ⌜ (at < setSize) × Counted (now code) at a ⌝ }
-    ensures { λ x. ⌜ x ≡ judged (now (code .entry)) at (lineParts (now (code .entry)) at keyword condition actions (faulted a)) ⌝ }
+    requires { ⌜ (at < setSize) × Counted (now set) at a ⌝ }
+    ensures { λ x. ⌜ x ≡ judged (now (set .entry)) at (lineParts (now (set .entry)) at keyword condition actions (faulted a)) ⌝ }
 {
-    if is_too_deep(code, at, a) {
+    if is_too_deep(set, at, a) {
         return faulty(TOO_DEEP);
     }
     let end = next_of(a);
@@ -552,8 +553,8 @@ fn parts(
     }
     Line {
         fault: 0,
-        number: number_of(whole_of(token_at(code, at + 2))),
-        ids: token_at(code, at) == IDS,
+        number: number_of(whole_of(token_at(set, at + 2))),
+        ids: token_at(set, at) == IDS,
         keyword: keyword,
         condition: condition,
         actions: actions,
@@ -562,39 +563,39 @@ fn parts(
 }
 
 // DO and the actions behind it; `a` is all that was read before them.
-fn body(code: &[u32; SIZE], at: usize, keyword: u32, condition: usize, a: u64) -> Line
-    requires { ⌜ (at < setSize) × Counted (now code) at a ⌝ }
-    ensures { λ x. ⌜ x ≡ judged (now (code .entry)) at (bodyFrom (now (code .entry)) at keyword condition (faulted a)) ⌝ }
+fn body(set: &[u32; SIZE], at: usize, keyword: u32, condition: usize, a: u64) -> Line
+    requires { ⌜ (at < setSize) × Counted (now set) at a ⌝ }
+    ensures { λ x. ⌜ x ≡ judged (now (set .entry)) at (bodyFrom (now (set .entry)) at keyword condition (faulted a)) ⌝ }
 {
     let i = next_of(a);
     if i == 0 {
-        return refused(code, at);
+        return refused(set, at);
     }
-    if token_at(code, i) != DO {
-        return refused(code, at);
+    if token_at(set, i) != DO {
+        return refused(set, at);
     }
     parts(
-        code,
+        set,
         at,
         keyword,
         condition,
         i + 1,
-        actions(code, keyword, a + 1),
+        actions(set, keyword, a + 1),
     )
 }
 
 // What follows a line's head: DO, or a keyword, an expression and DO; `fault` is the fault of the head.
-fn rest(code: &[u32; SIZE], at: usize, fault: u8) -> Line
-    requires { ⌜ (at < setSize) × CountsOn (now code) at 0 (at + 3) ⌝ }
-    ensures { λ x. ⌜ x ≡ judged (now (code .entry)) at (restAt (now (code .entry)) at fault) ⌝ }
+fn rest(set: &[u32; SIZE], at: usize, fault: u8) -> Line
+    requires { ⌜ (at < setSize) × CountsOn (now set) at 0 (at + 3) ⌝ }
+    ensures { λ x. ⌜ x ≡ judged (now (set .entry)) at (restAt (now (set .entry)) at fault) ⌝ }
 {
     let head = number_seen(fault, 0, at + 3);
-    let keyword = token_at(code, at + 3);
+    let keyword = token_at(set, at + 3);
     if !is_keyword(keyword) {
-        return body(code, at, 0, 0, head);
+        return body(set, at, 0, 0, head);
     }
-    let a = as_wanted(true, expression(code, at + 4, SIZE));
-    body(code, at, keyword, at + 4, join_faults(head, a))
+    let a = as_wanted(true, expression(set, at + 4, SIZE));
+    body(set, at, keyword, at + 4, join_faults(head, a))
 }
 
 // The same, field by field: to copy whole what was just written in parts makes the processor wait for all of them.
@@ -613,18 +614,18 @@ fn again(l: Line) -> Line
 }
 
 // The line that begins at place `at`: its lowest fault of 4 to 10, or its parts.
-pub fn line_at(code: &[u32; SIZE], at: usize) -> Line
-    ensures { λ x. ⌜ x ≡ lineAt (now (code .entry)) at ⌝ }
+pub fn line_at(set: &[u32; SIZE], at: usize) -> Line
+    ensures { λ x. ⌜ x ≡ lineAt (now (set .entry)) at ⌝ }
 {
-    if !is_id(token_at(code, at)) {
-        return refused(code, at);
+    if !is_id(token_at(set, at)) {
+        return refused(set, at);
     }
-    if token_at(code, at + 1) != EQUALS {
-        return refused(code, at);
+    if token_at(set, at + 1) != EQUALS {
+        return refused(set, at);
     }
-    let n = token_at(code, at + 2);
+    let n = token_at(set, at + 2);
     if !is_whole(n) {
-        return refused(code, at);
+        return refused(set, at);
     }
-    again(rest(code, at, id_fault(whole_of(n))))
+    again(rest(set, at, id_fault(whole_of(n))))
 }

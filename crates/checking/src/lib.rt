@@ -2,7 +2,7 @@
 //
 // No public call asks anything of its caller.
 mod check;
-mod seen;
+mod sight_number;
 
 pub use check::Line;
 pub use check::is_removal;

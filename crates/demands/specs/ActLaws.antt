@@ -1,4 +1,4 @@
--- What one turn by the rule, and the turns of a beat, do to the word of the lines that acted and to what the record says of conditions. Assumes nothing.
+-- What one turn by the rule, and the turns of a beat, do to the word of the lines that acted and to what the history says of conditions. Assumes nothing.
 use mathlib.Core.Path.{_≡_, refl, ap, _∙_}
 use mathlib.Core.Bool.{Bool, true, false, cond, _&&_, _||_, and-true}
 use mathlib.Core.List.{List, [], _∷_, _++_, map}
@@ -11,21 +11,21 @@ use lib.IntN.{ℤ}
 use lib.ListN.{getD}
 use borrow.Author.Tests.{eq-eqb, ne-eqb}
 use Rattle.values.specs.Numbers.{clash}
-use Rattle.tokens.specs.Reading.{Answer, good, stop, _>>=_}
+use Rattle.tokens.specs.Descent.{Answer, good, stop, _>>=_}
 use Rattle.working.specs.Operators.{isYes}
 use Rattle.working.specs.Working.{conditionValue}
 use Rattle.checking.specs.declared.check.Line.{Line}
 use Rattle.engine.specs.declared.set.Lines.{Lines}
 use Rattle.engine.specs.Set.{noLine}
-use Rattle.engine.specs.Action.{World, Note, fromGot}
+use Rattle.engine.specs.Action.{World, Note, fromValueOrAlarm}
 use Rattle.engine.specs.Actions.{actionsOf}
 use Rattle.engine.specs.Turn.{Entry, worked, locks, lockEntry, Turned, counted, doTurn}
-use Rattle.demands.specs.Record.{Record, after, only, orElse, isAutomatic, wasTrue, everTrue, takesByRule, triesByRule, actsByRule}
+use Rattle.demands.specs.History.{History, after, only, orElse, isAutomatic, wasTrue, everTrue, takesByRule, triesByRule, actsByRule}
 use Rattle.demands.specs.Run.{byRank, cancelledBy, tryByRule, turnByRule, turnsByRule}
 use Rattle.demands.specs.Acts.{isActed, isYesAnswer, conditionNow, triesNow, actsNow}
 use Rattle.soundness.specs.GoodAnswers.{Ok, is-ok, bind-ok}
-use Rattle.demands.specs.ActionLaws.{Fair, actions-fair}
-use Rattle.demands.specs.TurnLaws.{after-append}
+use Rattle.demands.specs.ActionRuleLaws.{Fair, actions-fair}
+use Rattle.demands.specs.TurnRuleLaws.{after-append}
 
 -- ---- a turn
 
@@ -46,21 +46,21 @@ not-it-either true v m = refl
 not-it-either false v m = refl
 
 -- locks and releases say nothing of conditions
-notes-ever : (ns : List Note) (j : ℕ) (r : Record) → everTrue j (after (map lockEntry ns) r) ≡ everTrue j r
+notes-ever : (ns : List Note) (j : ℕ) (r : History) → everTrue j (after (map lockEntry ns) r) ≡ everTrue j r
 notes-ever [] j r = refl
 notes-ever (n ∷ ns) j r = notes-ever ns j (locks (n .0) (n .1) ∷ r)
 
-notes-was : (ns : List Note) (j : ℕ) (r : Record) → wasTrue j (after (map lockEntry ns) r) ≡ wasTrue j r
+notes-was : (ns : List Note) (j : ℕ) (r : History) → wasTrue j (after (map lockEntry ns) r) ≡ wasTrue j r
 notes-was [] j r = refl
 notes-was (n ∷ ns) j r = notes-was ns j (locks (n .0) (n .1) ∷ r)
 
--- the word, and what the record says of conditions, after a turn in which the line of rank k acted or not (a), and worked its condition or not (w), which gave v
-pub record After (k : ℕ) (r : Record) (x : World) (a w v : Bool) (t : Turned) : Type 0 where
+-- the word, and what the history says of conditions, after a turn in which the line of rank k acted or not (a), and worked its condition or not (w), which gave v
+pub record After (k : ℕ) (r : History) (x : World) (a w v : Bool) (t : Turned) : Type 0 where
   pub word : t .world .acted ≡ x .acted + cond a (2 ^ k) 0
   pub ever : (j : ℕ) → everTrue j (after (t .entries) r) ≡ w && (eqb k j && v) || everTrue j r
   pub was : (j : ℕ) → wasTrue j (after (t .entries) r) ≡ cond (w && eqb k j) v (wasTrue j r)
 
-module _ (s : List ℕ) (ls : Lines) (l : Line) (k : ℕ) (r : Record) (x : World) where
+module _ (s : List ℕ) (ls : Lines) (l : Line) (k : ℕ) (r : History) (x : World) where
   do-after : (es : List Entry) (a w v : Bool) → ((j : ℕ) → everTrue j (after es r) ≡ w && (eqb k j && v) || everTrue j r) → ((j : ℕ) → wasTrue j (after es r) ≡ cond (w && eqb k j) v (wasTrue j r)) →
       Ok (After k r x a w v) (doTurn s (ls .numbers) (byRank (cancelledBy ls r)) (isAutomatic r) l k x es a)
   unfolding doTurn
@@ -75,7 +75,7 @@ module _ (s : List ℕ) (ls : Lines) (l : Line) (k : ℕ) (r : Record) (x : Worl
 
   try-after : Ok (After k r x (actsByRule (l .keyword) k r (triesByRule (l .keyword) k r && conditionNow s l x)) (triesByRule (l .keyword) k r) (conditionNow s l x)) (tryByRule s ls l k r x)
   unfolding tryByRule
-  try-after = go (triesByRule (l .keyword) k r) (fromGot (conditionValue s (x .vars .r) (x .vars .cells) (l .condition)))
+  try-after = go (triesByRule (l .keyword) k r) (fromValueOrAlarm (conditionValue s (x .vars .r) (x .vars .cells) (l .condition)))
     where
       acted : Bool → Bool
       acted v = actsByRule (l .keyword) k r v
@@ -127,13 +127,13 @@ module _ (s : List ℕ) (ls : Lines) where
   abbrev lineOf : ℕ → Line
   lineOf k = getD (ls .items) k noLine
 
-  -- the line of rank i is not among them: the record says of its condition what it said before
-  turns-other : (i n k : ℕ) (r : Record) (x : World) → ((j : ℕ) → k ≤ j → j < k + n → eqb j i ≡ false) →
+  -- the line of rank i is not among them: the history says of its condition what it said before
+  turns-other : (i n k : ℕ) (r : History) (x : World) → ((j : ℕ) → k ≤ j → j < k + n → eqb j i ≡ false) →
       Ok (λ t. (everTrue i (after (t .entries) r) ≡ everTrue i r) × (wasTrue i (after (t .entries) r) ≡ wasTrue i r)) (turnsByRule s ls n k r x)
   unfolding turnsByRule
   turns-other i zero k r x h = (refl, refl)
   turns-other i (suc n) k r x h =
-      let P : Record → Turned → Type 0 = λ r t. (everTrue i (after (t .entries) r) ≡ everTrue i r) × (wasTrue i (after (t .entries) r) ≡ wasTrue i r) in
+      let P : History → Turned → Type 0 = λ r t. (everTrue i (after (t .entries) r) ≡ everTrue i r) × (wasTrue i (after (t .entries) r) ≡ wasTrue i r) in
       bind-ok (P r) (turnByRule s ls (lineOf k) k r x) _
       (λ t e. let a = is-ok _ (turnByRule s ls (lineOf k) k r x) t e (turn-after s ls (lineOf k) k r x) in
       bind-ok (P r) (turnsByRule s ls n (k + 1) (after (t .entries) r) (t .world)) _
@@ -144,7 +144,7 @@ module _ (s : List ℕ) (ls : Lines) where
       )))
 
   -- they add multiples of the first one's bit
-  turns-high : (n k : ℕ) (r : Record) (x : World) → Ok (λ t. (c : ℕ) × (t .world .acted ≡ x .acted + 2 ^ k * c)) (turnsByRule s ls n k r x)
+  turns-high : (n k : ℕ) (r : History) (x : World) → Ok (λ t. (c : ℕ) × (t .world .acted ≡ x .acted + 2 ^ k * c)) (turnsByRule s ls n k r x)
   unfolding turnsByRule
   turns-high zero k r x = (0, omega arith)
   turns-high (suc n) k r x =
@@ -156,7 +156,7 @@ module _ (s : List ℕ) (ls : Lines) where
       more (actsNow s (lineOf k) k r x) k (x .acted) (t .world .acted) (u .world .acted) (b .0) (a .word) (b .1)))
 
   -- and stay below the next one's
-  turns-low : (n k : ℕ) (r : Record) (x : World) → x .acted < 2 ^ k → Ok (λ t. t .world .acted < 2 ^ (k + n)) (turnsByRule s ls n k r x)
+  turns-low : (n k : ℕ) (r : History) (x : World) → x .acted < 2 ^ k → Ok (λ t. t .world .acted < 2 ^ (k + n)) (turnsByRule s ls n k r x)
   unfolding turnsByRule
   turns-low zero k r x h = let e : k + 0 ≡ k = omega arith in rw e h
   turns-low (suc n) k r x h =
@@ -169,7 +169,7 @@ module _ (s : List ℕ) (ls : Lines) where
       (turns-low n (k + 1) (after (t .entries) r) (t .world) (next-bit (actsNow s (lineOf k) k r x) k (x .acted) (t .world .acted) h (a .word))))))
 
   -- turns that ended well: the first one, and those after it
-  record First (n k : ℕ) (r : Record) (x : World) (t : Turned) : Type 0 where
+  record First (n k : ℕ) (r : History) (x : World) (t : Turned) : Type 0 where
     own : Turned
     rest : Turned
     taken : turnByRule s ls (lineOf k) k r x ≡ good own
@@ -177,7 +177,7 @@ module _ (s : List ℕ) (ls : Lines) where
     world : t .world ≡ rest .world
     written : after (t .entries) r ≡ after (rest .entries) (after (own .entries) r)
 
-  first : (n k : ℕ) (r : Record) (x : World) (t : Turned) → turnsByRule s ls (suc n) k r x ≡ good t → First n k r x t
+  first : (n k : ℕ) (r : History) (x : World) (t : Turned) → turnsByRule s ls (suc n) k r x ≡ good t → First n k r x t
   unfolding turnsByRule
   first n k r x t = go (turnByRule s ls (lineOf k) k r x) refl
     where
@@ -193,7 +193,7 @@ module _ (s : List ℕ) (ls : Lines) where
       go (stop c) p e = clash (cc)
 
   -- seen from the line of rank i, which is j lines on: the turns before it, its own, and those after it
-  record Seen (j k i : ℕ) (r : Record) (x : World) (t : Turned) : Type 0 where
+  record FifoValue (j k i : ℕ) (r : History) (x : World) (t : Turned) : Type 0 where
     before : Turned
     own : Turned
     rest : Turned
@@ -204,13 +204,13 @@ module _ (s : List ℕ) (ls : Lines) where
     world : t .world ≡ rest .world
     written : after (t .entries) r ≡ after (rest .entries) (after (own .entries) (after (before .entries) r))
 
-  seen-first : (n k : ℕ) (r : Record) (x : World) (t : Turned) → First n k r x t → Seen zero k k r x t
+  seen-first : (n k : ℕ) (r : History) (x : World) (t : Turned) → First n k r x t → FifoValue zero k k r x t
   unfolding turnsByRule
   seen-first n k r x t f =
       record { before = record { world = x; entries = [] }; own = f .own; rest = f .rest; left = n; come = refl; taken = f .taken; gone = f .gone; world = f .world; written = f .written }
 
-  seen-later : (j k i : ℕ) (r : Record) (x : World) (t own rest : Turned) → turnByRule s ls (lineOf k) k r x ≡ good own → t .world ≡ rest .world →
-      after (t .entries) r ≡ after (rest .entries) (after (own .entries) r) → Seen j (k + 1) i (after (own .entries) r) (own .world) rest → Seen (suc j) k i r x t
+  seen-later : (j k i : ℕ) (r : History) (x : World) (t own rest : Turned) → turnByRule s ls (lineOf k) k r x ≡ good own → t .world ≡ rest .world →
+      after (t .entries) r ≡ after (rest .entries) (after (own .entries) r) → FifoValue j (k + 1) i (after (own .entries) r) (own .world) rest → FifoValue (suc j) k i r x t
   unfolding turnsByRule
   seen-later j k i r x t own rest p w h f =
       let b = f .before in
@@ -227,7 +227,7 @@ module _ (s : List ℕ) (ls : Lines) where
         written = rw e (h ∙ f .written);
       }
 
-  seen : (n j k i : ℕ) (r : Record) (x : World) (t : Turned) → i ≡ k + j → j < n → turnsByRule s ls n k r x ≡ good t → Seen j k i r x t
+  seen : (n j k i : ℕ) (r : History) (x : World) (t : Turned) → i ≡ k + j → j < n → turnsByRule s ls n k r x ≡ good t → FifoValue j k i r x t
   seen zero j k i r x t p h e = absurd (omega arith)
   seen (suc n) zero k i r x t p h e = let q : i ≡ k = omega arith in rw q (seen-first n k r x t (first n k r x t e))
   seen (suc n) (suc j) k i r x t p h e =
@@ -235,7 +235,7 @@ module _ (s : List ℕ) (ls : Lines) where
       seen-later j k i r x t (f .own) (f .rest) (f .taken) (f .world) (f .written) (seen n j (k + 1) i (after (f .own .entries) r) (f .own .world) (f .rest) (omega arith) (omega arith) (f .gone))
 
   -- the turns of a beat from the first line on, which ended well, and what they did for the line of rank i
-  pub record Done (i : ℕ) (r : Record) (x : World) (t : Turned) : Type 0 where
+  pub record Done (i : ℕ) (r : History) (x : World) (t : Turned) : Type 0 where
     pub before : Turned
     pub come : turnsByRule s ls i 0 r x ≡ good before
     pub acted : isActed (t .world .acted) i ≡ actsNow s (lineOf i) i (after (before .entries) r) (before .world)
@@ -244,12 +244,12 @@ module _ (s : List ℕ) (ls : Lines) where
     pub ever : everTrue i (after (t .entries) r) ≡ triesNow (lineOf i) i (after (before .entries) r) && conditionNow s (lineOf i) (before .world) || everTrue i r
     pub was : wasTrue i (after (t .entries) r) ≡ cond (triesNow (lineOf i) i (after (before .entries) r)) (conditionNow s (lineOf i) (before .world)) (wasTrue i r)
 
-  pub done : (n i : ℕ) (r : Record) (x : World) (t : Turned) → i < n → x .acted ≡ 0 → turnsByRule s ls n 0 r x ≡ good t → Done i r x t
+  pub done : (n i : ℕ) (r : History) (x : World) (t : Turned) → i < n → x .acted ≡ 0 → turnsByRule s ls n 0 r x ≡ good t → Done i r x t
   done n i r x t h z e = go (seen n i 0 i r x t (omega arith) h e)
     where
-      go : Seen i 0 i r x t → Done i r x t
+      go : FifoValue i 0 i r x t → Done i r x t
       go f =
-          let r′ : Record = after (f .before .entries) r in
+          let r′ : History = after (f .before .entries) r in
           let a = is-ok _ _ (f .own) (f .taken) (turn-after s ls (lineOf i) i r′ (f .before .world)) in
           let low : f .before .world .acted < 2 ^ i = rw zero-add at (is-ok (λ t. t .world .acted < 2 ^ (0 + i)) _ (f .before) (f .come) (turns-low i 0 r x (omega arith))) in
           let high = is-ok (λ t. (c : ℕ) × (t .world .acted ≡ f .own .world .acted + 2 ^ (i + 1) * c)) _ (f .rest) (f .gone) (turns-high (f .left) (i + 1) (after (f .own .entries) r′) (f .own .world)) in
@@ -266,7 +266,7 @@ module _ (s : List ℕ) (ls : Lines) where
           }
 
   -- no line beyond the set's has its bit
-  pub no-other : (n i : ℕ) (r : Record) (x : World) (t : Turned) → n ≤ i → x .acted ≡ 0 → turnsByRule s ls n 0 r x ≡ good t → isActed (t .world .acted) i ≡ false
+  pub no-other : (n i : ℕ) (r : History) (x : World) (t : Turned) → n ≤ i → x .acted ≡ 0 → turnsByRule s ls n 0 r x ≡ good t → isActed (t .world .acted) i ≡ false
   no-other n i r x t h z e =
       let low : t .world .acted < 2 ^ n = rw zero-add at (is-ok (λ t. t .world .acted < 2 ^ (0 + n)) _ t e (turns-low n 0 r x (omega arith))) in
       let p : t .world .acted < 2 ^ i = omega (arith, pow-le-pow-right {n = 2} (omega arith) h) in

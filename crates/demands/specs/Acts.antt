@@ -4,12 +4,12 @@ use mathlib.Core.List.{List, [], _∷_}
 use Prim.Native.Nat.{ℕ, _/_, _%_, _^_}
 use lib.Dec.{eqb}
 use lib.IntN.{ℤ}
-use Rattle.tokens.specs.Reading.{Answer, good, stop}
+use Rattle.tokens.specs.Descent.{Answer, good, stop}
 use Rattle.working.specs.Operators.{isYes}
 use Rattle.working.specs.Working.{conditionValue}
 use Rattle.checking.specs.declared.check.Line.{Line}
-use Rattle.engine.specs.Action.{World, fromGot}
-use Rattle.demands.specs.Record.{Record, takesByRule, triesByRule, actsByRule}
+use Rattle.engine.specs.Action.{World, fromValueOrAlarm}
+use Rattle.demands.specs.History.{History, takesByRule, triesByRule, actsByRule}
 use Rattle.soundness.specs.Call.{Call, doBeat, doLock, doUnlock, doCancel, doReset}
 use Rattle.demands.specs.Run.{Reply}
 
@@ -23,14 +23,14 @@ isYesAnswer (good a) = isYes (a .0)
 isYesAnswer (stop c) = false
 
 abbrev pub conditionNow : List ℕ → Line → World → Bool
-conditionNow s l x = isYesAnswer (fromGot (conditionValue s (x .vars .r) (x .vars .cells) (l .condition)))
+conditionNow s l x = isYesAnswer (fromValueOrAlarm (conditionValue s (x .vars .r) (x .vars .cells) (l .condition)))
 
--- by the rule the line of rank k takes a turn, and works its condition, where r is the record so far
-abbrev pub triesNow : Line → ℕ → Record → Bool
+-- by the rule the line of rank k takes a turn, and works its condition, where r is the history so far
+abbrev pub triesNow : Line → ℕ → History → Bool
 triesNow l k r = takesByRule l k r && triesByRule (l .keyword) k r
 
 -- by the rule it takes a turn, and acts, where x is the world in which its turn comes; a condition that is not worked counts as no
-abbrev pub actsNow : List ℕ → Line → ℕ → Record → World → Bool
+abbrev pub actsNow : List ℕ → Line → ℕ → History → World → Bool
 actsNow s l k r x = takesByRule l k r && actsByRule (l .keyword) k r (triesByRule (l .keyword) k r && conditionNow s l x)
 
 -- has the line of rank k acted since the last start, the load or a reset that was taken: looking back over the calls and their replies

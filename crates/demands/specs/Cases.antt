@@ -8,7 +8,7 @@ use lib.ListN.{replicate}
 use Rattle.tokens.specs.Token.{END, EQUALS, SAME, OPEN, CLOSE, LEFT, RIGHT, ID, IDS, WHEN, WHENEVER, FROM, EVERY, DO, IN, OUT, M, LOCK, wholeToken}
 use Rattle.values.specs.Value.{inRange, valued, lessThan, equalTo, wholeUnits, outputOf}
 use Rattle.values.specs.Time.{grownTimer}
-use Rattle.tokens.specs.Reading.{isIndex, indexOf, isIndexed, indexAt, joined, more, readProduct, readSum, readRest, readExpression, readVariable, operandFrom, readOperand, sumAt, expressionAt}
+use Rattle.tokens.specs.Descent.{isIndex, indexOf, isIndexed, indexAt, joined, more, readProduct, readSum, readRest, readExpression, readVariable, operandFrom, readOperand, sumAt, expressionAt}
 use Rattle.tokens.specs.Index.{isInside}
 use Rattle.working.specs.Variables.{cellOf, variableValue}
 use Rattle.tokens.specs.SingleFault.{lower, opensTooMany, wantingFault, numberFault, readFault, isWritable, writeFault, codeFault, idFault, callFault}
@@ -26,7 +26,7 @@ use Rattle.engine.specs.Actions.{actionsOf}
 use Rattle.engine.specs.Keyword.{tries, acts, remembers}
 use Rattle.engine.specs.Turn.{takesTurn, doTurn, tryTurn, turnOf, turnsFrom}
 use Rattle.engine.specs.Beat.{areInputs, begun, ended, beatOf, beatAnswer, beatBuffer}
-use Rattle.engine.specs.Find.{foundAt, found}
+use Rattle.engine.specs.NamedLine.{foundAt, found}
 use Rattle.engine.specs.Calls.{called, lockedCall, lockCall, unlockCall, cancelCall, resetCancelled, zeroed, resetState, resetCall}
 use Rattle.soundness.specs.Call.{Call, doBeat, doLock, doUnlock, doCancel, doReset}
 use Rattle.demands.specs.Run.{run, step, runFrom}

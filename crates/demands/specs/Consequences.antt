@@ -12,37 +12,37 @@ use lib.ListN.{length, getD}
 use Rattle.values.specs.Numbers.{clash}
 use Rattle.values.specs.Choice.{either}
 use Rattle.tokens.specs.Token.{WHEN, EVERY}
-use Rattle.tokens.specs.Reading.{Answer, good, stop, _>>=_}
+use Rattle.tokens.specs.Descent.{Answer, good, stop, _>>=_}
 use Rattle.working.specs.Operators.{isYes}
 use Rattle.working.specs.Working.{conditionValue}
 use Rattle.checking.specs.declared.check.Line.{Line}
 use Rattle.engine.specs.declared.set.Lines.{Lines}
 use Rattle.engine.specs.declared.state.State.{State}
-use Rattle.engine.specs.declared.find.Found.{Found}
+use Rattle.engine.specs.declared.named_line.Found.{Found}
 use Rattle.engine.specs.declared.calls.Called.{Called}
 use Rattle.engine.specs.Set.{noLine, soundLines}
 use Rattle.engine.specs.Sound.{isSound}
 use Rattle.engine.specs.Write.{Vars}
-use Rattle.engine.specs.Action.{World, Note, Did, fromGot}
+use Rattle.engine.specs.Action.{World, Note, Did, fromValueOrAlarm}
 use Rattle.engine.specs.Actions.{actionsOf}
 use Rattle.engine.specs.Turn.{Entry, beatIn, worked, locks, cancels, resets, Turned, counted, doTurn, turnsFrom}
 use Rattle.engine.specs.Beat.{bufferSize, areInputs, begun, beatOf, answered, beatAnswer}
-use Rattle.engine.specs.Find.{found}
+use Rattle.engine.specs.NamedLine.{found}
 use Rattle.engine.specs.Calls.{withLocked, called, lockedCall, lockCall, unlockCall}
 use Rattle.engine.proofs.SetLaws.{sound-count}
-use Rattle.demands.specs.Record.{Record, after, isAutomatic, everTrue, wasTrue, takesByRule, triesByRule, actsByRule}
+use Rattle.demands.specs.History.{History, after, isAutomatic, everTrue, wasTrue, takesByRule, triesByRule, actsByRule}
 use Rattle.soundness.specs.Call.{Call, doBeat, doLock, doUnlock, doCancel, doReset}
 use Rattle.demands.specs.Run.{Now, coded, noted, rankOf, codeByRule, cleared, run, stateBy, begunBy, byRank, cancelledBy, tryByRule, turnByRule, turnsByRule, beatByRule, stepByRule, resetByRule, runByRuleFrom, runByRule, beatenByRule}
 use Rattle.demands.specs.Acts.{isActed, conditionNow, triesNow, actsNow, actedSince}
 use Rattle.soundness.specs.GoodAnswers.{Ok, is-ok, bind-ok}
-use Rattle.demands.specs.ActionLaws.{noteAll, Noted, actions-noted}
-use Rattle.demands.specs.TurnLaws.{flagged, flaggedTurn, turns-same}
+use Rattle.demands.specs.ActionRuleLaws.{noteAll, Noted, actions-noted}
+use Rattle.demands.specs.TurnRuleLaws.{flagged, flaggedTurn, turns-same}
 use Rattle.demands.specs.ActLaws.{Done, done, no-other}
 use Rattle.demands.specs.Demand3.{beat-same, demand-3}
 
 -- ---- a beat that ended well, by the rule
 
-module _ (s : List ℕ) (v : Vars) (r : Record) (m : Bool) (word : ℕ) (lent : List ℤ) (size : ℕ) where
+module _ (s : List ℕ) (v : Vars) (r : History) (m : Bool) (word : ℕ) (lent : List ℤ) (size : ℕ) where
   -- it is its mode and the turns of all the lines
   beat-turns : (t : Turned) → beatByRule s v r m word lent size ≡ good t →
       (u : Turned) × (turnsByRule s (soundLines s) (soundLines s .count) 0 (beatIn m ∷ r) (begunBy v word lent) ≡ good u) × (t ≡ record { world = u .world; entries = beatIn m ∷ u .entries })
@@ -70,10 +70,10 @@ module _ (s : List ℕ) (v : Vars) (r : Record) (m : Bool) (word : ℕ) (lent : 
 
 -- ---- the engine's beat
 
--- a beat of the engine, in the state st and after the record r, that came to t; for the line of rank k: what the turns of the lines before it came to (`before`, `come`);
--- the line acted just where the rule, over the record so far and in the world in which its turn came, says so (`acted`); until then nothing was said of its condition in
--- this beat (`ever-before`, `was-before`); and after the beat the record says of it what it gave in that world, if it was worked, and else what it said before (`ever`, `was`)
-pub record Came (s : List ℕ) (st : State) (r : Record) (m : Bool) (word : ℕ) (lent : List ℤ) (k : ℕ) (t : Turned) : Type 0 where
+-- a beat of the engine, in the state st and after the history r, that came to t; for the line of rank k: what the turns of the lines before it came to (`before`, `come`);
+-- the line acted just where the rule, over the history so far and in the world in which its turn came, says so (`acted`); until then nothing was said of its condition in
+-- this beat (`ever-before`, `was-before`); and after the beat the history says of it what it gave in that world, if it was worked, and else what it said before (`ever`, `was`)
+pub record Came (s : List ℕ) (st : State) (r : History) (m : Bool) (word : ℕ) (lent : List ℤ) (k : ℕ) (t : Turned) : Type 0 where
   pub before : Turned
   pub come : turnsFrom s (soundLines s .numbers) (st .cancelled) m (soundLines s .items) k 0 (begun st word lent) ≡ good before
   pub acted : isActed (t .world .acted) k ≡ actsNow s (getD (soundLines s .items) k noLine) k (after (before .entries) (beatIn m ∷ r)) (before .world)
@@ -84,7 +84,7 @@ pub record Came (s : List ℕ) (st : State) (r : Record) (m : Bool) (word : ℕ)
   pub was : wasTrue k (after (t .entries) r) ≡
       cond (triesNow (getD (soundLines s .items) k noLine) k (after (before .entries) (beatIn m ∷ r))) (conditionNow s (getD (soundLines s .items) k noLine) (before .world)) (wasTrue k r)
 
-module _ (s : List ℕ) (v : Vars) (r : Record) (m : Bool) (word : ℕ) (lent : List ℤ) (size : ℕ) (t : Turned) where
+module _ (s : List ℕ) (v : Vars) (r : History) (m : Bool) (word : ℕ) (lent : List ℤ) (size : ℕ) (t : Turned) where
   -- the beat of the engine is the beat by the rule, in flags
   unflagged : beatOf s (stateBy (soundLines s) v r) m word lent size ≡ good t →
       (u : Turned) × (beatByRule s v r m word lent size ≡ good u) × (t .world .acted ≡ u .world .acted) × (t .entries ≡ u .entries)
@@ -123,10 +123,10 @@ acted-good st k (stop c) e = let z : false ≡ true = sym (no-bit k) ∙ e in cl
 
 -- ---- of the rule, for one keyword
 
-acts-when : (kw k : ℕ) (r : Record) (v : Bool) → kw ≡ WHEN → actsByRule kw k r v ≡ v && not (everTrue k r)
+acts-when : (kw k : ℕ) (r : History) (v : Bool) → kw ≡ WHEN → actsByRule kw k r v ≡ v && not (everTrue k r)
 acts-when kw k r v p = rw p
 
-acts-every : (kw k : ℕ) (r : Record) (v : Bool) → kw ≡ EVERY → actsByRule kw k r v ≡ v && not (wasTrue k r)
+acts-every : (kw k : ℕ) (r : History) (v : Bool) → kw ≡ EVERY → actsByRule kw k r v ≡ v && not (wasTrue k r)
 acts-every kw k r v p = rw p
 
 fresh : (a b c m : Bool) → a && ((b && c) && not m) ≡ true → ((a && b) && c ≡ true) × (c ≡ true) × (m ≡ false)
@@ -150,10 +150,10 @@ module _ (s : List ℕ) (k : ℕ) (h : k < soundLines s .count) (w : getD (sound
   abbrev Once : Now Vars → Type 0
   Once n = actedSince k (n .told) ≡ true → everTrue k (n .written) ≡ true
 
-  noted-ever : (c : ℕ) (e : Entry) (r : Record) → everTrue k (e ∷ r) ≡ everTrue k r → everTrue k (noted c e r) ≡ everTrue k r
+  noted-ever : (c : ℕ) (e : Entry) (r : History) → everTrue k (e ∷ r) ≡ everTrue k r → everTrue k (noted c e r) ≡ everTrue k r
   noted-ever c e r p = go (eqb c 0)
     where
-      go : (b : Bool) → let x : Record = elim b [ true ↦ e ∷ r | false ↦ r ] in everTrue k x ≡ everTrue k r
+      go : (b : Bool) → let x : History = elim b [ true ↦ e ∷ r | false ↦ r ] in everTrue k x ≡ everTrue k r
       go true = p
       go false = refl
 
@@ -166,7 +166,7 @@ module _ (s : List ℕ) (k : ℕ) (h : k < soundLines s .count) (w : getD (sound
       line : Line
       line = getD (soundLines s .items) k noLine
 
-      r : Record
+      r : History
       r = after (d .before .entries) (beatIn m ∷ n .written)
 
       c : Bool
@@ -225,7 +225,7 @@ not-yet true m f p = sym (f refl) ∙ p
 not-yet false m f p = refl
 
 -- the rule lets a WHEN line act only where its condition is true and never was, an EVERY line only where it is true and was not when last worked
-module _ (s : List ℕ) (k : ℕ) (l : Line) (r : Record) (x : World) where
+module _ (s : List ℕ) (k : ℕ) (l : Line) (r : History) (x : World) where
   when-fresh : l .keyword ≡ WHEN → actsNow s l k r x ≡ true → everTrue k r ≡ false
   when-fresh w e = fresh (takesByRule l k r) (triesByRule (l .keyword) k r) (conditionNow s l x) (everTrue k r)
       (rw (acts-when (l .keyword) k r (triesByRule (l .keyword) k r && conditionNow s l x) w) at e) .2
@@ -310,7 +310,7 @@ abbrev pub Flagless : World → Type 0
 Flagless x = (x .locked ≡ []) × (x .memory ≡ [])
 
 module _ (s : List ℕ) (ls : Lines) where
-  module _ (l : Line) (k : ℕ) (r : Record) (x : World) (f : Flagless x) where
+  module _ (l : Line) (k : ℕ) (r : History) (x : World) (f : Flagless x) where
     do-flagless : (es : List Entry) (a : Bool) → Ok (λ t. Flagless (t .world)) (doTurn s (ls .numbers) (byRank (cancelledBy ls r)) (isAutomatic r) l k x es a)
     unfolding doTurn
     do-flagless es false = f
@@ -325,12 +325,12 @@ module _ (s : List ℕ) (ls : Lines) where
         let P : Turned → Type 0 = λ t. Flagless (t .world) in
         either (Ok P) (takesByRule l k r)
         (λ e. either (Ok P) (triesByRule (l .keyword) k r)
-        (λ e. bind-ok P (fromGot (conditionValue s (x .vars .r) (x .vars .cells) (l .condition))) _
+        (λ e. bind-ok P (fromValueOrAlarm (conditionValue s (x .vars .r) (x .vars .cells) (l .condition))) _
         (λ a q. do-flagless (worked k (isYes (a .0)) ∷ []) (actsByRule (l .keyword) k r (isYes (a .0)))))
         (λ e. do-flagless [] (actsByRule (l .keyword) k r false)))
         (λ e. f)
 
-  pub turns-flagless : (n k : ℕ) (r : Record) (x : World) → Flagless x → Ok (λ t. Flagless (t .world)) (turnsByRule s ls n k r x)
+  pub turns-flagless : (n k : ℕ) (r : History) (x : World) → Flagless x → Ok (λ t. Flagless (t .world)) (turnsByRule s ls n k r x)
   unfolding turnsByRule
   turns-flagless zero k r x f = f
   turns-flagless (suc n) k r x f =

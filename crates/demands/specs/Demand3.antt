@@ -1,4 +1,4 @@
--- Demand 3: from a load on, through any calls, the engine does what the control does that keeps no flags and decides by the rule over the record. Assumes nothing.
+-- Demand 3: from a load on, through any calls, the engine does what the control does that keeps no flags and decides by the rule over the history. Assumes nothing.
 use mathlib.Core.Path.{_≡_, refl, sym, ap, _∙_}
 use mathlib.Core.Bool.{Bool, true, false, not, _&&_, and-true, and-false}
 use mathlib.Core.List.{List, [], _∷_}
@@ -8,33 +8,34 @@ use lib.Dec.{ltb}
 use lib.IntN.{ℤ}
 use lib.ListN.{length, getD}
 use borrow.Author.Tests.{lt-ltb, ltb-true}
+use Rattle.values.specs.Codes.{unsound, unknownLine}
 use Rattle.tokens.specs.Token.{maxLines}
 use Rattle.values.specs.Choice.{either}
-use Rattle.tokens.specs.Reading.{Answer, good, stop, _>>=_}
+use Rattle.tokens.specs.Descent.{Answer, good, stop, _>>=_}
 use Rattle.engine.specs.declared.set.Lines.{Lines}
 use Rattle.engine.specs.declared.state.State.{State}
-use Rattle.engine.specs.declared.find.Found.{Found}
+use Rattle.engine.specs.declared.named_line.Found.{Found}
 use Rattle.engine.specs.declared.calls.Called.{Called}
 use Rattle.engine.specs.Set.{noLine, soundLines}
 use Rattle.engine.specs.State.{powerOn}
-use Rattle.engine.specs.Sound.{unsoundCode, isSound}
+use Rattle.engine.specs.Sound.{isSound}
 use Rattle.engine.specs.Write.{Vars}
 use Rattle.engine.specs.Turn.{Entry, beatIn, locks, cancels, resets, Turned}
 use Rattle.engine.specs.Beat.{bufferSize, areInputs, begun, ended, beatOf, answered, buffered, beatAnswer, beatBuffer}
-use Rattle.engine.specs.Find.{unknownLine, foundAt, found}
+use Rattle.engine.specs.NamedLine.{foundAt, found}
 use Rattle.engine.specs.Calls.{withLocked, withCancelled, called, lockedCall, lockCall, unlockCall, cancelCall, resetState, resetCall}
 use Rattle.engine.proofs.SetLaws.{sound-count}
-use Rattle.demands.specs.Record.{Record, after, isCancelled, isLocked}
+use Rattle.demands.specs.History.{History, after, isCancelled, isLocked}
 use Rattle.soundness.specs.Call.{Call, doBeat, doLock, doUnlock, doCancel, doReset}
 use Rattle.demands.specs.Run.{Now, coded, entriesOf, rankOf, hosted, beaten, step, runFrom, run, byRank, cancelledBy, lockedBy, remembersBy, memoryBy, variablesOf, stateBy, begunBy, endedBy, turnsByRule, beatByRule, codeByRule, hostedByRule, beatenByRule, cleared, resetByRule, stepByRule, runByRuleFrom, runByRule}
 use Rattle.demands.specs.FlagLaws.{byRank-at, lock-locked, cancel-cancelled, cancel-locked, cancel-memory, reset-locked, reset-cancelled, reset-memory, new-locked, new-cancelled, new-memory}
 use Rattle.soundness.specs.GoodAnswers.{Ok, is-ok, bind-ok}
-use Rattle.demands.specs.ActionLaws.{choose}
-use Rattle.demands.specs.TurnLaws.{flaggedTurn, turns-same, turns-quiet}
+use Rattle.demands.specs.ActionRuleLaws.{choose}
+use Rattle.demands.specs.TurnRuleLaws.{flaggedTurn, turns-same, turns-quiet}
 
 -- ---- a beat
 
-module _ (s : List ℕ) (v : Vars) (r : Record) (m : Bool) (word : ℕ) (lent : List ℤ) (size : ℕ) where
+module _ (s : List ℕ) (v : Vars) (r : History) (m : Bool) (word : ℕ) (lent : List ℤ) (size : ℕ) where
   begins : Turned → Answer Turned
   begins t = good (record { world = t .world; entries = beatIn m ∷ t .entries })
 
@@ -43,7 +44,7 @@ module _ (s : List ℕ) (v : Vars) (r : Record) (m : Bool) (word : ℕ) (lent : 
   beat-begun (good t) = refl
   beat-begun (stop c) = refl
 
-  -- the engine's beat, with the flags that the record gives, is the beat by the rule
+  -- the engine's beat, with the flags that the history gives, is the beat by the rule
   pub beat-same : beatOf s (stateBy (soundLines s) v r) m word lent size ≡ (beatByRule s v r m word lent size >>= flaggedTurn (soundLines s) r)
   unfolding beatOf beatByRule stateBy begun begunBy begins
   beat-same =
@@ -72,7 +73,7 @@ stateIn v l c m = record { r = v .r; cells = v .cells; runs = v .runs; locked = 
 in-flags : (v : Vars) {l k c d m o : List Bool} → l ≡ k → c ≡ d → m ≡ o → stateIn v l c m ≡ stateIn v k d o
 in-flags v p q h = cc
 
--- ---- where the control stands that keeps no flags, with the flags that its record gives
+-- ---- where the control stands that keeps no flags, with the flags that its history gives
 
 abbrev pub withFlags : List ℕ → Now Vars → Now State
 withFlags s n = record { kept = stateBy (soundLines s) (n .kept) (n .written); written = n .written; told = n .told }
@@ -97,11 +98,11 @@ module _ (s : List ℕ) (n : Now Vars) where
   foundBy a b c k =
       elim a [
         | true ↦ elim b [ true ↦ elim c [ true ↦ record { code = unknownLine; rank = 0 } | false ↦ record { code = 0; rank = k } ] | false ↦ record { code = unknownLine; rank = 0 } ]
-        | false ↦ record { code = unsoundCode; rank = 0 }
+        | false ↦ record { code = unsound; rank = 0 }
       ]
 
   abbrev codeBy : Bool → Bool → Bool → ℕ
-  codeBy a b c = elim a [ true ↦ elim b [ true ↦ elim c [ true ↦ unknownLine | false ↦ 0 ] | false ↦ unknownLine ] | false ↦ unsoundCode ]
+  codeBy a b c = elim a [ true ↦ elim b [ true ↦ elim c [ true ↦ unknownLine | false ↦ 0 ] | false ↦ unknownLine ] | false ↦ unsound ]
 
   host-same : (x : Call) (e : Entry) (change : ℕ → State) (number : ℕ) →
       (rankOf s number < maxLines → ltb (rankOf s number) (soundLines s .count) ≡ true → cancelledBy (soundLines s) (n .written) (rankOf s number) ≡ false →
@@ -162,14 +163,14 @@ module _ (s : List ℕ) (n : Now Vars) where
       after-reset = in-flags _ (reset-locked (soundLines s) (n .written)) (reset-cancelled (soundLines s) (n .written) (sound-count s)) (reset-memory (soundLines s) (n .written))
 
       go : (a : Bool) →
-          (let c : Called = elim a [ true ↦ record { code = 0; state = resetState (soundLines s .items) (soundLines s .count) (stateBy (soundLines s) (n .kept) (n .written)) } | false ↦ record { code = unsoundCode; state = stateBy (soundLines s) (n .kept) (n .written) } ] in
+          (let c : Called = elim a [ true ↦ record { code = 0; state = resetState (soundLines s .items) (soundLines s .count) (stateBy (soundLines s) (n .kept) (n .written)) } | false ↦ record { code = unsound; state = stateBy (soundLines s) (n .kept) (n .written) } ] in
           hosted doReset c resets (withFlags s n))
-          ≡ (let m : Now Vars = elim a [ true ↦ record { kept = cleared (n .kept) (soundLines s) (n .written); written = resets ∷ n .written; told = (doReset, coded 0) ∷ n .told } | false ↦ record { kept = n .kept; written = n .written; told = (doReset, coded unsoundCode) ∷ n .told } ] in
+          ≡ (let m : Now Vars = elim a [ true ↦ record { kept = cleared (n .kept) (soundLines s) (n .written); written = resets ∷ n .written; told = (doReset, coded 0) ∷ n .told } | false ↦ record { kept = n .kept; written = n .written; told = (doReset, coded unsound) ∷ n .told } ] in
           withFlags s m)
       go true = rw after-reset
       go false = refl
 
-  -- each call, with the flags that the record gives, is the call by the rule
+  -- each call, with the flags that the history gives, is the call by the rule
   pub step-same : (c : Call) → step s c (withFlags s n) ≡ withFlags s (stepByRule s c n)
   unfolding step stepByRule lockCall unlockCall
   step-same (doBeat m word lent b) = step-beat m word lent b
@@ -191,43 +192,43 @@ load-same s = in-flags _ (new-locked (soundLines s)) (new-cancelled (soundLines 
 
 module _ (s : List ℕ) (cs : List Call) where
   -- demand 3: after any calls the engine stands where the control stands that keeps no flags and decides by the rule alone. Its replies are the same (codes, orders, the
-  -- words of the lines that acted), its record is the same, its variables are the same, and its flags are what the record says
+  -- words of the lines that acted), its history is the same, its variables are the same, and its flags are what the history says
   pub demand-3 : run s cs ≡ withFlags s (runByRule s cs)
   demand-3 = ap (λ st. runFrom s cs (record { kept = st; written = []; told = [] })) (load-same s) ∙ run-same s cs (record { kept = variablesOf powerOn; written = []; told = [] })
 
-  -- its four parts: the same replies, the same record, the same variables, and
+  -- its four parts: the same replies, the same history, the same variables, and
   pub same-replies : run s cs .told ≡ runByRule s cs .told
   same-replies = ap (λ n. n .told) demand-3
 
-  pub same-record : run s cs .written ≡ runByRule s cs .written
-  same-record = ap (λ n. n .written) demand-3
+  pub same-history : run s cs .written ≡ runByRule s cs .written
+  same-history = ap (λ n. n .written) demand-3
 
   pub same-variables : variablesOf (run s cs .kept) ≡ runByRule s cs .kept
   unfolding stateBy
   same-variables = ap (λ n. variablesOf (n .kept)) demand-3
 
-  -- the flags that the engine stores are what its record says
-  pub state-says-the-record : run s cs .kept ≡ stateBy (soundLines s) (variablesOf (run s cs .kept)) (run s cs .written)
-  state-says-the-record = ap (λ n. n .kept) demand-3 ∙ rw (same-variables, same-record)
+  -- the flags that the engine stores are what its history says
+  pub state-says-the-history : run s cs .kept ≡ stateBy (soundLines s) (variablesOf (run s cs .kept)) (run s cs .written)
+  state-says-the-history = ap (λ n. n .kept) demand-3 ∙ rw (same-variables, same-history)
 
-  -- so for a line of the set, of rank k: it is cancelled if the record says so; it is locked if the record says so and it is not cancelled; it has in memory what its
-  -- keyword makes it remember of the record, unless it is cancelled
-  pub flags-say-the-record : (k : ℕ) → k < soundLines s .count →
+  -- so for a line of the set, of rank k: it is cancelled if the history says so; it is locked if the history says so and it is not cancelled; it has in memory what its
+  -- keyword makes it remember of the history, unless it is cancelled
+  pub flags-say-the-history : (k : ℕ) → k < soundLines s .count →
       let st = run s cs .kept in let r = run s cs .written in let l = getD (soundLines s .items) k noLine in let c = isCancelled (l .ids) k r in
       (getD (st .cancelled) k false ≡ c) × (getD (st .locked) k false ≡ isLocked k r && not c) × (getD (st .memory) k false ≡ remembersBy (l .keyword) k r && not c)
   unfolding stateBy
-  flags-say-the-record k h =
+  flags-say-the-history k h =
       let b : k < maxLines = omega (arith, sound-count s) in
       let p : ltb k (soundLines s .count) ≡ true = lt-ltb k (soundLines s .count) h in (
-        ap (λ st. getD (st .cancelled) k false) state-says-the-record ∙ byRank-at (cancelledBy (soundLines s) (run s cs .written)) k b ∙ rw p (and-true _),
-        ap (λ st. getD (st .locked) k false) state-says-the-record ∙ byRank-at (lockedBy (soundLines s) (run s cs .written)) k b ∙ rw (p, and-true),
-        ap (λ st. getD (st .memory) k false) state-says-the-record ∙ byRank-at (memoryBy (soundLines s) (run s cs .written)) k b ∙ rw (p, and-true),
+        ap (λ st. getD (st .cancelled) k false) state-says-the-history ∙ byRank-at (cancelledBy (soundLines s) (run s cs .written)) k b ∙ rw p (and-true _),
+        ap (λ st. getD (st .locked) k false) state-says-the-history ∙ byRank-at (lockedBy (soundLines s) (run s cs .written)) k b ∙ rw (p, and-true),
+        ap (λ st. getD (st .memory) k false) state-says-the-history ∙ byRank-at (memoryBy (soundLines s) (run s cs .written)) k b ∙ rw (p, and-true),
       )
 
   -- a cancelled line has neither lock nor memory
   pub cancelled-is-bare : (k : ℕ) → k < soundLines s .count → getD (run s cs .kept .cancelled) k false ≡ true →
       (getD (run s cs .kept .locked) k false ≡ false) × (getD (run s cs .kept .memory) k false ≡ false)
   cancelled-is-bare k h e =
-      let f = flags-say-the-record k h in
+      let f = flags-say-the-history k h in
       let c : isCancelled (getD (soundLines s .items) k noLine .ids) k (run s cs .written) ≡ true = sym (f .0) ∙ e in
       (f .1 ∙ rw (c, and-false), f .2 ∙ rw (c, and-false))

@@ -1,4 +1,4 @@
--- What each entry of the record does to the flags that the record gives, rank by rank. Assumes nothing.
+-- What each entry of the history does to the flags that the history gives, rank by rank. Assumes nothing.
 use mathlib.Core.Path.{_≡_, refl, sym, ap, _∙_}
 use mathlib.Core.Logic.{_≢_}
 use mathlib.Core.Bool.{Bool, true, false, cond, not, _&&_, _||_, and-true, and-false}
@@ -15,7 +15,7 @@ use Rattle.engine.specs.Set.{noLine}
 use Rattle.engine.specs.Turn.{worked, locks, cancels, resets}
 use Rattle.engine.specs.Keyword.{remembers}
 use Rattle.engine.specs.Calls.{resetCancelled}
-use Rattle.demands.specs.Record.{Record, only, orElse, isCancelled, isLocked, wasTrue, everTrue}
+use Rattle.demands.specs.History.{History, only, orElse, isCancelled, isLocked, wasTrue, everTrue}
 use Rattle.demands.specs.Run.{ranks, byRank, cancelledBy, lockedBy, remembersBy, memoryBy}
 
 -- ---- a value for each rank
@@ -58,9 +58,9 @@ byRank-set f g k v b h =
     as-byRank (set (byRank f) k v) g (length-set (byRank f) k v ∙ length-byRank f)
     (λ j c. getD-set (byRank f) k j v (rw (length-byRank f) b) ∙ rw (byRank-at f j c) (h j c))
 
--- ---- what each entry does to the flags that the record gives
+-- ---- what each entry does to the flags that the history gives
 
--- WHEN, FROM or not; EVERY or not; what the record said before
+-- WHEN, FROM or not; EVERY or not; what the history said before
 worked-step : (a b v ever was : Bool) →
     cond a (orElse (only (true && v) true) ever) (cond b (orElse (only true v) was) false) ≡ cond a (cond a ever (cond b was false) || v) (cond b v (cond a ever (cond b was false)))
 worked-step true b true true was = refl
@@ -70,14 +70,14 @@ worked-step true b false false was = refl
 worked-step false true v ever was = refl
 worked-step false false v ever was = refl
 
-worked-same : (kw k : ℕ) (r : Record) (v : Bool) → remembersBy kw k (worked k v ∷ r) ≡ remembers kw (remembersBy kw k r) v
+worked-same : (kw k : ℕ) (r : History) (v : Bool) → remembersBy kw k (worked k v ∷ r) ≡ remembers kw (remembersBy kw k r) v
 unfolding remembers
 worked-same kw k r v = rw (eq-eqb k k refl) (worked-step (eqb kw WHEN || eqb kw FROM) (eqb kw EVERY) v (everTrue k r) (wasTrue k r))
 
-worked-other : (kw k j : ℕ) (r : Record) (v : Bool) → eqb k j ≡ false → remembersBy kw j (worked k v ∷ r) ≡ remembersBy kw j r
+worked-other : (kw k j : ℕ) (r : History) (v : Bool) → eqb k j ≡ false → remembersBy kw j (worked k v ∷ r) ≡ remembersBy kw j r
 worked-other kw k j r v e = rw e
 
-none-remembers : (kw k : ℕ) (r : Record) → everTrue k r ≡ false → wasTrue k r ≡ false → remembersBy kw k r ≡ false
+none-remembers : (kw k : ℕ) (r : History) → everTrue k r ≡ false → wasTrue k r ≡ false → remembersBy kw k r ≡ false
 none-remembers kw k r p q = rw (p, q) (go (eqb kw WHEN || eqb kw FROM) (eqb kw EVERY))
   where
     go : (a b : Bool) → cond a false (cond b false false) ≡ false
@@ -87,7 +87,7 @@ none-remembers kw k r p q = rw (p, q) (go (eqb kw WHEN || eqb kw FROM) (eqb kw E
 
 module _ (ls : Lines) where
   -- the condition of a line that is not cancelled was worked
-  pub worked-memory : (k : ℕ) (v : Bool) (r : Record) → k < maxLines → cancelledBy ls r k ≡ false →
+  pub worked-memory : (k : ℕ) (v : Bool) (r : History) → k < maxLines → cancelledBy ls r k ≡ false →
       set (byRank (memoryBy ls r)) k (remembers (getD (ls .items) k noLine .keyword) (remembersBy (getD (ls .items) k noLine .keyword) k r) v) ≡ byRank (memoryBy ls (worked k v ∷ r))
   worked-memory k v r b c = byRank-set (memoryBy ls r) (memoryBy ls (worked k v ∷ r)) k (new k) b (λ j d. go j (eqb k j) refl)
     where
@@ -104,7 +104,7 @@ module _ (ls : Lines) where
       go j false e = rw (worked-other (kw j) k j r v e)
 
   -- a line that is not cancelled was locked or released
-  pub lock-locked : (k : ℕ) (b : Bool) (r : Record) → k < maxLines → cancelledBy ls r k ≡ false → set (byRank (lockedBy ls r)) k b ≡ byRank (lockedBy ls (locks k b ∷ r))
+  pub lock-locked : (k : ℕ) (b : Bool) (r : History) → k < maxLines → cancelledBy ls r k ≡ false → set (byRank (lockedBy ls r)) k b ≡ byRank (lockedBy ls (locks k b ∷ r))
   lock-locked k b r h c = byRank-set (lockedBy ls r) (lockedBy ls (locks k b ∷ r)) k b h (λ j d. go j (eqb k j) refl)
     where
       go : (j : ℕ) (e : Bool) → eqb k j ≡ e → cond e b (lockedBy ls r j) ≡ orElse (only e b) (isLocked j r) && not (cancelledBy ls r j)
@@ -112,7 +112,7 @@ module _ (ls : Lines) where
       go j false e = refl
 
   -- a line of the set was cancelled
-  module _ (k : ℕ) (r : Record) (h : k < maxLines) (c : ltb k (ls .count) ≡ true) where
+  module _ (k : ℕ) (r : History) (h : k < maxLines) (c : ltb k (ls .count) ≡ true) where
     counted-too : (j : ℕ) → eqb k j ≡ true → ltb j (ls .count) ≡ true
     counted-too j e = let p : k ≡ j = eqb-true k j e in rw p at c
 
@@ -135,10 +135,10 @@ module _ (ls : Lines) where
     cancel-memory = byRank-set (memoryBy ls r) (memoryBy ls (cancels k ∷ r)) k false h (λ j d. cleared-flag (λ i. remembersBy (getD (ls .items) i noLine .keyword) i r) j (eqb k j) refl)
 
   -- a reset
-  pub reset-locked : (r : Record) → replicate maxLines false ≡ byRank (lockedBy ls (resets ∷ r))
+  pub reset-locked : (r : History) → replicate maxLines false ≡ byRank (lockedBy ls (resets ∷ r))
   reset-locked r = byRank-none (lockedBy ls (resets ∷ r)) (λ j b. refl)
 
-  pub reset-memory : (r : Record) → replicate maxLines false ≡ byRank (memoryBy ls (resets ∷ r))
+  pub reset-memory : (r : History) → replicate maxLines false ≡ byRank (memoryBy ls (resets ∷ r))
   reset-memory r = byRank-none (memoryBy ls (resets ∷ r)) (λ j b. rw (none-remembers (getD (ls .items) j noLine .keyword) j (resets ∷ r) refl refl))
 
   reset-length : (cs : List Bool) (n : ℕ) → length (resetCancelled (ls .items) cs n) ≡ length cs
@@ -167,7 +167,7 @@ module _ (ls : Lines) where
       go false false true e p q i = let g : n ≤ j = nltb→le j n (rw p tt) in let f : j < suc n = ltb-true j (suc n) q in let w : j ≢ n = λ q. eqb-false n j e (sym q) in absurd (omega arith)
       go false false false e p q i = i
 
-  pub reset-cancelled : (r : Record) → ls .count ≤ maxLines → resetCancelled (ls .items) (byRank (cancelledBy ls r)) (ls .count) ≡ byRank (cancelledBy ls (resets ∷ r))
+  pub reset-cancelled : (r : History) → ls .count ≤ maxLines → resetCancelled (ls .items) (byRank (cancelledBy ls r)) (ls .count) ≡ byRank (cancelledBy ls (resets ∷ r))
   reset-cancelled r n =
       as-byRank _ (cancelledBy ls (resets ∷ r)) (reset-length (byRank (cancelledBy ls r)) (ls .count) ∙ length-byRank (cancelledBy ls r))
       (λ j b. reset-at (byRank (cancelledBy ls r)) (ls .count) j (rw (length-byRank (cancelledBy ls r)) n)

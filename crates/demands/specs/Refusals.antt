@@ -1,4 +1,4 @@
--- A refusal or an alarm returns what was given, for each call; and it adds nothing to the record. Assumes nothing.
+-- A refusal or an alarm returns what was given, for each call; and it adds nothing to the history. Assumes nothing.
 use mathlib.Core.Path.{_≡_, refl}
 use mathlib.Core.Logic.{_≢_}
 use mathlib.Core.Bool.{Bool, true, false}
@@ -8,15 +8,16 @@ use lib.Dec.{eqb}
 use lib.IntN.{ℤ}
 use lib.ListN.{length}
 use borrow.Author.Tests.{eqb-true}
-use Rattle.tokens.specs.Reading.{Answer, good, stop}
+use Rattle.values.specs.Codes.{unsound}
+use Rattle.tokens.specs.Descent.{Answer, good, stop}
 use Rattle.engine.specs.declared.state.State.{State}
 use Rattle.engine.specs.declared.calls.Called.{Called}
-use Rattle.engine.specs.declared.find.Found.{Found}
+use Rattle.engine.specs.declared.named_line.Found.{Found}
 use Rattle.engine.specs.Set.{soundLines}
-use Rattle.engine.specs.Sound.{unsoundCode, isSound}
+use Rattle.engine.specs.Sound.{isSound}
 use Rattle.engine.specs.Turn.{Entry, Turned}
 use Rattle.engine.specs.Beat.{beatOf, answered, buffered, beatAnswer, beatBuffer}
-use Rattle.engine.specs.Find.{found}
+use Rattle.engine.specs.NamedLine.{found}
 use Rattle.engine.specs.Calls.{withLocked, withCancelled, called, lockedCall, lockCall, unlockCall, cancelCall, resetState, resetCall}
 use Rattle.soundness.specs.Call.{Call, doBeat, doLock, doUnlock, doCancel, doReset}
 use Rattle.demands.specs.Run.{Now, entriesOf, noted, step}
@@ -56,11 +57,11 @@ pub reset-refused : (s : List ℕ) (st : State) → resetCall s st .code ≢ 0 �
 unfolding resetCall
 reset-refused s st = go (isSound s st)
   where
-    go : (a : Bool) → let c : Called = elim a [ true ↦ record { code = 0; state = resetState (soundLines s .items) (soundLines s .count) st } | false ↦ record { code = unsoundCode; state = st } ] in c .code ≢ 0 → c .state ≡ st
+    go : (a : Bool) → let c : Called = elim a [ true ↦ record { code = 0; state = resetState (soundLines s .items) (soundLines s .count) st } | false ↦ record { code = unsound; state = st } ] in c .code ≢ 0 → c .state ≡ st
     go true h = absurd (h refl)
     go false h = refl
 
--- in a run: a call that is answered with a code other than 0 changes no state and adds nothing to the record
+-- in a run: a call that is answered with a code other than 0 changes no state and adds nothing to the history
 noted-refused : (c : ℕ) (e : Entry) (r : List Entry) → c ≢ 0 → noted c e r ≡ r
 noted-refused c e r h = go (eqb c 0) refl
   where

@@ -1,4 +1,4 @@
--- The engine's run from a load on, and the run of a control that keeps no flags: it has the variables and the record, and decides by the rule alone.
+-- The engine's run from a load on, and the run of a control that keeps no flags: it has the variables and the history, and decides by the rule alone.
 -- Definitions only; assumes nothing.
 use mathlib.Core.Bool.{Bool, true, false, cond, not, _&&_, _||_}
 use mathlib.Core.List.{List, [], _∷_, _++_}
@@ -6,8 +6,9 @@ use Prim.Native.Nat.{ℕ, zero, suc, _+_, _/_}
 use lib.Dec.{eqb, ltb}
 use lib.IntN.{ℤ}
 use lib.ListN.{length, getD, drop}
+use Rattle.values.specs.Codes.{shortBuffer, wrongNumbers, unsound, unknownLine}
 use Rattle.tokens.specs.Token.{WHEN, FROM, EVERY, maxLines}
-use Rattle.tokens.specs.Reading.{Answer, good, stop, _>>=_}
+use Rattle.tokens.specs.Descent.{Answer, good, stop, _>>=_}
 use Rattle.working.specs.Operators.{isYes}
 use Rattle.working.specs.Working.{conditionValue}
 use Rattle.checking.specs.declared.check.Line.{Line}
@@ -18,15 +19,14 @@ use Rattle.engine.specs.declared.calls.Called.{Called}
 use Rattle.engine.specs.Set.{noLine, rankIn, soundLines}
 use Rattle.engine.specs.State.{powerOn}
 use Rattle.engine.specs.Cells.{inputCount, beatCells}
-use Rattle.engine.specs.Sound.{unsoundCode, isSound}
+use Rattle.engine.specs.Sound.{isSound}
 use Rattle.engine.specs.Write.{Vars}
-use Rattle.engine.specs.Action.{World, fromGot}
+use Rattle.engine.specs.Action.{World, fromValueOrAlarm}
 use Rattle.engine.specs.Turn.{Entry, beatIn, worked, locks, cancels, resets, Turned, doTurn}
-use Rattle.engine.specs.Beat.{shortBuffer, wrongNumbers, bufferSize, areInputs, beatOf, buffered, beatAnswer, beatBuffer}
-use Rattle.engine.specs.Find.{unknownLine}
+use Rattle.engine.specs.Beat.{bufferSize, areInputs, beatOf, buffered, beatAnswer, beatBuffer}
 use Rattle.engine.specs.Calls.{lockCall, unlockCall, cancelCall, resetState, resetCall}
 use Rattle.soundness.specs.Call.{Call, doBeat, doLock, doUnlock, doCancel, doReset}
-use Rattle.demands.specs.Record.{Record, after, isCancelled, isLocked, wasTrue, everTrue, isAutomatic, takesByRule, triesByRule, actsByRule}
+use Rattle.demands.specs.History.{History, after, isCancelled, isLocked, wasTrue, everTrue, isAutomatic, takesByRule, triesByRule, actsByRule}
 
 -- ---- the calls after a load, and what the caller sees of each
 
@@ -40,19 +40,19 @@ pub record Reply : Type 0 where
 abbrev pub coded : ℕ → Reply
 coded c = record { code = c; orders = 0; acted = 0; buffer = [] }
 
--- where a run stands: what the control keeps, the record, and the calls so far with their replies, newest first
+-- where a run stands: what the control keeps, the history, and the calls so far with their replies, newest first
 pub record Now (S : Type 0) : Type 0 where
   pub kept : S
-  pub written : Record
+  pub written : History
   pub told : List (Call × Reply)
 
--- what a beat adds to the record: a failed one nothing
+-- what a beat adds to the history: a failed one nothing
 abbrev pub entriesOf : Answer Turned → List Entry
 entriesOf (good t) = t .entries
 entriesOf (stop c) = []
 
 -- what a host's call adds: a refused one nothing
-abbrev pub noted : ℕ → Entry → Record → Record
+abbrev pub noted : ℕ → Entry → History → History
 noted c e r = elim (eqb c 0) [ true ↦ e ∷ r | false ↦ r ]
 
 -- the rank of the line with the number n
@@ -95,7 +95,7 @@ loaded = record { kept = powerOn; written = []; told = [] }
 abbrev pub run : List ℕ → List Call → Now State
 run s cs = runFrom s cs loaded
 
--- ---- what the record says of locks, cancels and memory
+-- ---- what the history says of locks, cancels and memory
 
 -- a value for each of the first n ranks
 unfoldable pub ranks : (ℕ → Bool) → ℕ → List Bool
@@ -107,29 +107,29 @@ unfoldable pub byRank : (ℕ → Bool) → List Bool
 byRank f = ranks f maxLines
 
 -- a line of the set is cancelled
-abbrev pub cancelledBy : Lines → Record → ℕ → Bool
+abbrev pub cancelledBy : Lines → History → ℕ → Bool
 cancelledBy ls r k = isCancelled (getD (ls .items) k noLine .ids) k r && ltb k (ls .count)
 
 -- it is locked, and not cancelled
-abbrev pub lockedBy : Lines → Record → ℕ → Bool
+abbrev pub lockedBy : Lines → History → ℕ → Bool
 lockedBy ls r k = isLocked k r && not (cancelledBy ls r k)
 
 -- what a line with this keyword has to remember: WHEN and FROM, that its condition was true once; EVERY, that it was true when last worked
-abbrev pub remembersBy : ℕ → ℕ → Record → Bool
+abbrev pub remembersBy : ℕ → ℕ → History → Bool
 remembersBy kw k r = cond (eqb kw WHEN || eqb kw FROM) (everTrue k r) (cond (eqb kw EVERY) (wasTrue k r) false)
 
 -- it remembers something, and is not cancelled
-abbrev pub memoryBy : Lines → Record → ℕ → Bool
+abbrev pub memoryBy : Lines → History → ℕ → Bool
 memoryBy ls r k = remembersBy (getD (ls .items) k noLine .keyword) k r && not (cancelledBy ls r k)
 
 -- ---- the control that keeps no flags
 
--- all that it keeps beside the record are the variables: R, the cells, which timers run
+-- all that it keeps beside the history are the variables: R, the cells, which timers run
 abbrev pub variablesOf : State → Vars
 variablesOf st = record { r = st .r; cells = st .cells; runs = st .runs }
 
--- the state that the variables and the record make up
-unfoldable pub stateBy : Lines → Vars → Record → State
+-- the state that the variables and the history make up
+unfoldable pub stateBy : Lines → Vars → History → State
 stateBy ls v r = record {
   r = v .r;
   cells = v .cells;
@@ -154,30 +154,30 @@ unfoldable pub endedBy : World → Vars
 endedBy x = record { r = x .vars .r; cells = drop inputCount (x .vars .cells); runs = x .vars .runs }
 
 module _ (s : List ℕ) (ls : Lines) where
-  -- the condition, worked if the rule says so; then the actions, if the rule says so (a LOCK in text asks the record which lines are cancelled)
-  unfoldable pub tryByRule : Line → ℕ → Record → World → Answer Turned
+  -- the condition, worked if the rule says so; then the actions, if the rule says so (a LOCK in text asks the history which lines are cancelled)
+  unfoldable pub tryByRule : Line → ℕ → History → World → Answer Turned
   tryByRule l k r x =
       elim (triesByRule (l .keyword) k r) [
         | true ↦
-            fromGot (conditionValue s (x .vars .r) (x .vars .cells) (l .condition)) >>= λ a.
+            fromValueOrAlarm (conditionValue s (x .vars .r) (x .vars .cells) (l .condition)) >>= λ a.
             doTurn s (ls .numbers) (byRank (cancelledBy ls r)) (isAutomatic r) l k x (worked k (isYes (a .0)) ∷ []) (actsByRule (l .keyword) k r (isYes (a .0)))
         | false ↦ doTurn s (ls .numbers) (byRank (cancelledBy ls r)) (isAutomatic r) l k x [] (actsByRule (l .keyword) k r false)
       ]
 
   -- its turn, if the rule says that it takes one
-  unfoldable pub turnByRule : Line → ℕ → Record → World → Answer Turned
+  unfoldable pub turnByRule : Line → ℕ → History → World → Answer Turned
   turnByRule l k r x = elim (takesByRule l k r) [ true ↦ tryByRule l k r x | false ↦ good (record { world = x; entries = [] }) ]
 
   -- the turns of m lines from rank k on; each sees what was written down before it
-  unfoldable pub turnsByRule : ℕ → ℕ → Record → World → Answer Turned
+  unfoldable pub turnsByRule : ℕ → ℕ → History → World → Answer Turned
   turnsByRule zero k r x = good (record { world = x; entries = [] })
   turnsByRule (suc m) k r x =
       turnByRule (getD (ls .items) k noLine) k r x >>= λ t.
       turnsByRule m (k + 1) (after (t .entries) r) (t .world) >>= λ u.
       good (record { world = u .world; entries = t .entries ++ u .entries })
 
--- a beat: 22 is asked of the set, the variables and what the record gives of locks, cancels and memory, then 20 and 21; its first entry is its mode
-unfoldable pub beatByRule : List ℕ → Vars → Record → Bool → ℕ → List ℤ → ℕ → Answer Turned
+-- a beat: 22 is asked of the set, the variables and what the history gives of locks, cancels and memory, then 20 and 21; its first entry is its mode
+unfoldable pub beatByRule : List ℕ → Vars → History → Bool → ℕ → List ℤ → ℕ → Answer Turned
 beatByRule s v r m word lent size =
     elim (isSound s (stateBy (soundLines s) v r)) [
       | true ↦
@@ -191,11 +191,11 @@ beatByRule s v r m word lent size =
                   | false ↦ stop wrongNumbers
                 ]
           ]
-      | false ↦ stop unsoundCode
+      | false ↦ stop unsound
     ]
 
--- the code of a call that names a line: 22, then 40 for a line that is not in the set or that the record says is cancelled
-unfoldable pub codeByRule : List ℕ → Vars → Record → ℕ → ℕ
+-- the code of a call that names a line: 22, then 40 for a line that is not in the set or that the history says is cancelled
+unfoldable pub codeByRule : List ℕ → Vars → History → ℕ → ℕ
 codeByRule s v r n =
     elim (isSound s (stateBy (soundLines s) v r)) [
       | true ↦
@@ -203,7 +203,7 @@ codeByRule s v r n =
             | true ↦ elim (isCancelled (getD (soundLines s .items) (rankOf s n) noLine .ids) (rankOf s n) r) [ true ↦ unknownLine | false ↦ 0 ]
             | false ↦ unknownLine
           ]
-      | false ↦ unsoundCode
+      | false ↦ unsound
     ]
 
 -- a host's call with the code k changes no variables
@@ -220,7 +220,7 @@ beatenByRule c (good t) b n = record {
 beatenByRule c (stop k) b n = record { kept = n .kept; written = n .written; told = (c, record { code = k; orders = 0; acted = 0; buffer = b }) ∷ n .told }
 
 -- what the engine's reset leaves of the variables
-abbrev pub cleared : Vars → Lines → Record → Vars
+abbrev pub cleared : Vars → Lines → History → Vars
 cleared v ls r = variablesOf (resetState (ls .items) (ls .count) (stateBy ls v r))
 
 -- a reset: one entry, and the variables cleared
@@ -228,7 +228,7 @@ unfoldable pub resetByRule : List ℕ → Now Vars → Now Vars
 resetByRule s n =
     elim (isSound s (stateBy (soundLines s) (n .kept) (n .written))) [
       | true ↦ record { kept = cleared (n .kept) (soundLines s) (n .written); written = resets ∷ n .written; told = (doReset, coded 0) ∷ n .told }
-      | false ↦ record { kept = n .kept; written = n .written; told = (doReset, coded unsoundCode) ∷ n .told }
+      | false ↦ record { kept = n .kept; written = n .written; told = (doReset, coded unsound) ∷ n .told }
     ]
 
 -- one call by the rule

@@ -12,14 +12,14 @@ use lib.Signed.{ltZ, nonNeg}
 use mir.Syntax.{w8}
 use mir.Val.{Fits}
 use borrow.Author.Tests.{ltb-false, lt-ltb, le-ltb, le-leb}
+use Rattle.values.specs.Codes.{unsound}
 use Rattle.values.specs.Numbers.{clash}
 use Rattle.values.specs.Choice.{both}
-use Rattle.values.specs.Fifo.{unsound}
 use Rattle.engine.specs.Order.{orderBytes, hasRoom, withOrder}
 use Rattle.engine.specs.OrderLaws.{eight-bytes}
 use Rattle.engine.specs.declared.order.Order.{Order}
 use Rattle.tokens.specs.Token.{isFifo}
-use Rattle.tokens.specs.Reading.{Answer, stop}
+use Rattle.tokens.specs.Descent.{Answer, stop}
 use Rattle.checking.specs.Fault.{isRemoval}
 use Rattle.engine.specs.Action.{Did, roomForOne}
 

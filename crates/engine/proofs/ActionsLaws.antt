@@ -8,14 +8,14 @@ use lib.Dec.{eqb}
 use lib.IntN.{ℤ}
 use lib.ListN.{getD}
 use borrow.Author.Tests.{lt-ltb, le-ltb, ne-eqb}
+use Rattle.values.specs.Codes.{unsound}
 use Rattle.values.specs.Numbers.{clash}
-use Rattle.values.specs.Fifo.{unsound}
 use Rattle.tokens.specs.Token.{END}
-use Rattle.tokens.specs.Reading.{Answer, good, stop, _>>=_}
+use Rattle.tokens.specs.Descent.{Answer, good, stop, _>>=_}
 use Rattle.engine.specs.declared.action.Done.{Done}
 use Rattle.engine.specs.Action.{World, Did, actionOf}
 use Rattle.engine.specs.Actions.{actionsOf, withRoom}
-use Rattle.engine.specs.ActionHeld.{IsDone}
+use Rattle.engine.specs.ActionAnswers.{IsDone}
 
 -- ---- room for orders
 

@@ -7,16 +7,17 @@ use native.Mathlib.Omega.{arith}
 use borrow.Author.Tests.{eqb-true, lt-ltb, le-ltb}
 use lib.IntN.{ℤ}
 use lib.ListN.{length, take, drop}
+use Rattle.values.specs.Codes.{shortBuffer, wrongNumbers, unsound}
 use Rattle.values.specs.Choice.{both}
-use Rattle.tokens.specs.Reading.{Answer, good, stop, _>>=_}
+use Rattle.tokens.specs.Descent.{Answer, good, stop, _>>=_}
 use Rattle.engine.specs.declared.action.Flags.{Flags}
 use Rattle.engine.specs.declared.one_beat.Beaten.{Beaten}
 use Rattle.engine.specs.declared.state.State.{State}
 use Rattle.engine.specs.Set.{soundLines}
-use Rattle.engine.specs.Sound.{unsoundCode, stateSound, isSound}
+use Rattle.engine.specs.Sound.{stateSound, isSound}
 use Rattle.engine.specs.Turn.{Entry, beatIn, Turned, turnsFrom}
-use Rattle.engine.specs.Beat.{shortBuffer, wrongNumbers, bufferSize, areInputs, begun, ended, beatOf, answered, buffered}
-use Rattle.engine.specs.ActionHeld.{worldOf}
+use Rattle.engine.specs.Beat.{bufferSize, areInputs, begun, ended, beatOf, answered, buffered}
+use Rattle.engine.specs.ActionAnswers.{worldOf}
 
 pub inputs-length : (lent : List ℤ) → areInputs lent ≡ true → length lent ≡ 14
 unfolding areInputs
@@ -27,12 +28,12 @@ module _ (s : List ℕ) (st : State) (automatic : Bool) (word : ℕ) (lent : Lis
   abbrev pub turnsOf : Answer Turned
   turnsOf = turnsFrom s (soundLines s .numbers) (st .cancelled) automatic (soundLines s .items) (soundLines s .count) 0 (begun st word lent)
 
-  pub lines-unsound : soundLines s .sound ≡ false → beatOf s st automatic word lent size ≡ stop unsoundCode
+  pub lines-unsound : soundLines s .sound ≡ false → beatOf s st automatic word lent size ≡ stop unsound
   unfolding beatOf isSound
   lines-unsound h = simp (beatOf, isSound, h)
 
   module _ (h : soundLines s .sound ≡ true) where
-    pub state-unsound : stateSound (soundLines s .count) st ≡ false → beatOf s st automatic word lent size ≡ stop unsoundCode
+    pub state-unsound : stateSound (soundLines s .count) st ≡ false → beatOf s st automatic word lent size ≡ stop unsound
     unfolding beatOf isSound
     state-unsound e = simp (beatOf, isSound, h, e)
 

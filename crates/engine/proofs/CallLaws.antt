@@ -14,7 +14,7 @@ use Rattle.checking.specs.declared.check.Line.{Line}
 use Rattle.engine.specs.declared.set.Lines.{Lines}
 use Rattle.engine.specs.declared.state.State.{State}
 use Rattle.engine.specs.declared.calls.Called.{Called}
-use Rattle.engine.specs.declared.find.Found.{Found}
+use Rattle.engine.specs.declared.named_line.Found.{Found}
 use Rattle.engine.specs.Set.{noLine, soundLines}
 use Rattle.engine.specs.Sound.{isSound}
 use Rattle.engine.specs.Calls.{called, resetCancelled, zeroed, resetState, resetCall}

@@ -9,19 +9,19 @@ use native.Mathlib.Omega.{arith}
 use borrow.Author.Tests.{lt-ltb, le-ltb}
 use lib.IntN.{ℤ}
 use lib.ListN.{getD}
+use Rattle.values.specs.Codes.{unsound}
 use Rattle.values.specs.Numbers.{clash}
-use Rattle.values.specs.Fifo.{unsound}
-use Rattle.tokens.specs.Reading.{Answer, good, stop, _>>=_}
+use Rattle.tokens.specs.Descent.{Answer, good, stop, _>>=_}
 use Rattle.working.specs.Operators.{isYes}
 use Rattle.working.specs.Working.{conditionValue}
 use Rattle.checking.specs.declared.check.Line.{Line}
 use Rattle.engine.specs.declared.action.Done.{Done}
 use Rattle.engine.specs.Set.{noLine}
-use Rattle.engine.specs.Action.{World, Did, fromGot}
+use Rattle.engine.specs.Action.{World, Did, fromValueOrAlarm}
 use Rattle.engine.specs.Turn.{Entry, worked, Turned, lockEntry, remembered, doTurn, tryTurn, turnOf, turnsFrom}
 use Rattle.engine.specs.Keyword.{tries, acts, remembers}
-use Rattle.engine.specs.ActionHeld.{worldOf, IsDone}
-use Rattle.engine.specs.TurnHeld.{IsTurned, withLines}
+use Rattle.engine.specs.ActionAnswers.{worldOf, IsDone}
+use Rattle.engine.specs.TurnAnswers.{IsTurned, withLines}
 use Rattle.values.specs.Choice.{contrary}
 
 -- what actions did is what their turn comes to
@@ -54,11 +54,11 @@ module _ (s numbers : List ℕ) (cancelled : List Bool) (automatic : Bool) (l : 
   untried t = simp (tryTurn, t)
 
   module _ (t : tries (l .keyword) (getD (x .memory) k false) ≡ true) where
-    pub stops : {a : ℕ} → fromGot (conditionValue s (x .vars .r) (x .vars .cells) (l .condition)) ≡ stop a → tryTurn s numbers cancelled automatic l k x ≡ stop a
+    pub stops : {a : ℕ} → fromValueOrAlarm (conditionValue s (x .vars .r) (x .vars .cells) (l .condition)) ≡ stop a → tryTurn s numbers cancelled automatic l k x ≡ stop a
     unfolding tryTurn
     stops e = simp (tryTurn, t, e)
 
-    pub tried-so : {v : ℤ} {q : ℕ} → fromGot (conditionValue s (x .vars .r) (x .vars .cells) (l .condition)) ≡ good (v, q) → tryTurn s numbers cancelled automatic l k x ≡ doTurn s numbers cancelled automatic l k (remembered x k (remembers (l .keyword) (getD (x .memory) k false) (isYes v))) (worked k (isYes v) ∷ []) (acts (l .keyword) (getD (x .memory) k false) (isYes v))
+    pub tried-so : {v : ℤ} {q : ℕ} → fromValueOrAlarm (conditionValue s (x .vars .r) (x .vars .cells) (l .condition)) ≡ good (v, q) → tryTurn s numbers cancelled automatic l k x ≡ doTurn s numbers cancelled automatic l k (remembered x k (remembers (l .keyword) (getD (x .memory) k false) (isYes v))) (worked k (isYes v) ∷ []) (acts (l .keyword) (getD (x .memory) k false) (isYes v))
     unfolding tryTurn
     tried-so e = simp (tryTurn, t, e)
 

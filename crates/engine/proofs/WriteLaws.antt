@@ -7,11 +7,11 @@ use lib.IntN.{ℤ, pos}
 use lib.ListN.{getD}
 use mir.Syntax.{w32}
 use mir.Val.{SFits, toZ, ofZ}
+use Rattle.values.specs.Codes.{unsound}
 use Rattle.values.specs.declared.fifo.Moved.{Moved}
 use Rattle.values.proofs.Signed.{back}
 use Rattle.tokens.specs.Token.{FIFO1, isFifo}
-use Rattle.tokens.specs.Reading.{stop}
-use Rattle.values.specs.Fifo.{unsound}
+use Rattle.tokens.specs.Descent.{stop}
 use Rattle.working.specs.Variables.{counts, countAt, asCount, run}
 use Rattle.engine.specs.Write.{changeAnswer, changed, moved, changeFifo, takeOldest}
 

@@ -5,16 +5,16 @@ use Prim.Native.Nat.{ℕ, _+_}
 use lib.Dec.{eqb, ltb}
 use lib.IntN.{ℤ, pos, natAbs}
 use lib.ListN.{getD, set}
+use Rattle.values.specs.Codes.{unsound}
 use Rattle.values.specs.Value.{lessThan}
-use Rattle.values.specs.Fifo.{unsound}
 use Rattle.engine.specs.Order.{orderBytes, maxOrders}
 use Rattle.engine.specs.declared.order.Order.{Order}
 use Rattle.engine.specs.declared.order.Kind.the-variants as K
 use Rattle.tokens.specs.Token.{END, M, SETAL, LOCK, isVariable, isDrive, whole, maxLines}
-use Rattle.tokens.specs.Reading.{token, Answer, good, stop, _>>=_, indexAt}
+use Rattle.tokens.specs.Descent.{token, Answer, good, stop, _>>=_, indexAt}
 use Rattle.checking.specs.Fault.{isRemoval}
 use Rattle.working.specs.Working.{rightValue}
-use Rattle.working.specs.declared.work.Got.{Got}
+use Rattle.working.specs.declared.walk.ValueOrAlarm.{ValueOrAlarm}
 use Rattle.engine.specs.Set.{rankIn}
 use Rattle.engine.specs.Write.{Vars, changeFifo, withChanged, writeTo}
 use Rattle.engine.specs.Drive.{driveOrder, orderOf}
@@ -54,8 +54,8 @@ withVars x v = record { vars = v; locked = x .locked; memory = x .memory; acted 
 unfoldable pub alarmOf : ℤ → ℕ
 alarmOf v = cond (lessThan v (pos 1)) unsound (cond (lessThan (pos 255) v) unsound (natAbs v))
 
-abbrev pub fromGot : Got → Answer (ℤ × ℕ)
-fromGot g = elim (g .good) [ true ↦ good (g .value, g .next) | false ↦ stop (alarmOf (g .value)) ]
+abbrev pub fromValueOrAlarm : ValueOrAlarm → Answer (ℤ × ℕ)
+fromValueOrAlarm g = elim (g .good) [ true ↦ good (g .value, g .next) | false ↦ stop (alarmOf (g .value)) ]
 
 abbrev pub withLock : World → ℕ → Bool → World
 withLock x k b = record { vars = x .vars; locked = set (x .locked) k b; memory = x .memory; acted = x .acted; orders = x .orders }
@@ -83,7 +83,7 @@ unfoldable pub takenAt : List ℕ → Vars → ℕ → Answer Taken
 takenAt s x p =
     elim (isRemoval s p) [
       | true ↦ changeFifo (x .r) (x .cells) 1 (getD s p 0) (pos 0) >>= λ a. good (record { value = a .value; vars = withChanged x a; next = p + 4 })
-      | false ↦ fromGot (rightValue s (x .r) (x .cells) p) >>= λ a. good (record { value = a .0; vars = x; next = a .1 })
+      | false ↦ fromValueOrAlarm (rightValue s (x .r) (x .cells) p) >>= λ a. good (record { value = a .0; vars = x; next = a .1 })
     ]
 
 -- variable = sum
@@ -99,7 +99,7 @@ driveOf s number x w p =
     elim (ltb 255 (indexAt s w p)) [
       | true ↦ stop unsound
       | false ↦
-          fromGot (rightValue s (x .vars .r) (x .vars .cells) (p + 5)) >>= λ a.
+          fromValueOrAlarm (rightValue s (x .vars .r) (x .vars .cells) (p + 5)) >>= λ a.
           driveOrder number w (indexAt s w p) (a .0) >>= λ o.
           did (a .1) (ordered x o)
     ]

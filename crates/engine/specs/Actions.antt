@@ -3,9 +3,9 @@ use mathlib.Core.Bool.{Bool, true, false}
 use mathlib.Core.List.{List, _++_}
 use Prim.Native.Nat.{ℕ, zero, suc, _-_}
 use lib.Dec.{eqb, ltb}
-use Rattle.values.specs.Fifo.{unsound}
+use Rattle.values.specs.Codes.{unsound}
 use Rattle.tokens.specs.Token.{END, maxActions}
-use Rattle.tokens.specs.Reading.{token, Answer, good, stop, _>>=_}
+use Rattle.tokens.specs.Descent.{token, Answer, good, stop, _>>=_}
 use Rattle.engine.specs.Action.{World, Did, actionOf}
 use Rattle.engine.specs.Order.{maxOrders}
 

@@ -5,20 +5,15 @@ use Prim.Native.Nat.{ℕ, _/_}
 use lib.Dec.{eqb, ltb}
 use lib.IntN.{ℤ}
 use lib.ListN.{length, drop}
-use Rattle.tokens.specs.Reading.{Answer, good, stop, _>>=_}
+use Rattle.values.specs.Codes.{shortBuffer, wrongNumbers, unsound}
+use Rattle.tokens.specs.Descent.{Answer, good, stop, _>>=_}
 use Rattle.engine.specs.declared.state.State.{State}
 use Rattle.engine.specs.declared.one_beat.Beaten.{Beaten}
 use Rattle.engine.specs.Set.{soundLines}
 use Rattle.engine.specs.Cells.{inputCount, beatCells}
-use Rattle.engine.specs.Sound.{unsoundCode, isSound, allRanged}
+use Rattle.engine.specs.Sound.{isSound, allRanged}
 use Rattle.engine.specs.Action.{World}
 use Rattle.engine.specs.Turn.{beatIn, Turned, turnsFrom}
-
-abbrev pub shortBuffer : ℕ
-shortBuffer = 20
-
-abbrev pub wrongNumbers : ℕ
-wrongNumbers = 21
 
 -- the order buffer
 abbrev pub bufferSize : ℕ
@@ -64,7 +59,7 @@ beatOf s st automatic word lent size =
                   | false ↦ stop wrongNumbers
                 ]
           ]
-      | false ↦ stop unsoundCode
+      | false ↦ stop unsound
     ]
 
 -- what the call answers

@@ -5,14 +5,15 @@ use Prim.Native.Nat.{ℕ, zero, suc}
 use lib.Dec.{eqb}
 use lib.IntN.{ℤ, pos}
 use lib.ListN.{getD, set, take, drop, replicate}
+use Rattle.values.specs.Codes.{unsound}
 use Rattle.checking.specs.declared.check.Line.{Line}
 use Rattle.engine.specs.declared.state.State.{State}
 use Rattle.engine.specs.declared.calls.Called.{Called}
-use Rattle.engine.specs.declared.find.Found.{Found}
-use Rattle.engine.specs.Find.{found}
+use Rattle.engine.specs.declared.named_line.Found.{Found}
+use Rattle.engine.specs.NamedLine.{found}
 use Rattle.tokens.specs.Token.{maxLines}
 use Rattle.engine.specs.Set.{noLine, soundLines}
-use Rattle.engine.specs.Sound.{unsoundCode, isSound}
+use Rattle.engine.specs.Sound.{isSound}
 
 abbrev pub withLocked : State → ℕ → Bool → State
 withLocked st k b = record { r = st .r; cells = st .cells; runs = st .runs; locked = set (st .locked) k b; cancelled = st .cancelled; memory = st .memory }
@@ -68,5 +69,5 @@ unfoldable pub resetCall : List ℕ → State → Called
 resetCall s st =
     elim (isSound s st) [
       | true ↦ record { code = 0; state = resetState (soundLines s .items) (soundLines s .count) st }
-      | false ↦ record { code = unsoundCode; state = st }
+      | false ↦ record { code = unsound; state = st }
     ]

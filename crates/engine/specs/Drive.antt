@@ -8,7 +8,7 @@ use Rattle.engine.specs.declared.order.Order.{Order}
 use Rattle.engine.specs.declared.order.Kind.{Kind}
 use Rattle.engine.specs.declared.order.Kind.the-variants as K
 use Rattle.tokens.specs.Token.{POS, FA}
-use Rattle.tokens.specs.Reading.{Answer, good, _>>=_}
+use Rattle.tokens.specs.Descent.{Answer, good, _>>=_}
 use Rattle.working.specs.Operators.{fromWorked}
 
 abbrev pub orderOf : ℕ → Kind → ℕ → ℤ → Order

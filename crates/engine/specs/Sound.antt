@@ -11,10 +11,6 @@ use Rattle.working.specs.Variables.{asCount}
 use Rattle.engine.specs.declared.state.State.{State}
 use Rattle.engine.specs.Set.{soundLines}
 
--- the code of whatever is not sound
-abbrev pub unsoundCode : ℕ
-unsoundCode = 22
-
 -- all values within range
 unfoldable pub allRanged : List ℤ → Bool
 allRanged [] = true

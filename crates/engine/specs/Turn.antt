@@ -4,12 +4,12 @@ use mathlib.Core.List.{List, [], _∷_, _++_, map}
 use Prim.Native.Nat.{ℕ, zero, suc, _+_, _^_}
 use lib.ListN.{getD, set}
 use Rattle.tokens.specs.Token.{maxActions}
-use Rattle.tokens.specs.Reading.{Answer, good, _>>=_}
+use Rattle.tokens.specs.Descent.{Answer, good, _>>=_}
 use Rattle.working.specs.Operators.{isYes}
 use Rattle.working.specs.Working.{conditionValue}
 use Rattle.checking.specs.declared.check.Line.{Line}
 use Rattle.engine.specs.Set.{noLine}
-use Rattle.engine.specs.Action.{World, Note, fromGot}
+use Rattle.engine.specs.Action.{World, Note, fromValueOrAlarm}
 use Rattle.engine.specs.Actions.{actionsOf}
 use Rattle.engine.specs.Keyword.{acts, remembers, tries}
 
@@ -54,7 +54,7 @@ module _ (s numbers : List ℕ) (cancelled : List Bool) (automatic : Bool) where
   tryTurn l k x =
       elim (tries (l .keyword) (getD (x .memory) k false)) [
         | true ↦
-            fromGot (conditionValue s (x .vars .r) (x .vars .cells) (l .condition)) >>= λ a.
+            fromValueOrAlarm (conditionValue s (x .vars .r) (x .vars .cells) (l .condition)) >>= λ a.
             doTurn l k (remembered x k (remembers (l .keyword) (getD (x .memory) k false) (isYes (a .0)))) (worked k (isYes (a .0)) ∷ [])
             (acts (l .keyword) (getD (x .memory) k false) (isYes (a .0)))
         | false ↦ doTurn l k x [] (acts (l .keyword) (getD (x .memory) k false) false)

@@ -5,13 +5,14 @@ use Prim.Native.Nat.{ℕ, _+_, _-_}
 use lib.Dec.{eqb}
 use lib.IntN.{ℤ, pos}
 use lib.ListN.{getD, set, take, drop}
+use Rattle.values.specs.Codes.{unsound}
 use Rattle.values.specs.Value.{wholeUnits, outputOf}
 use Rattle.values.specs.Time.{timer, writtenTimer}
-use Rattle.values.specs.Fifo.{places, unsound, appendAnswer, appended, removeAnswer, removed, emptyAnswer, emptied}
+use Rattle.values.specs.Fifo.{places, appendAnswer, appended, removeAnswer, removed, emptyAnswer, emptied}
 use Rattle.values.specs.declared.fifo.Moved.{Moved}
 use Rattle.values.specs.declared.fifo.Moved.the-variants as M
 use Rattle.tokens.specs.Token.{OUT, MARKER, PARAM, R, TIMER, FIFO1, M, isFifo}
-use Rattle.tokens.specs.Reading.{Answer, good, stop, _>>=_}
+use Rattle.tokens.specs.Descent.{Answer, good, stop, _>>=_}
 use Rattle.tokens.specs.Index.{isInside}
 use Rattle.working.specs.Variables.{cellOf, counts, countAt, runStart, run}
 use Rattle.working.specs.Operators.{fromWorked}

@@ -7,10 +7,10 @@ ghost use Prim.Native.Nat.{ℕ, _+_, _<_};
 ghost use mathlib.Core.List.{List};
 ghost use lib.IntN.{ℤ, pos};
 ghost use Rattle.working.specs.Working.{rightValue};
-ghost use Rattle.engine.specs.Action.{fromGot, alarmOf, did, ordered, takenAt, assignmentOf, driveOf, lockOf, commandOf, actionOf, roomForOne};
+ghost use Rattle.engine.specs.Action.{fromValueOrAlarm, alarmOf, did, ordered, takenAt, assignmentOf, driveOf, lockOf, commandOf, actionOf, roomForOne};
 ghost use Rattle.engine.specs.Order.{maxOrders};
-ghost use Rattle.engine.specs.WriteHeld.{varsOf};
-ghost use Rattle.engine.specs.ActionHeld.{worldOf, IsWorked, IsTaken, IsDone, Within};
+ghost use Rattle.engine.specs.WriteAnswers.{varsOf};
+ghost use Rattle.engine.specs.ActionAnswers.{worldOf, IsWorked, IsTaken, IsDone, Within};
 ghost use Rattle.tokens.specs.Token.{setSize};
 use crate::drive::drive_order;
 use crate::order::Kind;
@@ -35,11 +35,11 @@ use tokens::token::is_variable;
 use tokens::token::token_at;
 use tokens::token::whole_of;
 use values::arithmetic::Worked;
+use values::codes::UNSOUND;
 use working::right_side;
 use working::variables::CELLS;
 use working::variables::RS;
 use working::variables::TIMERS;
-use working::variables::UNSOUND;
 
 // What a beat under way holds beside R, the cells and the orders: which timers run, which lines are locked, their memory, the word of those that acted, and
 // the count of orders.
@@ -52,7 +52,7 @@ pub struct Flags {
 }
 
 // What stands right of =, worked: its value and the place behind it.
-pub struct Took {
+pub struct RightSide {
     pub good: bool,
     pub alarm: u8,
     pub value: i32,
@@ -69,10 +69,10 @@ pub struct Done {
 
 // ---- right sides
 
-fn not_taken(alarm: u8) -> Took
+fn not_taken(alarm: u8) -> RightSide
     ensures { λ x. ⌜ x ≡ record { good = false; alarm = alarm; value = pos 0; next = 0 } ⌝ }
 {
-    Took {
+    RightSide {
         good: false,
         alarm: alarm,
         value: 0,
@@ -94,15 +94,15 @@ pub fn alarm_of(v: i32) -> u8
 }
 
 // The right side at place p, worked; it changes nothing.
-fn work(code: &[u32; SIZE], r: &[i32; RS], cells: &[i32; CELLS], p: usize) -> Took
-    ensures { λ x. ⌜ IsWorked x (fromGot (rightValue (now (code .entry)) (now (r .entry)) (now (cells .entry)) p)) ⌝ }
+fn work(set: &[u32; SIZE], r: &[i32; RS], cells: &[i32; CELLS], p: usize) -> RightSide
+    ensures { λ x. ⌜ IsWorked x (fromValueOrAlarm (rightValue (now (set .entry)) (now (r .entry)) (now (cells .entry)) p)) ⌝ }
 {
-    let g = right_side(code, r, cells, p);
+    let g = right_side(set, r, cells, p);
     let good = g.good;
     if !good {
         return not_taken(alarm_of(g.value));
     }
-    Took {
+    RightSide {
         good: true,
         alarm: 0,
         value: g.value,
@@ -112,20 +112,20 @@ fn work(code: &[u32; SIZE], r: &[i32; RS], cells: &[i32; CELLS], p: usize) -> To
 
 // The right side of an assignment at place p: FIFO [0] as the whole right side removes the oldest.
 fn take(
-    code: &[u32; SIZE],
+    set: &[u32; SIZE],
     r: &mut [i32; RS],
     cells: &mut [i32; CELLS],
     runs: [bool; TIMERS],
     p: usize,
-) -> Took
+) -> RightSide
     requires { ⌜ p < setSize + 5 ⌝ }
-    ensures { λ x. ⌜ IsTaken x (now (r .exit)) (now (cells .exit)) runs (takenAt (now (code .entry)) (varsOf (now (r .entry)) (now (cells .entry)) runs) p) ⌝ }
+    ensures { λ x. ⌜ IsTaken x (now (r .exit)) (now (cells .exit)) runs (takenAt (now (set .entry)) (varsOf (now (r .entry)) (now (cells .entry)) runs) p) ⌝ }
 {
-    if !is_removal(code, p) {
-        return work(code, r, cells, p);
+    if !is_removal(set, p) {
+        return work(set, r, cells, p);
     }
-    match take_oldest(r, cells, token_at(code, p)) {
-        Worked::Value(v) => Took {
+    match take_oldest(r, cells, token_at(set, p)) {
+        Worked::Value(v) => RightSide {
             good: true,
             alarm: 0,
             value: v,
@@ -161,7 +161,7 @@ pub fn not_done(alarm: u8, flags: Flags) -> Done
 
 // variable = sum.
 fn assign(
-    code: &[u32; SIZE],
+    set: &[u32; SIZE],
     r: &mut [i32; RS],
     cells: &mut [i32; CELLS],
     flags: Flags,
@@ -169,15 +169,15 @@ fn assign(
     p: usize,
 ) -> Done
     requires { ⌜ p < setSize ⌝ }
-    ensures { λ x. ⌜ ((out : List ℕ) → IsDone x (now (r .exit)) (now (cells .exit)) out (assignmentOf (now (code .entry)) (worldOf (now (r .entry)) (now (cells .entry)) out flags) w p)) × Within 0 x flags ⌝ }
+    ensures { λ x. ⌜ ((out : List ℕ) → IsDone x (now (r .exit)) (now (cells .exit)) out (assignmentOf (now (set .entry)) (worldOf (now (r .entry)) (now (cells .entry)) out flags) w p)) × Within 0 x flags ⌝ }
 {
     let runs = flags.runs;
-    let t = take(code, r, cells, runs, p + 5);
+    let t = take(set, r, cells, runs, p + 5);
     let good = t.good;
     if !good {
         return not_done(t.alarm, flags);
     }
-    let x = write(r, cells, runs, w, index_at(code, w, p), t.value);
+    let x = write(r, cells, runs, w, index_at(set, w, p), t.value);
     let written = x.good;
     if !written {
         return not_done(x.alarm, flags);
@@ -202,7 +202,7 @@ fn add_order(out: &mut [u8; ORDERS], flags: Flags, o: Order, next: usize) -> Don
 
 // POS[axis]=, FA[axis]=, MOV[axis]= and a sum; an axis that no byte holds is in no sound set.
 fn drive(
-    code: &[u32; SIZE],
+    set: &[u32; SIZE],
     r: &[i32; RS],
     cells: &[i32; CELLS],
     out: &mut [u8; ORDERS],
@@ -212,13 +212,13 @@ fn drive(
     p: usize,
 ) -> Done
     requires { ⌜ (p < setSize) × (flags .count < maxOrders) ⌝ }
-    ensures { λ x. ⌜ IsDone x (now (r .entry)) (now (cells .entry)) (now (out .exit)) (driveOf (now (code .entry)) number (worldOf (now (r .entry)) (now (cells .entry)) (now (out .entry)) flags) w p) × Within 1 x flags ⌝ }
+    ensures { λ x. ⌜ IsDone x (now (r .entry)) (now (cells .entry)) (now (out .exit)) (driveOf (now (set .entry)) number (worldOf (now (r .entry)) (now (cells .entry)) (now (out .entry)) flags) w p) × Within 1 x flags ⌝ }
 {
-    let axis = index_at(code, w, p);
+    let axis = index_at(set, w, p);
     if 255 < axis {
         return not_done(UNSOUND, flags);
     }
-    let t = work(code, r, cells, p + 5);
+    let t = work(set, r, cells, p + 5);
     let good = t.good;
     if !good {
         return not_done(t.alarm, flags);
@@ -249,7 +249,7 @@ fn set_lock(cancelled: &[bool; LINES], flags: Flags, on: bool, k: usize, next: u
 
 // M= and a number; SETAL, LOCK, UNLOCK and a number in brackets.
 fn command(
-    code: &[u32; SIZE],
+    set: &[u32; SIZE],
     numbers: &[u8; LINES],
     cancelled: &[bool; LINES],
     out: &mut [u8; ORDERS],
@@ -259,9 +259,9 @@ fn command(
     p: usize,
 ) -> Done
     requires { ⌜ (p < setSize) × (flags .count < maxOrders) ⌝ }
-    ensures { λ x. ⌜ ((r c : List ℤ) → IsDone x r c (now (out .exit)) (commandOf (now (code .entry)) (now (numbers .entry)) (now (cancelled .entry)) number (worldOf r c (now (out .entry)) flags) w p)) × Within 1 x flags ⌝ }
+    ensures { λ x. ⌜ ((r c : List ℤ) → IsDone x r c (now (out .exit)) (commandOf (now (set .entry)) (now (numbers .entry)) (now (cancelled .entry)) number (worldOf r c (now (out .entry)) flags) w p)) × Within 1 x flags ⌝ }
 {
-    let n = whole_of(token_at(code, p + 2));
+    let n = whole_of(token_at(set, p + 2));
     if w == M {
         return add_order(
             out,
@@ -293,7 +293,7 @@ fn command(
 
 // The action at place p, of the line with that number; where one more order has no room, no sound set and no beat is so.
 pub fn action(
-    code: &[u32; SIZE],
+    set: &[u32; SIZE],
     numbers: &[u8; LINES],
     cancelled: &[bool; LINES],
     r: &mut [i32; RS],
@@ -303,20 +303,20 @@ pub fn action(
     number: u8,
     p: usize,
 ) -> Done
-    ensures { λ x. ⌜ IsDone x (now (r .exit)) (now (cells .exit)) (now (out .exit)) (roomForOne (flags .count) (actionOf (now (code .entry)) (now (numbers .entry)) (now (cancelled .entry)) number (worldOf (now (r .entry)) (now (cells .entry)) (now (out .entry)) flags) p)) × Within 1 x flags ⌝ }
+    ensures { λ x. ⌜ IsDone x (now (r .exit)) (now (cells .exit)) (now (out .exit)) (roomForOne (flags .count) (actionOf (now (set .entry)) (now (numbers .entry)) (now (cancelled .entry)) number (worldOf (now (r .entry)) (now (cells .entry)) (now (out .entry)) flags) p)) × Within 1 x flags ⌝ }
 {
     if MAX_ORDERS <= flags.count {
         return not_done(UNSOUND, flags);
     }
-    let w = token_at(code, p);
+    let w = token_at(set, p);
     if w == END {
         return not_done(UNSOUND, flags);
     }
     if is_variable(w) {
-        return assign(code, r, cells, flags, w, p);
+        return assign(set, r, cells, flags, w, p);
     }
     if is_drive(w) {
-        return drive(code, r, cells, out, flags, number, w, p);
+        return drive(set, r, cells, out, flags, number, w, p);
     }
-    command(code, numbers, cancelled, out, flags, number, w, p)
+    command(set, numbers, cancelled, out, flags, number, w, p)
 }

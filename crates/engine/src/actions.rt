@@ -4,7 +4,7 @@
 ghost use Prim.Native.Nat.{_+_, _≤_};
 ghost use Rattle.engine.specs.Actions.{actionsOf, withRoom};
 ghost use Rattle.engine.specs.Order.{maxOrders};
-ghost use Rattle.engine.specs.ActionHeld.{worldOf, IsDone, Within};
+ghost use Rattle.engine.specs.ActionAnswers.{worldOf, IsDone, Within};
 ghost use Rattle.tokens.specs.Token.{maxActions};
 use crate::action::Done;
 use crate::action::Flags;
@@ -17,16 +17,16 @@ use tokens::token::END;
 use tokens::token::LINES;
 use tokens::token::SIZE;
 use tokens::token::token_at;
+use values::codes::UNSOUND;
 use working::variables::CELLS;
 use working::variables::RS;
-use working::variables::UNSOUND;
 
 // The most orders that leave room for those of one more line.
 const ROOM: usize = MAX_ORDERS - ACTIONS;
 
 // The actions from place p on, left to right: at most eight.
 fn all_actions(
-    code: &[u32; SIZE],
+    set: &[u32; SIZE],
     numbers: &[u8; LINES],
     cancelled: &[bool; LINES],
     r: &mut [i32; RS],
@@ -37,20 +37,20 @@ fn all_actions(
     p: usize,
 ) -> Done
     requires { ⌜ flags .count + maxActions ≤ maxOrders ⌝ }
-    ensures { λ x. ⌜ IsDone x (now (r .exit)) (now (cells .exit)) (now (out .exit)) (actionsOf (now (code .entry)) (now (numbers .entry)) (now (cancelled .entry)) number maxActions (worldOf (now (r .entry)) (now (cells .entry)) (now (out .entry)) flags) p) × Within maxActions x flags ⌝ }
+    ensures { λ x. ⌜ IsDone x (now (r .exit)) (now (cells .exit)) (now (out .exit)) (actionsOf (now (set .entry)) (now (numbers .entry)) (now (cancelled .entry)) number maxActions (worldOf (now (r .entry)) (now (cells .entry)) (now (out .entry)) flags) p) × Within maxActions x flags ⌝ }
 {
     let mut f = flags;
     let mut i = p;
     let mut left: usize = ACTIONS;
     while 0 < left {
         let before = f;
-        let d = action(code, numbers, cancelled, r, cells, out, before, number, i);
+        let d = action(set, numbers, cancelled, r, cells, out, before, number, i);
         let good = d.good;
         if !good {
             return d;
         }
         i = d.next;
-        if token_at(code, i) == END {
+        if token_at(set, i) == END {
             return d;
         }
         let g = d.flags;
@@ -62,7 +62,7 @@ fn all_actions(
 
 // The same, for any count of orders so far: where eight more have no room, no sound set and no beat is so.
 pub fn actions(
-    code: &[u32; SIZE],
+    set: &[u32; SIZE],
     numbers: &[u8; LINES],
     cancelled: &[bool; LINES],
     r: &mut [i32; RS],
@@ -72,10 +72,10 @@ pub fn actions(
     number: u8,
     p: usize,
 ) -> Done
-    ensures { λ x. ⌜ IsDone x (now (r .exit)) (now (cells .exit)) (now (out .exit)) (withRoom (flags .count) (actionsOf (now (code .entry)) (now (numbers .entry)) (now (cancelled .entry)) number maxActions (worldOf (now (r .entry)) (now (cells .entry)) (now (out .entry)) flags) p)) × Within maxActions x flags ⌝ }
+    ensures { λ x. ⌜ IsDone x (now (r .exit)) (now (cells .exit)) (now (out .exit)) (withRoom (flags .count) (actionsOf (now (set .entry)) (now (numbers .entry)) (now (cancelled .entry)) number maxActions (worldOf (now (r .entry)) (now (cells .entry)) (now (out .entry)) flags) p)) × Within maxActions x flags ⌝ }
 {
     if ROOM < flags.count {
         return not_done(UNSOUND, flags);
     }
-    all_actions(code, numbers, cancelled, r, cells, out, flags, number, p)
+    all_actions(set, numbers, cancelled, r, cells, out, flags, number, p)
 }

@@ -4,18 +4,17 @@ ghost use Prim.Native.Nat.{_≤_};
 ghost use lib.ListN.{length};
 ghost use Rattle.engine.specs.Calls.{lockCall, unlockCall, cancelCall, resetCancelled, resetCall, lockedCall, zeroed};
 ghost use Rattle.tokens.specs.Token.{maxLines};
-use crate::find::find;
+use crate::named_line::find;
 use crate::set::Lines;
 use crate::set::sound_lines;
 use crate::sound::is_state_sound;
 use crate::state::State;
 use tokens::token::LINES;
 use tokens::token::SIZE;
+use values::codes::UNSOUND;
 use working::variables::COUNT_AT;
 use working::variables::MARKER_AT;
 use working::variables::TIMERS;
-
-pub const UNSOUND: u8 = 22;
 
 // What a call answers.
 pub struct Called {

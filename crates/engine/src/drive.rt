@@ -1,8 +1,8 @@
 // The orders of POS, FA and MOV.
 ghost use mathlib.Core.Bool.{true, false};
-ghost use Rattle.tokens.specs.Reading.{good, stop};
+ghost use Rattle.tokens.specs.Descent.{good, stop};
 ghost use Rattle.engine.specs.Drive.{orderOf, driveOrder};
-ghost use Rattle.engine.specs.DriveHeld.{IsOrder};
+ghost use Rattle.engine.specs.DriveAnswers.{IsOrder};
 use crate::order::Kind;
 use crate::order::Order;
 use tokens::token::FA;

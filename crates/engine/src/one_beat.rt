@@ -20,14 +20,11 @@ use crate::state::State;
 use crate::turn::turns;
 use tokens::token::LINES;
 use tokens::token::SIZE;
+use values::codes::SHORT_BUFFER;
+use values::codes::UNSOUND;
+use values::codes::WRONG_NUMBERS;
 use working::variables::RS;
 use working::variables::STATE_CELLS;
-
-pub const UNSOUND: u8 = 22;
-
-pub const SHORT_BUFFER: u8 = 20;
-
-pub const WRONG_NUMBERS: u8 = 21;
 
 // What a beat answers: its code, the count of orders in the buffer, the word of the lines that acted, by rank, and the state.
 pub struct Beaten {

@@ -4,8 +4,8 @@ ghost use mathlib.Core.Bool.{Bool};
 ghost use mathlib.Core.List.{List};
 ghost use Prim.Native.Nat.{ℕ, _+_, _*_, _^_, _≤_, _<_};
 ghost use Rattle.engine.specs.Turn.{Entry, doTurn, tryTurn, turnOf, turnsFrom};
-ghost use Rattle.engine.specs.ActionHeld.{worldOf};
-ghost use Rattle.engine.specs.TurnHeld.{IsTurned, firstFlags, withLines};
+ghost use Rattle.engine.specs.ActionAnswers.{worldOf};
+ghost use Rattle.engine.specs.TurnAnswers.{IsTurned, firstFlags, withLines};
 ghost use Rattle.tokens.specs.Token.{maxLines};
 use crate::action::Done;
 use crate::action::Flags;
@@ -23,14 +23,14 @@ use checking::Line;
 use tokens::token::LINES;
 use tokens::token::SIZE;
 use values::arithmetic::is_equal;
+use values::codes::UNSOUND;
 use working::condition;
 use working::variables::CELLS;
 use working::variables::RS;
-use working::variables::UNSOUND;
 
 // The actions of the line of rank k, if it acts; `bit` is its bit in the word.
 fn act(
-    code: &[u32; SIZE],
+    set: &[u32; SIZE],
     numbers: &[u8; LINES],
     cancelled: &[bool; LINES],
     r: &mut [i32; RS],
@@ -42,7 +42,7 @@ fn act(
     yes: bool,
 ) -> Done
     requires { ⌜ (flags .count ≤ 248) × (flags .acted + bit < 4294967296) ⌝ }
-    ensures { λ x. ⌜ ((k : ℕ) (es : List Entry) (automatic : Bool) → bit ≡ 2 ^ k → IsTurned x (now (r .exit)) (now (cells .exit)) (now (out .exit)) (doTurn (now (code .entry)) (now (numbers .entry)) (now (cancelled .entry)) automatic l k (worldOf (now (r .entry)) (now (cells .entry)) (now (out .entry)) flags) es yes)) × ((x .flags .count ≤ flags .count + 8) × (x .flags .acted ≤ flags .acted + bit)) ⌝ }
+    ensures { λ x. ⌜ ((k : ℕ) (es : List Entry) (automatic : Bool) → bit ≡ 2 ^ k → IsTurned x (now (r .exit)) (now (cells .exit)) (now (out .exit)) (doTurn (now (set .entry)) (now (numbers .entry)) (now (cancelled .entry)) automatic l k (worldOf (now (r .entry)) (now (cells .entry)) (now (out .entry)) flags) es yes)) × ((x .flags .count ≤ flags .count + 8) × (x .flags .acted ≤ flags .acted + bit)) ⌝ }
 {
     if !yes {
         return did_all(0, flags);
@@ -50,22 +50,12 @@ fn act(
     let mut f = flags;
     f.acted = flags.acted + bit;
     let number = l.number;
-    actions(
-        code,
-        numbers,
-        cancelled,
-        r,
-        cells,
-        out,
-        f,
-        number,
-        l.actions,
-    )
+    actions(set, numbers, cancelled, r, cells, out, f, number, l.actions)
 }
 
 // The condition of the line of rank k, if it is to be worked; then its actions, if it acts.
 fn try_line(
-    code: &[u32; SIZE],
+    set: &[u32; SIZE],
     numbers: &[u8; LINES],
     cancelled: &[bool; LINES],
     r: &mut [i32; RS],
@@ -77,16 +67,16 @@ fn try_line(
     bit: u64,
 ) -> Done
     requires { ⌜ (k < maxLines) × ((bit ≡ 2 ^ k) × ((flags .count ≤ 8 * k) × (flags .acted < bit))) ⌝ }
-    ensures { λ x. ⌜ ((automatic : Bool) → IsTurned x (now (r .exit)) (now (cells .exit)) (now (out .exit)) (tryTurn (now (code .entry)) (now (numbers .entry)) (now (cancelled .entry)) automatic l k (worldOf (now (r .entry)) (now (cells .entry)) (now (out .entry)) flags))) × ((x .flags .count ≤ flags .count + 8) × (x .flags .acted ≤ flags .acted + bit)) ⌝ }
+    ensures { λ x. ⌜ ((automatic : Bool) → IsTurned x (now (r .exit)) (now (cells .exit)) (now (out .exit)) (tryTurn (now (set .entry)) (now (numbers .entry)) (now (cancelled .entry)) automatic l k (worldOf (now (r .entry)) (now (cells .entry)) (now (out .entry)) flags))) × ((x .flags .count ≤ flags .count + 8) × (x .flags .acted ≤ flags .acted + bit)) ⌝ }
 {
     let memories = flags.memory;
     let memory = memories[k];
     let keyword = l.keyword;
     if !tries_now(keyword, memory) {
         let yes = acts_now(keyword, memory, false);
-        return act(code, numbers, cancelled, r, cells, out, flags, l, bit, yes);
+        return act(set, numbers, cancelled, r, cells, out, flags, l, bit, yes);
     }
-    let g = condition(code, r, cells, l.condition);
+    let g = condition(set, r, cells, l.condition);
     let good = g.good;
     if !good {
         return not_done(alarm_of(g.value), flags);
@@ -96,12 +86,12 @@ fn try_line(
     let mut f = flags;
     f.memory[k] = remembered;
     let yes = acts_now(keyword, memory, v);
-    act(code, numbers, cancelled, r, cells, out, f, l, bit, yes)
+    act(set, numbers, cancelled, r, cells, out, f, l, bit, yes)
 }
 
 // The turn of the line of rank k: none if it is cancelled or locked at that moment; an ID line also needs AUTOMATIC.
 fn turn(
-    code: &[u32; SIZE],
+    set: &[u32; SIZE],
     numbers: &[u8; LINES],
     cancelled: &[bool; LINES],
     automatic: bool,
@@ -114,7 +104,7 @@ fn turn(
     bit: u64,
 ) -> Done
     requires { ⌜ (k < maxLines) × ((bit ≡ 2 ^ k) × ((flags .count ≤ 8 * k) × (flags .acted < bit))) ⌝ }
-    ensures { λ x. ⌜ IsTurned x (now (r .exit)) (now (cells .exit)) (now (out .exit)) (turnOf (now (code .entry)) (now (numbers .entry)) (now (cancelled .entry)) automatic l k (worldOf (now (r .entry)) (now (cells .entry)) (now (out .entry)) flags)) × ((x .flags .count ≤ flags .count + 8) × (x .flags .acted ≤ flags .acted + bit)) ⌝ }
+    ensures { λ x. ⌜ IsTurned x (now (r .exit)) (now (cells .exit)) (now (out .exit)) (turnOf (now (set .entry)) (now (numbers .entry)) (now (cancelled .entry)) automatic l k (worldOf (now (r .entry)) (now (cells .entry)) (now (out .entry)) flags)) × ((x .flags .count ≤ flags .count + 8) × (x .flags .acted ≤ flags .acted + bit)) ⌝ }
 {
     if cancelled[k] {
         return did_all(0, flags);
@@ -127,12 +117,12 @@ fn turn(
     if !free {
         return did_all(0, flags);
     }
-    try_line(code, numbers, cancelled, r, cells, out, flags, l, k, bit)
+    try_line(set, numbers, cancelled, r, cells, out, flags, l, k, bit)
 }
 
 // The turns of all lines, by rising number.
 fn all_lines(
-    code: &[u32; SIZE],
+    set: &[u32; SIZE],
     lines: Lines,
     cancelled: &[bool; LINES],
     automatic: bool,
@@ -142,7 +132,7 @@ fn all_lines(
     flags: Flags,
 ) -> Done
     requires { ⌜ (lines .count ≤ maxLines) × ((flags .count ≡ 0) × (flags .acted ≡ 0)) ⌝ }
-    ensures { λ x. ⌜ IsTurned x (now (r .exit)) (now (cells .exit)) (now (out .exit)) (turnsFrom (now (code .entry)) (lines .numbers) (now (cancelled .entry)) automatic (lines .items) (lines .count) 0 (worldOf (now (r .entry)) (now (cells .entry)) (now (out .entry)) flags)) × ((x .flags .count ≤ 256) × (x .flags .acted < 4294967296)) ⌝ }
+    ensures { λ x. ⌜ IsTurned x (now (r .exit)) (now (cells .exit)) (now (out .exit)) (turnsFrom (now (set .entry)) (lines .numbers) (now (cancelled .entry)) automatic (lines .items) (lines .count) 0 (worldOf (now (r .entry)) (now (cells .entry)) (now (out .entry)) flags)) × ((x .flags .count ≤ 256) × (x .flags .acted < 4294967296)) ⌝ }
 {
     let numbers = lines.numbers;
     let items = lines.items;
@@ -153,7 +143,7 @@ fn all_lines(
     while k < count {
         let l = items[k];
         let d = turn(
-            code,
+            set,
             &numbers,
             cancelled,
             automatic,
@@ -195,7 +185,7 @@ fn first_flags(state: State) -> Flags
 
 // The turns of a beat, from a state: with more lines than a set has, which no sound set says, there is none.
 pub fn turns(
-    code: &[u32; SIZE],
+    set: &[u32; SIZE],
     lines: Lines,
     state: State,
     automatic: bool,
@@ -203,12 +193,12 @@ pub fn turns(
     cells: &mut [i32; CELLS],
     out: &mut [u8; ORDERS],
 ) -> Done
-    ensures { λ x. ⌜ IsTurned x (now (r .exit)) (now (cells .exit)) (now (out .exit)) (withLines (lines .count) (turnsFrom (now (code .entry)) (lines .numbers) (state .cancelled) automatic (lines .items) (lines .count) 0 (worldOf (now (r .entry)) (now (cells .entry)) (now (out .entry)) (firstFlags state)))) × ((x .flags .count ≤ 256) × (x .flags .acted < 4294967296)) ⌝ }
+    ensures { λ x. ⌜ IsTurned x (now (r .exit)) (now (cells .exit)) (now (out .exit)) (withLines (lines .count) (turnsFrom (now (set .entry)) (lines .numbers) (state .cancelled) automatic (lines .items) (lines .count) 0 (worldOf (now (r .entry)) (now (cells .entry)) (now (out .entry)) (firstFlags state)))) × ((x .flags .count ≤ 256) × (x .flags .acted < 4294967296)) ⌝ }
 {
     let cancelled = state.cancelled;
     let flags = first_flags(state);
     if LINES < lines.count {
         return not_done(UNSOUND, flags);
     }
-    all_lines(code, lines, &cancelled, automatic, r, cells, out, flags)
+    all_lines(set, lines, &cancelled, automatic, r, cells, out, flags)
 }

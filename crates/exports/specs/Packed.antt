@@ -2,7 +2,7 @@
 use mathlib.Core.Bool.{true, false}
 use Prim.Native.Nat.{ℕ, _+_, _*_}
 use lib.IntN.{ℤ, negsuc, _-ℤ_}
-use Rattle.working.specs.declared.work.Got.{Got}
+use Rattle.working.specs.declared.walk.ValueOrAlarm.{ValueOrAlarm}
 use Rattle.reader.specs.declared.load_text.Loaded.{Loaded}
 
 -- -2^40
@@ -10,7 +10,7 @@ abbrev pub alarms : ℤ
 alarms = negsuc 1099511627775
 
 -- a value is itself, an alarm k is -2^40 - k, below every value
-unfoldable pub packed : Got → ℤ
+unfoldable pub packed : ValueOrAlarm → ℤ
 packed g = elim (g .good) [ true ↦ g .value | false ↦ alarms -ℤ g .value ]
 
 -- the code is the lowest byte, the line stands above it; the state is that of power-on in each case

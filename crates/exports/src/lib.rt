@@ -8,7 +8,7 @@ ghost use Rattle.exports.specs.Packed.{packed, packedLoad};
 use checking::line_at;
 use reader::load;
 use tokens::token::SIZE;
-use working::Got;
+use working::ValueOrAlarm;
 use working::condition;
 use working::right_side;
 use working::variables::CELLS;
@@ -18,7 +18,7 @@ use working::variables::RS;
 const ALARMS: i64 = -1099511627776;
 
 // What working gives, as one number: the value, or an alarm.
-fn packed_got(g: Got) -> i64
+fn packed_value(g: ValueOrAlarm) -> i64
     ensures { λ x. ⌜ x ≡ packed g ⌝ }
 {
     let good = g.good;
@@ -31,35 +31,35 @@ fn packed_got(g: Got) -> i64
 // The condition at place `at`: 1 for yes, 0 for no, or an alarm.
 #[no_mangle]
 pub extern "C" fn code_condition(
-    code: &[u32; SIZE],
+    set: &[u32; SIZE],
     r: &[i32; RS],
     cells: &[i32; CELLS],
     at: usize,
 ) -> i64
-    ensures { λ x. ⌜ x ≡ packed (conditionValue (now (code .entry)) (now (r .entry)) (now (cells .entry)) at) ⌝ }
+    ensures { λ x. ⌜ x ≡ packed (conditionValue (now (set .entry)) (now (r .entry)) (now (cells .entry)) at) ⌝ }
 {
-    packed_got(condition(code, r, cells, at))
+    packed_value(condition(set, r, cells, at))
 }
 
 // The right side at place `at`: its value in thousandths, or an alarm.
 #[no_mangle]
 pub extern "C" fn code_right_side(
-    code: &[u32; SIZE],
+    set: &[u32; SIZE],
     r: &[i32; RS],
     cells: &[i32; CELLS],
     at: usize,
 ) -> i64
-    ensures { λ x. ⌜ x ≡ packed (rightValue (now (code .entry)) (now (r .entry)) (now (cells .entry)) at) ⌝ }
+    ensures { λ x. ⌜ x ≡ packed (rightValue (now (set .entry)) (now (r .entry)) (now (cells .entry)) at) ⌝ }
 {
-    packed_got(right_side(code, r, cells, at))
+    packed_value(right_side(set, r, cells, at))
 }
 
 // The lowest fault of 4 to 10 of the line at place `at`, 0 for none.
 #[no_mangle]
-pub extern "C" fn code_line_fault(code: &[u32; SIZE], at: usize) -> u32
-    ensures { λ x. ⌜ x ≡ lineAt (now (code .entry)) at .fault ⌝ }
+pub extern "C" fn code_line_fault(set: &[u32; SIZE], at: usize) -> u32
+    ensures { λ x. ⌜ x ≡ lineAt (now (set .entry)) at .fault ⌝ }
 {
-    let line = line_at(code, at);
+    let line = line_at(set, at);
     line.fault as u32
 }
 

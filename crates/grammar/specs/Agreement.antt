@@ -10,8 +10,8 @@ use lib.ListN.{length}
 use borrow.Author.Tests.{le-leb, eq-eqb}
 use Rattle.values.specs.Choice.{holds, chosen, refused}
 use Rattle.tokens.specs.Token.{NUMBER, OPEN, CLOSE, LEFT, RIGHT, IM, isNumber, isVariable, isFactor, isTerm, isCompare, isLogic, wholeToken, AND, ATLEAST, MINUS, OVER, PLUS, SAME, TIMES, XOR}
-use Rattle.grammar.specs.Tree.{Operand, number, variable, position, truth, bracket, minus, not, Product, product, Factors, noFactor, factor, Sum, sum, Terms, noTerm, term, Expression, plain, compare, row, Sums, last, next, operandTokens, productTokens, factorsTokens, sumTokens, termsTokens, expressionTokens, sumsTokens}
-use Rattle.tokens.specs.Reading.{token, Answer, good, Read, read, _>>=_, upTo, Meaning, isRow, isIndex, indexOf, joined, more, readProduct, readSum, readRest, readExpression, readClose, readVariable, readTruth, operandFrom, readOperand, sumAt, expressionAt}
+use Rattle.grammar.specs.Tree.{Operand, number, variable, position, truth, bracket, minus, not, Product, product, Factors, noFactor, factor, Sum, sum, Terms, noTerm, term, Expression, single, compare, row, Sums, last, next, operandTokens, productTokens, factorsTokens, sumTokens, termsTokens, expressionTokens, sumsTokens}
+use Rattle.tokens.specs.Descent.{token, Answer, good, Read, read, _>>=_, upTo, Meaning, isRow, isIndex, indexOf, joined, more, readProduct, readSum, readRest, readExpression, readClose, readVariable, readTruth, operandFrom, readOperand, sumAt, expressionAt}
 use Rattle.grammar.specs.Meaning.{operandMeaning, productMeaning, factorsMeaning, sumMeaning, termsMeaning, expressionMeaning, sumsMeaning, Stands, EndsSum, EndsExpression}
 use Rattle.grammar.specs.AgreementLaws.{bounds, before, beyond, bind-good, goes-on, stands-split, parts-fit, numbered, number-index, axis-index, index-stands}
 
@@ -147,7 +147,7 @@ module _ (s : List ℕ) where
           row-next _ _ k x p i q o (productMeaning 𝓜 a) (termsMeaning 𝓜 r) (h .0) (holds _ v) (omega arith) (product-reads a K (p + 1) i (omega arith) f (terms-start r i q g (e .factor))) (λ y. terms-reads r K (pred k) i q y (L .1) (omega arith) g e)
 
       expression-reads : (x : Expression) (k p q : ℕ) → length (expressionTokens x) ≤ k → Stands s p (expressionTokens x) q → EndsExpression (token s q) → readExpression s 𝓜 (readOperand s 𝓜 k) k p ≡ upTo (expressionMeaning 𝓜 x) q
-      expression-reads (plain a) k p q l h e = goes-on (sumMeaning 𝓜 a) _ _ good q q (sum-reads a k p q l h (e .sum)) (λ x. rest-end _ k x q e) ∙ rw (bind-good (sumMeaning 𝓜 a))
+      expression-reads (single a) k p q l h e = goes-on (sumMeaning 𝓜 a) _ _ good q q (sum-reads a k p q l h (e .sum)) (λ x. rest-end _ k x q e) ∙ rw (bind-good (sumMeaning 𝓜 a))
       expression-reads (compare o v a b) k p q l h e =
           let (i, f, g) = stands-split s (sumTokens a) (o ∷ sumTokens b) p q h in
           let L = parts-fit (sumTokens a) (o ∷ sumTokens b) k l in

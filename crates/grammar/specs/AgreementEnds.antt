@@ -4,9 +4,10 @@ use mathlib.Core.Bool.{Bool, true, false, _&&_}
 use mathlib.Core.List.{List}
 use Prim.Native.Nat.{ℕ, zero, suc, _+_}
 use lib.Dec.{eqb}
+use Rattle.values.specs.Codes.{notInGrammar}
 use Rattle.tokens.specs.Token.{isNumber, isVariable, isDrive, isCall, isFactor, isTerm, isCompare, isWhole, CLOSE, END, EQUALS, FALSE, M, MINUS, NOT, OPEN, TRUE}
-use Rattle.tokens.specs.Reading.{token, Read, read, ends, then, isRow, isIndexed, joined, more, readProduct, readSum, readRest, readExpression, readClose, readVariable, readTruth, operandFrom, readOperand, sumAt, expressionAt}
-use Rattle.tokens.specs.SingleFault.{notInGrammar, lower}
+use Rattle.tokens.specs.Descent.{token, Read, read, ends, then, isRow, isIndexed, joined, more, readProduct, readSum, readRest, readExpression, readClose, readVariable, readTruth, operandFrom, readOperand, sumAt, expressionAt}
+use Rattle.tokens.specs.SingleFault.{lower}
 use Rattle.checking.specs.Fault.{Sight, sight, faultFor, isRemoval, assignedAt, assignmentAt, commandAt, actionAt, actionsAt}
 
 -- a reading has a result, or ends with 5

@@ -11,7 +11,7 @@ use borrow.Author.Tests.{le-leb, eq-eqb, ne-eqb, eqb-true}
 use Rattle.values.specs.Choice.{holds, both, decide, chosen, refused, same-choice}
 use Rattle.tokens.specs.Token.{setSize, END, EQUALS, OPEN, CLOSE, DO, LEFT, RIGHT, IM, M, isVariable, isDrive, isCall, isWhole, isFifo, isKeyword, isId, isFactor, isTerm, NUMBER, whole, wholeToken, axisOf, FALSE, FIFO1, FIFO4, IN, MINUS, MOV, NOT, OVER, PLUS, POS, SETAL, TIMES, TRUE, UNLOCK}
 use Rattle.grammar.specs.Tree.{Operand, number, variable, position, truth, bracket, minus, not, product, Factors, noFactor, factor, Sum, sum, Terms, noTerm, term, compare, Action, assign, assignPosition, drive, code, call, Condition, always, under, Line, line, operandTokens, factorsTokens, sumTokens, termsTokens, actionTokens, actionsTokens, conditionTokens, lineTokens}
-use Rattle.tokens.specs.Reading.{token, read, isIndex, indexOf, isIndexed, indexAt, sumAt}
+use Rattle.tokens.specs.Descent.{token, read, isIndex, indexOf, isIndexed, indexAt, sumAt}
 use Rattle.grammar.specs.Meaning.{sumMeaning, expressionMeaning, Stands, EndsSum, EndsExpression}
 use Rattle.tokens.specs.SingleFault.{lower, opensTooMany, writeFault, idFault}
 use Rattle.checking.specs.Fault.{sight, faultFor, countFault, numberOf, isRemoval, assignedAt, assignmentAt, commandAt, actionAt, actionsAt, lineParts, bodyAt, restAt, lineAt}

@@ -9,8 +9,8 @@ use lib.ListN.{length, getD, length-append}
 use borrow.Author.Tests.{leb-true, leb-false, le-leb, lt-leb, eq-eqb, eqb-true}
 use Rattle.values.specs.Numbers.{clash}
 use Rattle.values.specs.Choice.{holds, told-so, both}
-use Rattle.tokens.specs.Token.{NUMBER, LEFT, RIGHT, IM, between, isNumber, isVariable, isNumbered, hasAxis, isAxis, isWhole, load, whole, wholeToken, axisOf, FIFO4, IN}
-use Rattle.tokens.specs.Reading.{Answer, good, stop, Read, read, ends, _>>=_, then, upTo, isIndex, indexOf, isIndexed, indexAt}
+use Rattle.tokens.specs.Token.{NUMBER, LEFT, RIGHT, IM, between, isNumber, isVariable, isNumbered, hasAxis, isAxis, isWhole, numberCarried, whole, wholeToken, axisOf, FIFO4, IN}
+use Rattle.tokens.specs.Descent.{Answer, good, stop, Read, read, ends, _>>=_, then, upTo, isIndex, indexOf, isIndexed, indexAt}
 use Rattle.grammar.specs.Meaning.{Stands}
 
 -- ---- tests
@@ -80,7 +80,7 @@ numbered w v = let b = bounds IN FIFO4 w v in (lt-leb NUMBER w (omega arith), wi
 
 -- the token of a whole number is one without a point, and carries it
 pub whole-token : (n : ℕ) → (isWhole (wholeToken n) ≡ true) × (whole (wholeToken n) ≡ n)
-whole-token n = (rw (le-leb NUMBER (wholeToken n) (omega arith)) (eq-eqb (load (wholeToken n) % 2000) 0 (omega arith)), omega arith)
+whole-token n = (rw (le-leb NUMBER (wholeToken n) (omega arith)) (eq-eqb (numberCarried (wholeToken n) % 2000) 0 (omega arith)), omega arith)
 
 -- it is the index of a word that has a number for an index; an axis is that of the others
 pub number-index : (w n : ℕ) → hasAxis w ≡ false → (isIndex w (wholeToken n) ≡ true) × (indexOf w (wholeToken n) ≡ n)
@@ -106,9 +106,9 @@ index-stands s w t p q v h =
 -- a token of a number without a point is that of a whole number
 pub whole-written : (t : ℕ) → isWhole t ≡ true → t ≡ wholeToken (whole t)
 whole-written t h =
-    let b = both (leb NUMBER t) (eqb (load t % 2000) 0) h in
+    let b = both (leb NUMBER t) (eqb (numberCarried t % 2000) 0) h in
     let n = leb-true NUMBER t (b .0) in
-    let r = eqb-true (load t % 2000) 0 (b .1) in
+    let r = eqb-true (numberCarried t % 2000) 0 (b .1) in
     omega arith
 
 -- what stands where the word w at p has an index behind it: a number, or an axis

@@ -8,19 +8,20 @@ use native.Mathlib.Omega.{arith}
 use lib.Dec.{eqb}
 use lib.ListN.{length, drop}
 use borrow.Author.Tests.{le-leb, lt-leb, eq-eqb, eqb-true, eqb-false}
+use Rattle.values.specs.Codes.{tooDeep, notInGrammar}
 use Rattle.values.specs.Choice.{told-so, both, decide, choice, chosen, refused}
 use Rattle.checking.specs.declared.check.Line.{Line as Told}
 use Rattle.tokens.specs.Token.{setSize, END, EQUALS, LEFT, RIGHT, DO, IM, isVariable, hasAxis, isFifo, isDrive, isCall, isKeyword, isId, isWhole, whole, CLOSE, FIFO1, FIFO4, IN, M, MOV, OPEN, POS}
 use Rattle.grammar.specs.Tree.{variable, product, noFactor, Sum, sum, noTerm, Action, assign, assignPosition, drive, code, call, Condition, always, under, Line, line, sumTokens, actionTokens, actionsTokens, conditionTokens, lineTokens}
-use Rattle.tokens.specs.Reading.{token, Read, read, ends, isIndexed, indexAt, sumAt, expressionAt}
+use Rattle.tokens.specs.Descent.{token, Read, read, ends, isIndexed, indexAt, sumAt, expressionAt}
 use Rattle.grammar.specs.Meaning.{Stands}
-use Rattle.tokens.specs.SingleFault.{tooDeep, notInGrammar, lower, opensTooMany}
+use Rattle.tokens.specs.SingleFault.{lower, opensTooMany}
 use Rattle.checking.specs.Fault.{Sight, sight, faultFor, isRemoval, assignedAt, assignmentAt, commandAt, actionAt, actionsAt, lineParts, bodyAt, restAt, lineAt}
 use Rattle.grammar.specs.TreeFault.{lineFault, Proper, partsFrom, toldFrom}
 use Rattle.grammar.specs.AgreementLaws.{bounds, within, ends-read, then-read, stands-join, whole-written, number-written, axis-written, variable-kind}
 use Rattle.grammar.specs.AgreementRead.{sum-found, expression-found}
 use Rattle.grammar.specs.AgreementFault.{line-agrees, end-holds}
-use Rattle.grammar.specs.LineTokens.{line-fits}
+use Rattle.grammar.specs.ClosedTokens.{line-fits}
 use Rattle.grammar.specs.TreeFaultLaws.{line-proper}
 use Rattle.grammar.specs.AgreementEnds.{Five, actions-five, condition-five}
 

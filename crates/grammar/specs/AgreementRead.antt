@@ -8,9 +8,9 @@ use native.Mathlib.Omega.{arith}
 use lib.Dec.{T, eqb}
 use borrow.Author.Tests.{leb-true, eqb-true}
 use Rattle.values.specs.Choice.{told-so, both, decide, choice}
-use Rattle.tokens.specs.Token.{NUMBER, CLOSE, isNumber, isVariable, hasAxis, isFactor, isTerm, isCompare, isLogic, load, FALSE, MINUS, NOT, OPEN, TRUE}
-use Rattle.grammar.specs.Tree.{number, variable, position, truth, bracket, minus, not, product, noFactor, factor, sum, noTerm, term, plain, compare, row, last, next, operandTokens, productTokens, factorsTokens, sumTokens, termsTokens, expressionTokens, sumsTokens}
-use Rattle.tokens.specs.Reading.{token, good, Read, read, upTo, Meaning, isRow, indexAt, joined, more, readProduct, readSum, readRest, readExpression, readClose, readVariable, readTruth, operandFrom, readOperand, sumAt, expressionAt}
+use Rattle.tokens.specs.Token.{NUMBER, CLOSE, isNumber, isVariable, hasAxis, isFactor, isTerm, isCompare, isLogic, numberCarried, FALSE, MINUS, NOT, OPEN, TRUE}
+use Rattle.grammar.specs.Tree.{number, variable, position, truth, bracket, minus, not, product, noFactor, factor, sum, noTerm, term, single, compare, row, last, next, operandTokens, productTokens, factorsTokens, sumTokens, termsTokens, expressionTokens, sumsTokens}
+use Rattle.tokens.specs.Descent.{token, good, Read, read, upTo, Meaning, isRow, indexAt, joined, more, readProduct, readSum, readRest, readExpression, readClose, readVariable, readTruth, operandFrom, readOperand, sumAt, expressionAt}
 use Rattle.grammar.specs.Meaning.{operandMeaning, productMeaning, factorsMeaning, sumMeaning, termsMeaning, expressionMeaning, sumsMeaning, Stands, Found}
 use Rattle.grammar.specs.AgreementLaws.{ends-read, then-read, upTo-read, stands-join, number-written, axis-written, variable-kind}
 
@@ -107,7 +107,7 @@ module _ (s : List ℕ) {A : Type 0} (𝓜 : Meaning A) where
     -- the first sum, and what stands behind it
     with-row : (o : ℕ) (a : A) (q : ℕ) (x : A) (p i : ℕ) → Found sumTokens (sumMeaning 𝓜) s p x i → RowFrom o a q x i → Found expressionTokens (expressionMeaning 𝓜) s p a q
     unfolding expressionTokens expressionMeaning
-    with-row o a q x p i b (inl e) = record { tree = plain (b .tree); stands = subst (λ (n : ℕ). Stands s p (sumTokens (b .tree)) n) (e .1) (b .stands); means = b .means ∙ ap good (e .0) }
+    with-row o a q x p i b (inl e) = record { tree = single (b .tree); stands = subst (λ (n : ℕ). Stands s p (sumTokens (b .tree)) n) (e .1) (b .stands); means = b .means ∙ ap good (e .0) }
     with-row o a q x p i b (inr r) = record {
       tree = row o (r .0) (b .tree) (r .1 .tree);
       stands = stands-join s (sumTokens (b .tree)) (sumsTokens o (r .1 .tree)) p i q (b .stands) (r .1 .stands);
@@ -131,12 +131,12 @@ module _ (s : List ℕ) {A : Type 0} (𝓜 : Meaning A) where
         (λ t g. with-row (token s i) a q x p i b (row-read (isRow (token s i)) (readSum s 𝓜 sub k) a q (RowFrom (token s i) a q) (inl (refl, refl)) (row-step (token s i) a q) k x i g))
 
   -- a number, a variable, TRUE or FALSE
-  number-found : (p : ℕ) (a : A) (q : ℕ) → isNumber (token s p) ≡ true → upTo (𝓜 .number (load (token s p))) (p + 1) ≡ read a q → Found operandTokens (operandMeaning 𝓜) s p a q
+  number-found : (p : ℕ) (a : A) (q : ℕ) → isNumber (token s p) ≡ true → upTo (𝓜 .number (numberCarried (token s p))) (p + 1) ≡ read a q → Found operandTokens (operandMeaning 𝓜) s p a q
   unfolding operandTokens operandMeaning
   number-found p a q t h =
-      let m = upTo-read (𝓜 .number (load (token s p))) (p + 1) a q h in
+      let m = upTo-read (𝓜 .number (numberCarried (token s p))) (p + 1) a q h in
       let b = leb-true NUMBER (token s p) t in
-      record { tree = number (load (token s p)); stands = (omega arith, m .1); means = m .0 }
+      record { tree = number (numberCarried (token s p)); stands = (omega arith, m .1); means = m .0 }
 
   variable-found : (p : ℕ) (a : A) (q : ℕ) → isVariable (token s p) ≡ true → readVariable s 𝓜 (token s p) p ≡ read a q → Found operandTokens (operandMeaning 𝓜) s p a q
   unfolding readVariable operandTokens operandMeaning

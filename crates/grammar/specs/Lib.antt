@@ -1,4 +1,4 @@
--- The grammar of a line. Tree, Meaning and TreeFault are the definitions; that writing and reading agree is shown in Agreement.. and LineTokens; the files named ..Laws hold what
+-- The grammar of a line. Tree, Meaning and TreeFault are the definitions; that writing and reading agree is shown in Agreement.. and ClosedTokens; the files named ..Laws hold what
 -- these need; Table computes worked lines of the documents.
 pub mod Tree
 pub mod Meaning
@@ -8,7 +8,7 @@ pub mod Agreement
 pub mod AgreementRead
 pub mod TreeFaultLaws
 pub mod AgreementFault
-pub mod LineTokens
+pub mod ClosedTokens
 pub mod AgreementEnds
 pub mod AgreementLine
-pub mod Table
+pub mod LineTable

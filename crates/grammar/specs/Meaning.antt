@@ -6,8 +6,8 @@ use mathlib.Core.List.{List, [], _∷_}
 use Prim.Native.Nat.{ℕ, _+_}
 use lib.ListN.{getD}
 use Rattle.tokens.specs.Token.{IM, isFactor, isTerm, isCompare, isLogic, axisOf}
-use Rattle.grammar.specs.Tree.{Operand, number, variable, position, truth, bracket, minus, not, Product, product, Factors, noFactor, factor, Sum, sum, Terms, noTerm, term, Expression, plain, compare, row, Sums, last, next}
-use Rattle.tokens.specs.Reading.{Answer, good, _>>=_, Meaning}
+use Rattle.grammar.specs.Tree.{Operand, number, variable, position, truth, bracket, minus, not, Product, product, Factors, noFactor, factor, Sum, sum, Terms, noTerm, term, Expression, single, compare, row, Sums, last, next}
+use Rattle.tokens.specs.Descent.{Answer, good, _>>=_, Meaning}
 
 -- ---- what a tree means
 
@@ -38,7 +38,7 @@ module _ {A : Type 0} (𝓜 : Meaning A) where
     termsMeaning (term o v a r) x = productMeaning a >>= 𝓜 .join o x >>= (λ y. termsMeaning r y)
 
     pub expressionMeaning : Expression → Answer A
-    expressionMeaning (plain a) = sumMeaning a
+    expressionMeaning (single a) = sumMeaning a
     expressionMeaning (compare o v a b) = sumMeaning a >>= (λ x. sumMeaning b >>= 𝓜 .join o x)
     expressionMeaning (row o v a r) = sumMeaning a >>= (λ y. sumsMeaning o r y)
 

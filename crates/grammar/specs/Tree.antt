@@ -5,7 +5,7 @@ use Prim.Native.Nat.{ℕ, _+_}
 use lib.Dec.{T}
 use Rattle.tokens.specs.Token.{END, EQUALS, MINUS, OPEN, CLOSE, LEFT, RIGHT, DO, TRUE, FALSE, NOT, IM, M, NUMBER, isNumbered, isAxis, isDrive, isCall, isKeyword, isId, isFactor, isTerm, isCompare, isLogic, wholeToken}
 
--- operand: number (its load); variable with index; TRUE; FALSE; bracketed expression; - operand; NOT operand
+-- operand: number (what its token carries); variable with index; TRUE; FALSE; bracketed expression; - operand; NOT operand
 -- product: operands joined by * /; sum: products joined by + -; left to right
 -- expression: a sum; two sums joined by one comparison; two or more sums joined all by AND, all by OR or all by XOR
 mutual
@@ -33,7 +33,7 @@ mutual
     term : (o : ℕ) → T (isTerm o) → Product → Terms → Terms
 
   pub data Expression : Type 0 where
-    plain : Sum → Expression
+    single : Sum → Expression
     compare : (o : ℕ) → T (isCompare o) → Sum → Sum → Expression
     row : (o : ℕ) → T (isLogic o) → Sum → Sums → Expression
 
@@ -91,7 +91,7 @@ unfoldable mutual
   termsTokens (term o v a r) = o ∷ productTokens a ++ termsTokens r
 
   pub expressionTokens : Expression → List ℕ
-  expressionTokens (plain a) = sumTokens a
+  expressionTokens (single a) = sumTokens a
   expressionTokens (compare o v a b) = sumTokens a ++ (o ∷ sumTokens b)
   expressionTokens (row o v a r) = sumTokens a ++ sumsTokens o r
 

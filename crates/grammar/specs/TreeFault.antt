@@ -6,12 +6,13 @@ use mathlib.Core.List.{List, [], _∷_}
 use Prim.Native.Nat.{ℕ, suc, _+_, _-_, _≤_}
 use lib.Dec.{eqb}
 use lib.ListN.{length}
+use Rattle.values.specs.Codes.{confused, tooManyActions}
 use Rattle.checking.specs.declared.check.Line.{Line as Told}
 use Rattle.tokens.specs.Token.{IDS, IM, isFifo, axisOf}
 use Rattle.grammar.specs.Tree.{Operand, number, variable, position, truth, bracket, minus, not, product, Factors, noFactor, factor, Sum, sum, Terms, noTerm, term, Action, assign, assignPosition, drive, code, call, Condition, always, under, Line, line, conditionTokens, lineTokens}
-use Rattle.tokens.specs.Reading.{Answer, good, stop}
+use Rattle.tokens.specs.Descent.{Answer, good, stop}
 use Rattle.grammar.specs.Meaning.{sumMeaning, expressionMeaning}
-use Rattle.tokens.specs.SingleFault.{confused, tooMany, lower, writeFault, codeFault, idFault, callFault}
+use Rattle.tokens.specs.SingleFault.{lower, writeFault, codeFault, idFault, callFault}
 use Rattle.checking.specs.Fault.{Sight, wanting, sight, countFault, faultyLine}
 
 -- ---- 6 to 8 in an expression
@@ -83,7 +84,7 @@ lineFault (line w v n c a r) =
 
 -- what such a fault is: 0 for none, or one of 6 to 10
 abbrev pub Proper : ℕ → Type 0
-Proper n = (n ≡ 0) ⊎ ((confused ≤ n) × (n ≤ tooMany))
+Proper n = (n ≡ 0) ⊎ ((confused ≤ n) × (n ≤ tooManyActions))
 
 -- ---- what the check tells
 

@@ -8,15 +8,16 @@ use native.Mathlib.Omega.{arith}
 use lib.Dec.{T, eqb, leb, eqb·suc-zero}
 use lib.ListN.{length}
 use borrow.Author.Tests.{ne-eqb}
+use Rattle.values.specs.Codes.{confused, outside, readOnly, mAlone, tooManyActions}
 use Rattle.values.specs.Choice.{both, decide}
 use Rattle.tokens.specs.Token.{between, IM, isFifo, thousandths, axisOf, EVERY, SETAL, WHEN}
 use Rattle.values.specs.Value.{top}
 use Rattle.tokens.specs.Index.{isInside}
 use Rattle.tokens.proofs.SingleFaultLaws.{none-first}
-use Rattle.grammar.specs.Tree.{Operand, number, variable, position, truth, bracket, minus, not, Product, product, Factors, noFactor, factor, Sum, sum, Terms, noTerm, term, Expression, plain, compare, row, Sums, last, next, Action, assign, assignPosition, drive, code, call, Condition, always, under, Line, line}
-use Rattle.tokens.specs.Reading.{Answer, good, stop, read, _>>=_, upTo}
+use Rattle.grammar.specs.Tree.{Operand, number, variable, position, truth, bracket, minus, not, Product, product, Factors, noFactor, factor, Sum, sum, Terms, noTerm, term, Expression, single, compare, row, Sums, last, next, Action, assign, assignPosition, drive, code, call, Condition, always, under, Line, line}
+use Rattle.tokens.specs.Descent.{Answer, good, stop, read, _>>=_, upTo}
 use Rattle.grammar.specs.Meaning.{operandMeaning, productMeaning, factorsMeaning, sumMeaning, termsMeaning, expressionMeaning, sumsMeaning}
-use Rattle.tokens.specs.SingleFault.{confused, outside, readOnly, codeAlone, tooMany, lower, unless, wantingFault, numberFault, readFault, isWritable, writeFault, codeFault, idFault, callFault}
+use Rattle.tokens.specs.SingleFault.{lower, unless, wantingFault, numberFault, readFault, isWritable, writeFault, codeFault, idFault, callFault}
 use Rattle.checking.specs.Fault.{Sight, wanting, joinSights, sight, faultFor, countFault, numberOf}
 use Rattle.grammar.specs.TreeFault.{Proper, wantedFault, rightFault, isRemovalTree, assignedFault, actionFault, actionsFault, keywordOf, conditionFault, lineFault}
 use Rattle.grammar.specs.AgreementLaws.{bounds}
@@ -61,9 +62,9 @@ lower-proper a b (inl e) g = rw (e, none-first b) g
 lower-proper a b (inr h) (inl e) = rw (e, lower-none a) (inr h)
 lower-proper a b (inr h) (inr g) = let m = lower-min a b (omega arith) (omega arith) in inr (omega arith, omega arith)
 
-unless-proper : (b : Bool) (k : ℕ) → T (between confused tooMany k) → Proper (unless b k)
+unless-proper : (b : Bool) (k : ℕ) → T (between confused tooManyActions k) → Proper (unless b k)
 unless-proper true k h = inl refl
-unless-proper false k h = inr (bounds confused tooMany k h)
+unless-proper false k h = inr (bounds confused tooManyActions k h)
 
 -- ---- the sight of a tree never stops, and its fault is proper
 
@@ -121,7 +122,7 @@ mutual
 
   -- of an expression
   pub seen-expression : (x : Expression) → Seen (expressionMeaning sight x)
-  seen-expression (plain a) = seen-sum a
+  seen-expression (single a) = seen-sum a
   seen-expression (compare o v a b) = seen-on (sumMeaning sight a) _ (seen-sum a) (λ x h. seen-on (sumMeaning sight b) _ (seen-sum b) (λ y g. seen-join o x y h g))
   seen-expression (row o v a r) = seen-on (sumMeaning sight a) _ (seen-sum a) (λ x h. seen-sums r o x h)
 
@@ -165,7 +166,7 @@ unfolding actionFault codeFault callFault
 action-proper kw (assign w v i a) = lower-proper _ _ (write-proper w i) (assigned-proper a)
 action-proper kw (assignPosition x v a) = lower-proper _ _ (write-proper IM (axisOf x)) (assigned-proper a)
 action-proper kw (drive w v x u a) = right-proper a
-action-proper kw (code n) = lower-proper _ _ (unless-proper (leb n 99) outside tt) (unless-proper (eqb kw WHEN || eqb kw EVERY) codeAlone tt)
+action-proper kw (code n) = lower-proper _ _ (unless-proper (leb n 99) outside tt) (unless-proper (eqb kw WHEN || eqb kw EVERY) mAlone tt)
 action-proper kw (call w v n) = cond-proper (eqb w SETAL) _ _ (unless-proper (between 65000 69999 n) outside tt) (id-proper n)
 
 actions-proper : (kw : ℕ) (r : List Action) (a : Action) → Proper (actionsFault kw a r)
@@ -180,4 +181,4 @@ condition-proper (under w v e) = wanted-proper true (expressionMeaning sight e) 
 -- the fault of a line as a tree is one of 6 to 10, or none
 pub line-proper : (l : Line) → Proper (lineFault l)
 unfolding lineFault countFault
-line-proper (line w v n c a r) = lower-proper _ _ (lower-proper _ _ (id-proper n) (condition-proper c)) (lower-proper _ _ (actions-proper (keywordOf c) r a) (unless-proper (leb (suc (length r)) 8) tooMany tt))
+line-proper (line w v n c a r) = lower-proper _ _ (lower-proper _ _ (id-proper n) (condition-proper c)) (lower-proper _ _ (actions-proper (keywordOf c) r a) (unless-proper (leb (suc (length r)) 8) tooManyActions tt))

@@ -6,6 +6,7 @@ use mathlib.Core.Logic.{_↔_}
 use Prim.Native.Nat.{ℕ, zero, suc, _≤_}
 use native.Mathlib.Omega.{arith}
 use lib.ListN.{length}
+use Rattle.values.specs.Codes.{tooLong, tooManyLines, notInSet}
 use Rattle.values.specs.Choice.{choice, chosen, refused as not-chosen}
 use Rattle.values.specs.Numbers.{clash}
 use Rattle.tokens.specs.Token.{setSize, maxLines, textSize}
@@ -13,11 +14,10 @@ use Rattle.engine.specs.Set.{namesKnown}
 use Rattle.text.specs.Tokens.{tokensOf}
 use Rattle.text.specs.Lines.{Numbered, tokenLines}
 use Rattle.reader.specs.Row.{Row, numbersOf}
-use Rattle.reader.specs.LineTokens.{ended}
+use Rattle.reader.specs.StoredTokens.{ended}
 use Rattle.reader.specs.Load.{taken, refused, faultBelow, rowOf, rowsFrom, firstUnknown, outcome, loadAnswer}
-use Rattle.reader.specs.Codes.{tooLong, tooManyLines, notInSet}
 use Rattle.reader.specs.RisingLaws.{next-row}
-use Rattle.loading.specs.Answers.{taken-answer, refused-answer, by-load}
+use Rattle.loading.specs.LoadAnswers.{taken-answer, refused-answer, by-load}
 use Rattle.loading.specs.TakenLaws.{All, taking, Fine, text-fine, Named}
 
 -- ---- the first faulty line

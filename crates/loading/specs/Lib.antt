@@ -1,14 +1,14 @@
 -- Loading, whatever the text: Answers and FirstFault say what each code means, Sound that the set is sound and 22 never arises, Lines that a set which is taken is what the text has
--- (Plain: a line without the marks of written points). The files named ..Laws hold what these need.
-pub mod Plain
-pub mod PlainLaws
+-- (Unmarked: a line without the marks of written points). The files named ..Laws hold what these need.
+pub mod Unmarked
+pub mod UnmarkedLaws
 pub mod PlacedLaws
-pub mod HeldLaws
+pub mod StoredLineLaws
 pub mod TakenLaws
 pub mod ByNumberLaws
-pub mod ReadLaws
+pub mod LinesReadLaws
 pub mod LoadedLaws
-pub mod Answers
+pub mod LoadAnswers
 pub mod FirstFault
-pub mod Sound
-pub mod Lines
+pub mod LoadedSound
+pub mod LoadedLines

@@ -10,7 +10,7 @@ use borrow.Author.Tests.{ltb-true}
 use Rattle.tokens.specs.Token.{setSize, maxLines}
 use Rattle.engine.specs.declared.set.Lines.{Lines}
 use Rattle.engine.specs.Set.{rankIn, isKnown, soundLines}
-use Rattle.soundness.specs.SetLaws.{rank-number}
+use Rattle.soundness.specs.SetSoundLaws.{rank-number}
 use Rattle.text.specs.Lines.{tokenLines}
 use Rattle.reader.specs.Row.{Row, numbersOf, total, noRow, byNumber, setOf}
 use Rattle.reader.specs.Load.{taken, outcome}
@@ -19,7 +19,7 @@ use Rattle.reader.specs.RoomLaws.{taken-room}
 use Rattle.loading.specs.PlacedLaws.{Laid, set-length, set-count, set-laid}
 use Rattle.loading.specs.TakenLaws.{All, all-at, taking, Fine, taken-fine, Named, taken-named, all-short}
 use Rattle.loading.specs.ByNumberLaws.{Of, by-length, by-rises, by-of, by-rank, by-total}
-use Rattle.loading.specs.ReadLaws.{ReadLines, rows-read, known-at}
+use Rattle.loading.specs.LinesReadLaws.{ReadLines, rows-read, known-at}
 
 -- what holds of each row of some holds of rows that are each one of them
 all-of : (P : Row → Type 0) (rs xs : List Row) → All P rs → All (Of rs) xs → All P xs

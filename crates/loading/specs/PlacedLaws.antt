@@ -11,18 +11,18 @@ use Rattle.engine.specs.Set.{emptySet}
 use Rattle.reader.specs.PlaceLaws.{stands-same}
 use Rattle.text.specs.PutLaws.{put-length, put-before}
 use Rattle.reader.specs.StandLaws.{put-stands}
-use Rattle.reader.specs.Row.{Row, total, plain, placed, firstPlace, setOf}
-use Rattle.reader.specs.LineTokens.{ended}
+use Rattle.reader.specs.Row.{Row, total, withoutMark, placed, firstPlace, setOf}
+use Rattle.reader.specs.StoredTokens.{ended}
 use Rattle.text.specs.PutAt.{putAt}
 
 -- ---- lines that are placed
 
 -- the tokens of a line as a set has them
 abbrev pub heldTokens : Row → List ℕ
-heldTokens r = ended (map plain (r .tokens))
+heldTokens r = ended (map withoutMark (r .tokens))
 
 pub held-length : (r : Row) → length (heldTokens r) ≡ length (r .tokens) + 1
-held-length r = let a = length-append (map plain (r .tokens)) (END ∷ []) in let b = length-map (r .tokens) plain in omega arith
+held-length r = let a = length-append (map withoutMark (r .tokens)) (END ∷ []) in let b = length-map (r .tokens) withoutMark in omega arith
 
 -- the array when the first of some lines is placed
 abbrev withLine : Row → ℕ → ℕ → List ℕ → List ℕ

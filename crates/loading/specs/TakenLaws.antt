@@ -16,7 +16,7 @@ use Rattle.text.specs.Tokens.{tokensOf}
 use Rattle.text.specs.TokensLaws.{tokens-real}
 use Rattle.text.specs.Lines.{Numbered, textLines, bodies, isBlank, numbered, tokenLines}
 use Rattle.reader.specs.Row.{Row, numbersOf, total, noRow}
-use Rattle.reader.specs.LineTokens.{ended}
+use Rattle.reader.specs.StoredTokens.{ended}
 use Rattle.reader.specs.RisingLaws.{next-row, no-fault}
 use Rattle.reader.specs.Load.{Outcome, taken, refused, rowOf, rowsFrom, firstUnknown, named, outcome}
 

@@ -7,14 +7,14 @@ use native.Mathlib.Omega.{arith}
 use borrow.Author.Tests.{lt-ltb, le-ltb, ltb-true}
 use lib.Dec.{ltb}
 use lib.ListN.{length, set}
+use Rattle.values.specs.Codes.{tooManyLines, makesNoToken, usedAbove}
 use Rattle.checking.specs.declared.check.Line.{Line}
 use Rattle.checking.specs.Fault.{lineAt}
 use Rattle.engine.specs.Set.{rankIn, isKnown}
 use Rattle.text.specs.Tokens.{Tokens}
 use Rattle.reader.specs.declared.draft.Draft.{Draft}
-use Rattle.reader.specs.LineTokens.{ended}
+use Rattle.reader.specs.StoredTokens.{ended}
 use Rattle.text.specs.PutAt.{putAt}
-use Rattle.reader.specs.Codes.{tooManyLines, badToken, usedAbove}
 use Rattle.reader.specs.Draft.{Drafted, refusedAt, grownBy, keptLine, addedLine}
 
 -- ---- the line l stands in the array s at the draft's place
@@ -56,7 +56,7 @@ module _ (s : List ℕ) (d : Draft) (k : ℕ) (ts : Tokens) where
 
   -- x is the array with the tokens
   module _ (h : d .count < 32) (x : List ℕ) (e : x ≡ putAt s (d .at) (ended (ts .list))) where
-    pub added-bad : ts .good ≡ false → (y : Draft) → y ≡ refusedAt d badToken k → record { array = x; draft = y } ≡ addedLine s d k ts
+    pub added-bad : ts .good ≡ false → (y : Draft) → y ≡ refusedAt d makesNoToken k → record { array = x; draft = y } ≡ addedLine s d k ts
     unfolding addedLine
     added-bad z y g = rw (g, e) (simp (addedLine, lt-ltb (d .count) 32 h, z))
 

@@ -6,11 +6,11 @@ use Prim.Native.Nat.{ℕ, suc, _≤_}
 use native.Mathlib.Omega.{arith}
 use lib.Dec.{ltb}
 use lib.ListN.{length, set}
+use Rattle.values.specs.Codes.{notInSet}
 use Rattle.tokens.specs.Token.{maxLines, textSize}
 use Rattle.engine.specs.Set.{emptySet}
 use Rattle.text.specs.Lines.{tokenLines}
 use Rattle.reader.specs.declared.load_text.Loaded.{Loaded}
-use Rattle.reader.specs.Codes.{notInSet}
 use Rattle.reader.specs.Load.{loadAnswer, loadSet}
 use Rattle.reader.specs.Draft.{Drafted, noDraft}
 use Rattle.reader.specs.TextDraft.{draftOf, textDraft}

@@ -7,12 +7,12 @@ use native.Mathlib.Omega.{arith}
 use native.Mathlib.Numerals.{add-one}
 use borrow.Author.Tests.{lt-ltb, le-ltb}
 use lib.ListN.{length}
+use Rattle.values.specs.Codes.{tooLong, tooManyLines}
 use Rattle.values.specs.Choice.{decide}
 use Rattle.tokens.specs.Token.{textSize}
 use Rattle.text.specs.Lines.{Numbered, isBlank, numbered, tokenLines}
 use Rattle.text.specs.Tokens.{tokensOf}
 use Rattle.text.specs.TokensLaws.{tokens-within}
-use Rattle.reader.specs.Codes.{tooLong, tooManyLines}
 use Rattle.reader.specs.Draft.{Drafted, noDraft, refusedAt, addedLine}
 use Rattle.reader.specs.TextDraft.{draftFrom, textDraft}
 use Rattle.reader.proofs.TokenLineLaws.{line-blank, line-full}

@@ -10,12 +10,12 @@ use lib.ListN.{length, drop, getD, drop-of-length-le, length-drop}
 use lib.Seq.{drop-cons, drop-drop}
 use borrow.Author.Tests.{eq-eqb, ne-eqb, lt-ltb, le-ltb, ltb-true, ltb-false}
 use Rattle.values.specs.Choice.{decide}
-use Rattle.text.specs.declared.first.First.{First}
+use Rattle.text.specs.declared.scan.First.{First}
 use Rattle.text.specs.Byte.{SPACE}
 use Rattle.text.specs.First.{firstToken}
 use Rattle.text.specs.Tokens.{ending, withToken, tokensOf}
 use Rattle.text.specs.TokensLaws.{first-within, tokens-none, tokens-space, tokens-end, tokens-one}
-use Rattle.reader.specs.declared.put.Written.{Written}
+use Rattle.reader.specs.declared.line_tokens.Written.{Written}
 
 -- ---- the tokens from place i on
 

@@ -4,12 +4,12 @@ use mathlib.Core.List.{List}
 use Prim.Native.Nat.{ℕ, zero, suc}
 use lib.Dec.{ltb}
 use lib.ListN.{length}
+use Rattle.values.specs.Codes.{tooLong, tooManyLines, notInSet}
 use Rattle.tokens.specs.Token.{maxLines, textSize}
 use Rattle.engine.specs.Set.{emptySet}
 use Rattle.engine.specs.State.{powerOn}
 use Rattle.text.specs.Lines.{tokenLines}
 use Rattle.reader.specs.declared.load_text.Loaded.{Loaded}
-use Rattle.reader.specs.Codes.{tooLong, tooManyLines, notInSet}
 use Rattle.reader.specs.Draft.{Drafted}
 use Rattle.reader.specs.TextDraft.{draftOf}
 use Rattle.reader.specs.Arrange.{arrangedSet, unknownIn}

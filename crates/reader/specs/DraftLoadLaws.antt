@@ -7,15 +7,15 @@ use native.Mathlib.Omega.{arith}
 use lib.Dec.{ltb}
 use lib.ListN.{length, getD, set, length-replicate}
 use borrow.Author.Tests.{ltb-false}
+use Rattle.values.specs.Codes.{notInSet}
 use Rattle.values.specs.Choice.{eitherBoth}
 use Rattle.tokens.specs.Token.{setSize, maxLines, textSize}
 use Rattle.engine.specs.Set.{namesKnown, emptySet}
 use Rattle.text.specs.Lines.{Numbered, tokenLines}
 use Rattle.reader.specs.declared.load_text.Loaded.{Loaded}
-use Rattle.reader.specs.Row.{Row, numbersOf, total, leastAbove, noRow, rising, byNumber, plain, placed, firstPlace, setOf}
-use Rattle.reader.specs.LineTokens.{ended}
+use Rattle.reader.specs.Row.{Row, numbersOf, total, leastAbove, noRow, rising, byNumber, withoutMark, placed, firstPlace, setOf}
+use Rattle.reader.specs.StoredTokens.{ended}
 use Rattle.text.specs.PutAt.{putAt}
-use Rattle.reader.specs.Codes.{notInSet}
 use Rattle.reader.specs.Load.{Outcome, taken, refused, rowsFrom, firstUnknown, named, outcome, loadAnswer, loadSet}
 use Rattle.reader.specs.Draft.{Drafted, noDraft}
 use Rattle.reader.specs.TextDraft.{draftOf}
@@ -47,7 +47,7 @@ unknown-same rs d h = ap (λ (n : ℕ). unknownFrom d n 0) (h .count) ∙ (unkno
 
 -- one line of the draft goes into the set
 arranged-next : (d : Drafted) (m n k at : ℕ) (s : List ℕ) (r : Row) → lineIn (d .array) (getD (d .array) (1 + leastAbove (d .draft .numbers) n) 0) ≡ r .tokens → getD (d .draft .numbers) (leastAbove (d .draft .numbers) n) 0 ≡ r .number →
-    arranged d (suc m) n k at s ≡ arranged d m (r .number) (k + 1) (at + length (r .tokens) + 1) (putAt (set s (1 + k) at) at (ended (map plain (r .tokens))))
+    arranged d (suc m) n k at s ≡ arranged d m (r .number) (k + 1) (at + length (r .tokens) + 1) (putAt (set s (1 + k) at) at (ended (map withoutMark (r .tokens))))
 unfolding arranged
 arranged-next d m n k at s r e f = rw (e, f)
 

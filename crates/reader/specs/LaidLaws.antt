@@ -8,10 +8,11 @@ use native.Mathlib.Omega.{arith}
 use lib.ListN.{length, getD, set, length-append, length-set, List·getD-append, List·getD-eq-default}
 use lib.Seq.{getD-set-same, getD-set-other, getD-append-seam, ext-getD}
 use borrow.Author.Tests.{lt-ltb}
+use Rattle.values.specs.Codes.{makesNoToken, usedAbove}
 use Rattle.values.specs.Choice.{decide}
 use Rattle.tokens.specs.Token.{setSize, maxLines}
 use Rattle.grammar.specs.Meaning.{Stands}
-use Rattle.grammar.specs.LineTokens.{Closed}
+use Rattle.grammar.specs.ClosedTokens.{Closed}
 use Rattle.checking.specs.Fault.{lineAt}
 use Rattle.engine.specs.Set.{isKnown}
 use Rattle.text.specs.Tokens.{Tokens, tokensOf}
@@ -19,9 +20,8 @@ use Rattle.text.specs.TokensLaws.{tokens-real}
 use Rattle.text.specs.Lines.{Numbered}
 use Rattle.reader.specs.declared.draft.Draft.{Draft}
 use Rattle.reader.specs.Row.{Row, numbersOf, total, noRow, firstPlace}
-use Rattle.reader.specs.LineTokens.{ended}
+use Rattle.reader.specs.StoredTokens.{ended}
 use Rattle.text.specs.PutAt.{putAt}
-use Rattle.reader.specs.Codes.{badToken, usedAbove}
 use Rattle.reader.specs.Load.{numberIn, tokensFault, faultBelow, Outcome, taken, refused, rowOf, rowsFrom}
 use Rattle.reader.specs.Draft.{Drafted, refusedAt, grownBy, keptLine, addedLine}
 use Rattle.reader.specs.TextDraft.{draftFrom}
@@ -124,12 +124,12 @@ added-good : (s : List ℕ) (d : Draft) (k : ℕ) (ts : Tokens) → d .count < m
 unfolding addedLine
 added-good s d k ts l g = rw (lt-ltb (d .count) maxLines l, addedLine) (rw g)
 
-added-bad : (s : List ℕ) (d : Draft) (k : ℕ) (ts : Tokens) → d .count < maxLines → ts .good ≡ false → addedLine s d k ts ≡ record { array = putAt s (d .at) (ended (ts .list)); draft = refusedAt d badToken k }
+added-bad : (s : List ℕ) (d : Draft) (k : ℕ) (ts : Tokens) → d .count < maxLines → ts .good ≡ false → addedLine s d k ts ≡ record { array = putAt s (d .at) (ended (ts .list)); draft = refusedAt d makesNoToken k }
 unfolding addedLine
 added-bad s d k ts l g = rw (lt-ltb (d .count) maxLines l, addedLine) (rw g)
 
 -- and those of its fault
-fault-bad : (rs : List Row) (ts : Tokens) → ts .good ≡ false → faultBelow rs ts ≡ badToken
+fault-bad : (rs : List Row) (ts : Tokens) → ts .good ≡ false → faultBelow rs ts ≡ makesNoToken
 unfolding faultBelow
 fault-bad rs ts g = rw g
 
@@ -216,7 +216,7 @@ module _ (rs : List Row) (d : Drafted) (l : Numbered) (h : Holds rs d) (few : le
       let room : d .draft .count < maxLines = omega arith in
       decide _ (tokens .good)
       (λ g. good-added g (added-good (d .array) (d .draft) (l .place) tokens room g) (lineAt (ended (tokens .list)) 0 .fault) refl)
-      (λ g. by-fault badToken _ (fault-bad rs tokens g) (added-bad (d .array) (d .draft) (l .place) tokens room g) (refl, refl))
+      (λ g. by-fault makesNoToken _ (fault-bad rs tokens g) (added-bad (d .array) (d .draft) (l .place) tokens room g) (refl, refl))
     where
       good-added : tokens .good ≡ true → addedLine (d .array) (d .draft) (l .place) tokens ≡ keptLine put (d .draft) (l .place) (at + length (tokens .list) + 1) →
           (f : ℕ) → lineAt (ended (tokens .list)) 0 .fault ≡ f → Added rs l (faultBelow rs tokens) (addedLine (d .array) (d .draft) (l .place) tokens)

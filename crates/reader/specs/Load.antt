@@ -4,6 +4,7 @@ use mathlib.Core.List.{List, [], _∷_, _++_}
 use Prim.Native.Nat.{ℕ, zero, suc}
 use lib.Dec.{ltb}
 use lib.ListN.{length}
+use Rattle.values.specs.Codes.{tooLong, tooManyLines, makesNoToken, usedAbove, notInSet}
 use Rattle.checking.specs.Fault.{lineAt}
 use Rattle.tokens.specs.Token.{setSize, maxLines, textSize}
 use Rattle.engine.specs.Set.{isKnown, namesKnown, emptySet}
@@ -12,8 +13,7 @@ use Rattle.text.specs.Tokens.{Tokens, tokensOf}
 use Rattle.text.specs.Lines.{Numbered, tokenLines}
 use Rattle.reader.specs.declared.load_text.Loaded.{Loaded}
 use Rattle.reader.specs.Row.{Row, numbersOf, byNumber, setOf}
-use Rattle.reader.specs.LineTokens.{ended}
-use Rattle.reader.specs.Codes.{badToken, notInSet, tooLong, tooManyLines, usedAbove}
+use Rattle.reader.specs.StoredTokens.{ended}
 
 -- ---- a line: its lowest fault of 3 to 11
 
@@ -31,7 +31,7 @@ tokensFault rs ts =
 
 -- 3 to 11
 unfoldable pub faultBelow : List Row → Tokens → ℕ
-faultBelow rs ts = elim (ts .good) [ true ↦ tokensFault rs (ts .list) | false ↦ badToken ]
+faultBelow rs ts = elim (ts .good) [ true ↦ tokensFault rs (ts .list) | false ↦ makesNoToken ]
 
 -- ---- a text
 

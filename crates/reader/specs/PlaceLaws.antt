@@ -10,19 +10,20 @@ use lib.Dec.{eqb, leb}
 use lib.ListN.{length, getD, drop, drop-of-length-le, List·getD-eq-default}
 use lib.Seq.{drop-cons}
 use borrow.Author.Tests.{eqb-true, eqb-false, ne-eqb, eq-eqb}
+use Rattle.values.specs.Codes.{tooDeep, notInGrammar}
 use Rattle.values.specs.Choice.{told-so, decide, chosen, refused, eitherBoth}
 use Rattle.checking.specs.declared.check.Line.{Line as Told}
 use Rattle.tokens.specs.Token.{END, OPEN, CLOSE, LOCK, UNLOCK, whole, setSize, AllReal}
 use Rattle.grammar.specs.Tree.{Line, line, lineTokens}
 use Rattle.grammar.specs.Meaning.{Stands}
-use Rattle.tokens.specs.SingleFault.{tooDeep, notInGrammar, bracketsOpen, opensTooMany}
+use Rattle.tokens.specs.SingleFault.{bracketsOpen, opensTooMany}
 use Rattle.checking.specs.Fault.{lineAt}
 use Rattle.grammar.specs.TreeFault.{lineFault, partsFrom, toldFrom}
 use Rattle.grammar.specs.AgreementLaws.{bounds, stands-place}
-use Rattle.grammar.specs.LineTokens.{Closed, front, front-end, front-closed, same-row}
+use Rattle.grammar.specs.ClosedTokens.{Closed, front, front-end, front-closed, same-row}
 use Rattle.grammar.specs.AgreementLine.{line-written, line-told, line-found, fault-five}
 use Rattle.engine.specs.Set.{isKnown, isLock, namesKnown}
-use Rattle.reader.specs.LineTokens.{ended}
+use Rattle.reader.specs.StoredTokens.{ended}
 use Rattle.reader.specs.Arrange.{upToEnd, lineIn}
 
 -- ---- where tokens stand

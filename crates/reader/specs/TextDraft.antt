@@ -4,11 +4,11 @@ use mathlib.Core.List.{List, [], _∷_}
 use Prim.Native.Nat.{ℕ, zero, suc}
 use lib.Dec.{ltb}
 use lib.ListN.{length}
+use Rattle.values.specs.Codes.{tooLong, tooManyLines}
 use Rattle.tokens.specs.Token.{maxLines, textSize}
 use Rattle.engine.specs.Set.{emptySet}
 use Rattle.text.specs.Tokens.{tokensOf}
 use Rattle.text.specs.Lines.{Numbered, tokenLines}
-use Rattle.reader.specs.Codes.{tooLong, tooManyLines}
 use Rattle.reader.specs.Draft.{Drafted, noDraft, refusedAt, addedLine}
 
 -- lines are added up to the first that refuses the text

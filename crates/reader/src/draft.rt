@@ -2,21 +2,18 @@
 ghost use mathlib.Core.Path.{_≡_};
 ghost use Prim.Native.Nat.{_<_, _≤_};
 ghost use Rattle.tokens.specs.Token.{setSize, maxLines};
-ghost use Rattle.reader.specs.LineTokens.{tokensAt};
+ghost use Rattle.reader.specs.StoredTokens.{tokensAt};
 ghost use Rattle.reader.specs.Draft.{noDraft, refusedAt, grownBy, keptLine, addedLine};
-use crate::put::put;
-use crate::put::put_tokens;
+use crate::line_tokens::put;
+use crate::line_tokens::put_tokens;
 use checking::line_at;
 use engine::STARTS;
 use engine::rank_in;
 use tokens::token::LINES;
 use tokens::token::SIZE;
-
-pub const TOO_MANY_LINES: u8 = 2;
-
-pub const NO_TOKEN: u8 = 3;
-
-pub const USED_ABOVE: u8 = 11;
+use values::codes::NO_TOKEN;
+use values::codes::TOO_MANY_LINES;
+use values::codes::USED_ABOVE;
 
 // The place of the first line.
 pub const FIRST: usize = STARTS + LINES;

@@ -2,11 +2,11 @@
 //
 // It rests only on what the crates below promise. `load` asks nothing of its caller.
 mod arrange;
-mod count;
 mod draft;
+mod line_count;
+mod line_tokens;
 mod load_text;
-mod put;
-mod read;
+mod text_draft;
 
 pub use load_text::Loaded;
 pub use load_text::load;

@@ -4,14 +4,13 @@ ghost use Rattle.reader.specs.Load.{loadAnswer, loadSet};
 ghost use Rattle.reader.specs.DraftLoad.{answered};
 use crate::arrange::arrange;
 use crate::arrange::first_unknown;
-use crate::put::put;
-use crate::read::read_text;
+use crate::line_tokens::put;
+use crate::text_draft::read_text;
 use engine::State;
 use engine::empty_set;
 use engine::power_on;
 use tokens::token::SIZE;
-
-pub const NOT_IN_SET: u8 = 12;
+use values::codes::NOT_IN_SET;
 
 // What loading answers: 0 and 0 if the text is taken, else a code and a line; and the state, that of power-on in each case.
 pub struct Loaded {

@@ -16,17 +16,17 @@ use Rattle.text.specs.LinesLaws.{split-some}
 use Rattle.text.specs.PutAt.{putAt}
 use Rattle.text.specs.PutLaws.{put-length, put-join}
 use Rattle.transcript.specs.declared.session.Place.{Place}
-use Rattle.transcript.specs.declared.beat_line.Reading.{Reading}
+use Rattle.transcript.specs.declared.beat_line.HalfLine.{HalfLine}
 use Rattle.reader.specs.Load.{loadAnswer}
-use Rattle.transcript.specs.BeatLineReading.{readByte, readOn, withoutCR, readLent}
+use Rattle.transcript.specs.HalfLine.{readByte, readOn, withoutCR, readLent}
 use Rattle.transcript.specs.Totals.{maxBeats}
 use Rattle.transcript.specs.Tally.{counted, answerOf}
-use Rattle.transcript.specs.Machine.{TEXT, BEATS, keptSize, Machine, Fed, withPlace, withReading, starAfter, starOn, placeOn, opened, textEnd, beatOf, beatEnd, chunk, lineEnd, behind, fedLines}
+use Rattle.transcript.specs.Machine.{TEXT, BEATS, keptSize, Machine, Fed, withPlace, withHalfLine, starAfter, starOn, placeOn, opened, textEnd, beatOf, beatEnd, chunk, lineEnd, behind, fedLines}
 use Rattle.transcript.specs.SessionRoomLaws.{byCode, byLent}
 
 -- ---- bytes of a line, in two parts
 
-read-append : (r : Reading) (l k : List ℕ) → readOn r (l ++ k) ≡ readOn (readOn r l) k
+read-append : (r : HalfLine) (l k : List ℕ) → readOn r (l ++ k) ≡ readOn (readOn r l) k
 unfolding readOn
 read-append r [] k = refl
 read-append r (b ∷ bs) k = read-append (readByte r b) bs k
@@ -64,7 +64,7 @@ abbrev textOn : Machine → List ℕ → Machine
 textOn m l = record { text = putAt (m .text) (m .session .place .size) l; lines = m .lines; session = withPlace (m .session) (placeOn (m .session .place) l) }
 
 abbrev beatsOn : Machine → List ℕ → Machine
-beatsOn m l = record { text = m .text; lines = m .lines; session = withReading (m .session) (readOn (m .session .reading) l) }
+beatsOn m l = record { text = m .text; lines = m .lines; session = withHalfLine (m .session) (readOn (m .session .half) l) }
 
 pub chunk-text : (m : Machine) (l : List ℕ) → eqb (m .session .phase) TEXT ≡ true → chunk m l ≡ textOn m l
 unfolding chunk
@@ -101,7 +101,7 @@ chunk-append m l k h =
     }
 
     in-beats : beatsOn m (l ++ k) ≡ beatsOn (beatsOn m l) k
-    in-beats = λ i. record { text = m .text; lines = m .lines; session = withReading (m .session) (read-append (m .session .reading) l k i) }
+    in-beats = λ i. record { text = m .text; lines = m .lines; session = withHalfLine (m .session) (read-append (m .session .half) l k i) }
 
 -- ---- the text stays as long as it is
 
@@ -117,7 +117,7 @@ unfolding lineEnd textEnd opened beatEnd beatOf
 line-held m =
     let P : Fed → Type 0 = λ y. length (y .machine .text) ≡ length (m .text) in
     let p = m .session .place in
-    let r = withoutCR (m .session .reading) in
+    let r = withoutCR (m .session .half) in
     either P (eqb (m .session .phase) TEXT)
     (λ e. either P (eqb (p .star) 1 || eqb (p .star) 2)
     (λ g. byCode P (loadAnswer (take (p .start) (m .text)) .code) (λ c. refl) (λ n c. refl))

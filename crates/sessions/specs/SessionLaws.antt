@@ -20,18 +20,18 @@ use Rattle.tokens.specs.Token.{textSize}
 use Rattle.reader.specs.Load.{Outcome, refused, outcome, loadAnswer, loadSet}
 use Rattle.text.specs.PutLaws.{put-length}
 use Rattle.transcript.specs.declared.session.Place.{Place}
-use Rattle.transcript.specs.declared.beat_line.Reading.{Reading}
+use Rattle.transcript.specs.declared.beat_line.HalfLine.{HalfLine}
 use Rattle.transcript.specs.Input.{Input, isStar, beatLines, lineBefore, cut, inputOf}
 use Rattle.transcript.specs.BeatLine.{Lent, lineLent}
 use Rattle.transcript.specs.Output.{loadLine, errorLine}
 use Rattle.transcript.specs.declared.totals.Totals.{Totals}
 use Rattle.transcript.specs.Totals.{maxBeats, noTotals, ended}
 use Rattle.transcript.specs.Tally.{counted, answerOf, beatText}
-use Rattle.transcript.specs.Run.{beatsText, loadedText, synrun}
-use Rattle.transcript.specs.BeatLineReading.{noReading, readOn, withoutCR, isUntouched, readLent}
+use Rattle.transcript.specs.Synrun.{beatsText, loadedText, synrun}
+use Rattle.transcript.specs.HalfLine.{noHalfLine, readOn, withoutCR, isUntouched, readLent}
 use Rattle.transcript.specs.Machine.{TEXT, BEATS, OVER, keptSize, Machine, Fed, begun, withPhase, withTotals, starAfter, starOn, placeOn, placeEnd, opened, textEnd, beatOf, beatEnd, chunk, lineEnd, fedLines, textOver, lastOver, finished}
 use Rattle.transcript.specs.SessionRoomLaws.{byCode, byLent, over-chunk, over-line}
-use Rattle.sessions.specs.ReadingLaws.{byOption, lent-last, lent-ended, untouched}
+use Rattle.sessions.specs.HalfLineLaws.{byOption, lent-last, lent-ended, untouched}
 use Rattle.sessions.specs.MachineLaws.{put-out, text-append}
 
 -- ---- all that is printed
@@ -99,11 +99,11 @@ module _ (s : List ℕ) (n : Totals) where
       either P (eqb (n .beats) maxBeats) (λ e. clash (cc)) (λ e. byLent P (lineLent l) (λ u. clash (cc)) (λ y u. let q : y ≡ x = cc in rw q))
 
 -- a machine that reads a beat line, with what was read of it
-abbrev beating : List ℕ → List ℕ → Place → Totals → Reading → Machine
+abbrev beating : List ℕ → List ℕ → Place → Totals → HalfLine → Machine
 beating t s p n r = record {
   text = t;
   lines = s;
-  session = record { phase = BEATS; place = p; reading = r; totals = n };
+  session = record { phase = BEATS; place = p; half = r; totals = n };
 }
 
 module _ (m : Machine) where
@@ -111,15 +111,15 @@ module _ (m : Machine) where
   abbrev illEnded : Fed
   illEnded = record { machine = record { text = m .text; lines = m .lines; session = withPhase (m .session) OVER }; output = errorLine (m .session .totals .beats + 1) }
 
-  end-none : (r : Reading) → readLent r ≡ none → beatEnd m r ≡ illEnded
+  end-none : (r : HalfLine) → readLent r ≡ none → beatEnd m r ≡ illEnded
   unfolding beatEnd
   end-none r h = byLent (λ (y : Fed). y ≡ illEnded) (readLent r) (λ e. refl) (λ x e. clash (cc))
 
-  end-some : (r : Reading) (x : Lent) → readLent r ≡ some x → beatEnd m r ≡ beatOf m x
+  end-some : (r : HalfLine) (x : Lent) → readLent r ≡ some x → beatEnd m r ≡ beatOf m x
   unfolding beatEnd
   end-some r x h = byLent (λ (y : Fed). y ≡ beatOf m x) (readLent r) (λ e. clash (cc)) (λ z e. let q : z ≡ x = cc in rw q)
 
-module _ (t s : List ℕ) (p : Place) (n : Totals) (r : Reading) (x : Lent) where
+module _ (t s : List ℕ) (p : Place) (n : Totals) (r : HalfLine) (x : Lent) where
   abbrev next : Totals
   next = counted n (answerOf s n x)
 
@@ -128,7 +128,7 @@ module _ (t s : List ℕ) (p : Place) (n : Totals) (r : Reading) (x : Lent) wher
   lastBeat = record { machine = record { text = t; lines = s; session = withPhase (withTotals (beating t s p n r .session) next) OVER }; output = beatText s n x ++ ended next }
 
   abbrev oneBeat : Fed
-  oneBeat = record { machine = beating t s p next noReading; output = beatText s n x }
+  oneBeat = record { machine = beating t s p next noHalfLine; output = beatText s n x }
 
   beat-last : eqb (next .beats) maxBeats ≡ true → beatOf (beating t s p n r) x ≡ lastBeat
   unfolding beatOf
@@ -141,10 +141,10 @@ module _ (t s : List ℕ) (p : Place) (n : Totals) (r : Reading) (x : Lent) wher
 module _ (t s : List ℕ) (p : Place) where
   -- the last line, without an LF
   last-beat : (n : Totals) (l : List ℕ) → eqb (n .beats) maxBeats ≡ false →
-      let m = beating t s p n (readOn noReading l) in lastOver m (beatEnd m (readOn noReading l)) ≡ beatsText s n (l ∷ [])
+      let m = beating t s p n (readOn noHalfLine l) in lastOver m (beatEnd m (readOn noHalfLine l)) ≡ beatsText s n (l ∷ [])
   unfolding lastOver beatsText
   last-beat n l h =
-      let r = readOn noReading l in
+      let r = readOn noHalfLine l in
       let m = beating t s p n r in
       let q = lent-last l in
       byOption (lastOver m (beatEnd m r) ≡ beatsText s n (l ∷ [])) (lineLent l)
@@ -153,36 +153,36 @@ module _ (t s : List ℕ) (p : Place) where
       (λ g. ap (lastOver m) (end-some m r x (q ∙ e) ∙ beat-last t s p n r x g) ∙ sym (beats-some s n l [] x h e))
       (λ g. ap (lastOver m) (end-some m r x (q ∙ e) ∙ beat-more t s p n r x g) ∙ sym (beats-some s n l [] x h e)))
 
-  nothing-read : (n : Totals) → finished (chunk (beating t s p n noReading) []) ≡ beatsText s n []
+  nothing-read : (n : Totals) → finished (chunk (beating t s p n noHalfLine) []) ≡ beatsText s n []
   unfolding finished chunk readOn isUntouched beatsText
   nothing-read n = refl
 
   something-read : (n : Totals) (b : ℕ) (bs : List ℕ) →
-      let m = beating t s p n (readOn noReading (b ∷ bs)) in finished (chunk (beating t s p n noReading) (b ∷ bs)) ≡ lastOver m (beatEnd m (readOn noReading (b ∷ bs)))
+      let m = beating t s p n (readOn noHalfLine (b ∷ bs)) in finished (chunk (beating t s p n noHalfLine) (b ∷ bs)) ≡ lastOver m (beatEnd m (readOn noHalfLine (b ∷ bs)))
   unfolding finished chunk
   something-read n b bs =
-      let r = readOn noReading (b ∷ bs) in
+      let r = readOn noHalfLine (b ∷ bs) in
       let m = beating t s p n r in
       either (λ (y : List ℕ). y ≡ lastOver m (beatEnd m r)) (isUntouched r) (λ e. let z = untouched (b ∷ bs) .0 e in clash (cc)) (λ e. refl)
 
-  beats-print : (ls : List (List ℕ)) (n : Totals) → (ls ≡ [] → ⊥) → eqb (n .beats) maxBeats ≡ false → prints (beating t s p n noReading) ls ≡ beatsText s n (beatLines ls)
+  beats-print : (ls : List (List ℕ)) (n : Totals) → (ls ≡ [] → ⊥) → eqb (n .beats) maxBeats ≡ false → prints (beating t s p n noHalfLine) ls ≡ beatsText s n (beatLines ls)
   unfolding beatLines lineEnd chunk finished
   beats-print [] n g h = absurd (g refl)
-  beats-print ([] ∷ []) n g h = prints-last (beating t s p n noReading) [] ∙ nothing-read n
-  beats-print ((b ∷ bs) ∷ []) n g h = prints-last (beating t s p n noReading) (b ∷ bs) ∙ something-read n b bs ∙ last-beat n (b ∷ bs) h
+  beats-print ([] ∷ []) n g h = prints-last (beating t s p n noHalfLine) [] ∙ nothing-read n
+  beats-print ((b ∷ bs) ∷ []) n g h = prints-last (beating t s p n noHalfLine) (b ∷ bs) ∙ something-read n b bs ∙ last-beat n (b ∷ bs) h
   beats-print (l ∷ k ∷ ls) n g h =
-      let r = withoutCR (readOn noReading l) in
-      let m = beating t s p n (readOn noReading l) in
+      let r = withoutCR (readOn noHalfLine l) in
+      let m = beating t s p n (readOn noHalfLine l) in
       let c = withoutReturn l in
       let q = lent-ended l in
       let on : Fed → List ℕ = λ f. onward f (k ∷ ls) in
-      prints-line (beating t s p n noReading) l k ls
+      prints-line (beating t s p n noHalfLine) l k ls
       ∙ byOption (on (beatEnd m r) ≡ beatsText s n (c ∷ beatLines (k ∷ ls))) (lineLent c)
       (λ e. ap on (end-none m r (q ∙ e)) ∙ over-onward _ (errorLine (n .beats + 1)) (k ∷ ls) refl ∙ sym (beats-none s n c (beatLines (k ∷ ls)) h e))
       (λ x e. decide (on (beatEnd m r) ≡ beatsText s n (c ∷ beatLines (k ∷ ls))) (eqb (next t s p n r x .beats) maxBeats)
-      (λ z. ap on (end-some m r x (q ∙ e) ∙ beat-last t s p n (readOn noReading l) x z) ∙ over-onward _ (beatText s n x ++ ended (next t s p n r x)) (k ∷ ls) refl
+      (λ z. ap on (end-some m r x (q ∙ e) ∙ beat-last t s p n (readOn noHalfLine l) x z) ∙ over-onward _ (beatText s n x ++ ended (next t s p n r x)) (k ∷ ls) refl
       ∙ ap (λ (y : List ℕ). beatText s n x ++ y) (sym (beats-over s (next t s p n r x) (beatLines (k ∷ ls)) z)) ∙ sym (beats-some s n c (beatLines (k ∷ ls)) x h e))
-      (λ z. ap on (end-some m r x (q ∙ e) ∙ beat-more t s p n (readOn noReading l) x z) ∙ ap (λ (y : List ℕ). beatText s n x ++ y) (beats-print (k ∷ ls) (next t s p n r x) (λ u. clash (cc)) z)
+      (λ z. ap on (end-some m r x (q ∙ e) ∙ beat-more t s p n (readOn noHalfLine l) x z) ∙ ap (λ (y : List ℕ). beatText s n x ++ y) (beats-print (k ∷ ls) (next t s p n r x) (λ u. clash (cc)) z)
       ∙ sym (beats-some s n c (beatLines (k ∷ ls)) x h e)))
 
 -- ---- set text: what is kept of it
@@ -348,7 +348,7 @@ abbrev texting : List ℕ → List ℕ → Place → Machine
 texting t s p = record {
   text = t;
   lines = s;
-  session = record { phase = TEXT; place = p; reading = noReading; totals = noTotals };
+  session = record { phase = TEXT; place = p; half = noHalfLine; totals = noTotals };
 }
 
 -- the text before what is left of the input
@@ -358,7 +358,7 @@ withText d i = record { text = d ++ i .text; beats = i .beats }
 module _ (t s : List ℕ) (p : Place) where
   -- a text that is taken, and one that is not
   abbrev takenText : List ℕ → Fed
-  takenText x = record { machine = beating t (loadSet x) p noTotals noReading; output = [] }
+  takenText x = record { machine = beating t (loadSet x) p noTotals noHalfLine; output = [] }
 
   abbrev refusedText : List ℕ → ℕ → Fed
   refusedText x c = record { machine = record { text = t; lines = loadSet x; session = withPhase (texting t s p .session) OVER }; output = loadLine (suc c) (loadAnswer x .line) }

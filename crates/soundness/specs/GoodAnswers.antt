@@ -1,9 +1,9 @@
 -- What a good answer is said to hold: whatever its code is otherwise, and where none stops with 22. Laws; nothing is assumed.
 use mathlib.Core.Path.{_≡_, refl}
 use Prim.Native.Nat.{ℕ}
-use Rattle.values.specs.Fifo.{unsound}
+use Rattle.values.specs.Codes.{unsound}
 use Rattle.values.specs.Numbers.{clash}
-use Rattle.tokens.specs.Reading.{Answer, good, stop, _>>=_}
+use Rattle.tokens.specs.Descent.{Answer, good, stop, _>>=_}
 
 -- what holds of an answer, if it is good
 abbrev pub Ok : {A : Type 0} → (A → Type 0) → Answer A → Type 0

@@ -7,20 +7,21 @@ use native.Mathlib.Omega.{arith}
 use lib.Dec.{eqb, leb}
 use lib.ListN.{length, getD, drop}
 use borrow.Author.Tests.{eqb-true, leb-true}
+use Rattle.values.specs.Codes.{tooManyActions}
 use Rattle.values.specs.Choice.{either, ifNot, both}
 use Rattle.values.specs.Numbers.{clash}
 use Rattle.tokens.specs.Token.{END, EQUALS, DO, ID, IDS, WHEN, EVERY, isNumber, isKeyword, isId, isWhole, setSize}
-use Rattle.tokens.specs.Reading.{token, good, _>>=_, Read, read, ends, then, expressionAt}
-use Rattle.tokens.specs.SingleFault.{tooMany, lower, opensTooMany}
+use Rattle.tokens.specs.Descent.{token, good, _>>=_, Read, read, ends, then, expressionAt}
+use Rattle.tokens.specs.SingleFault.{lower, opensTooMany}
 use Rattle.checking.specs.Fault.{sight, faultFor, countFault, actionAt, actionsAt, faultyLine, lineParts, bodyAt, restAt, lineAt}
 use Rattle.checking.specs.declared.check.Line.{Line}
 use Rattle.engine.specs.Set.{namesKnown, soundLines}
 use Rattle.engine.specs.Action.{World, Did, actionOf}
 use Rattle.engine.specs.Actions.{actionsOf}
 use Rattle.soundness.specs.GoodAnswers.{Holds, holds-then}
-use Rattle.soundness.specs.WriteLaws.{lower-zero, unless-zero}
+use Rattle.soundness.specs.WriteSoundLaws.{lower-zero, unless-zero}
 use Rattle.soundness.specs.PassLaws.{between-some, equal-some, number-some, Passed, passed-none, passed-next, passed-on, Past, expressionAt-past, fault-past, action-past, names-known}
-use Rattle.soundness.specs.ActionLaws.{Runs, Clear, WorldSound, action-runs}
+use Rattle.soundness.specs.ActionSoundLaws.{Runs, Clear, WorldSound, action-runs}
 
 -- ---- the actions of a line, as the check reads them
 
@@ -40,7 +41,7 @@ module _ (s : List ℕ) (kw k : ℕ) where
 
   few-before : (n : ℕ) → countFault (n + 1) ≡ 0 → n < 8
   unfolding countFault
-  few-before n e = let l = leb-true (n + 1) 8 (unless-zero (leb (n + 1) 8) tooMany e (omega arith)) in omega arith
+  few-before n e = let l = leb-true (n + 1) 8 (unless-zero (leb (n + 1) 8) tooManyActions e (omega arith)) in omega arith
 
   after-clear : (m n f g q : ℕ) → (Clear (actionsAt s kw k m (n + 1) (lower f g) q) → Before (n + 1) (lower f g)) → Clear (afterAction m n f g q) → Before n (lower f g)
   after-clear m n f g q rest =

@@ -10,8 +10,8 @@ use lib.ListN.{length, List·getD-eq-default}
 use borrow.Author.Tests.{eqb-true, leb-true, ne-eqb}
 use Rattle.values.specs.Choice.{either, ifNot, both}
 use Rattle.values.specs.Numbers.{clash}
-use Rattle.tokens.specs.Token.{END, EQUALS, OPEN, CLOSE, LEFT, RIGHT, TRUE, FALSE, MINUS, NOT, FIFO1, FIFO4, M, NUMBER, X, W, IN, IM, POS, MOV, LOCK, UNLOCK, SETAL, between, isNumber, isVariable, hasAxis, isAxis, isDrive, isCall, isFifo, isFactor, isTerm, isCompare, isLogic, isWhole, load, whole, setSize}
-use Rattle.tokens.specs.Reading.{token, Answer, good, stop, Read, read, ends, then, upTo, Meaning, isRow, isIndex, isIndexed, indexAt, joined, more, readProduct, readSum, readRest, readExpression, readClose, readVariable, readTruth, operandFrom, readOperand, sumAt, expressionAt}
+use Rattle.tokens.specs.Token.{END, EQUALS, OPEN, CLOSE, LEFT, RIGHT, TRUE, FALSE, MINUS, NOT, FIFO1, FIFO4, M, NUMBER, X, W, IN, IM, POS, MOV, LOCK, UNLOCK, SETAL, between, isNumber, isVariable, hasAxis, isAxis, isDrive, isCall, isFifo, isFactor, isTerm, isCompare, isLogic, isWhole, numberCarried, whole, setSize}
+use Rattle.tokens.specs.Descent.{token, Answer, good, stop, Read, read, ends, then, upTo, Meaning, isRow, isIndex, isIndexed, indexAt, joined, more, readProduct, readSum, readRest, readExpression, readClose, readVariable, readTruth, operandFrom, readOperand, sumAt, expressionAt}
 use Rattle.checking.specs.Fault.{Sight, sight, faultFor, isRemoval, assignedAt, assignmentAt, commandAt, actionAt}
 use Rattle.engine.specs.Set.{isKnown, isLock, namesKnown}
 
@@ -154,7 +154,7 @@ module _ (s : List ℕ) where
     operand-from-past : (f : ℕ → Read A) → Passes f → (k p : ℕ) → Past p (operandFrom s 𝓜 f k p (token s p))
     unfolding operandFrom
     operand-from-past f h k p =
-        either (Past p) (isNumber (token s p)) (λ e. past-up p (p + 1) (𝓜 .number (load (token s p))) (passed-one p (number-some (token s p) e))) λ e.
+        either (Past p) (isNumber (token s p)) (λ e. past-up p (p + 1) (𝓜 .number (numberCarried (token s p))) (passed-one p (number-some (token s p) e))) λ e.
         either (Past p) (isVariable (token s p)) (λ e. variable-past p (between-some IN IM (token s p) (omega arith) e)) λ e.
         either (Past p) (eqb (token s p) OPEN)
         (λ e. past-then p (readExpression s 𝓜 f k (p + 1)) _ (second-past (readExpression s 𝓜 f k) (expression-past f h k) p (equal-some (token s p) OPEN (omega arith) e)) close-past) λ e.

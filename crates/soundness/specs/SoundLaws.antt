@@ -18,7 +18,7 @@ use Rattle.values.specs.TimeLaws.{grown-keeps}
 use Rattle.values.specs.FifoLaws.{PlacesRanged, zero-in-range, InRange}
 use Rattle.values.specs.Numbers.{clash}
 use Rattle.tokens.specs.Token.{WHEN, WHENEVER, FROM, EVERY, isKeyword, setSize}
-use Rattle.tokens.specs.Reading.{Answer, good, stop}
+use Rattle.tokens.specs.Descent.{Answer, good, stop}
 use Rattle.working.specs.Operators.{isYes}
 use Rattle.working.specs.Working.{conditionValue}
 use Rattle.engine.specs.declared.state.State.{State}
@@ -28,7 +28,7 @@ use Rattle.engine.specs.State.{stateCells, powerOn}
 use Rattle.engine.specs.Cells.{inputCount, inputCell, inputCells, beatCells}
 use Rattle.engine.specs.Timers.{timerCells, grownCells}
 use Rattle.engine.specs.Sound.{isSound}
-use Rattle.engine.specs.Action.{World, Did, fromGot}
+use Rattle.engine.specs.Action.{World, Did, fromValueOrAlarm}
 use Rattle.engine.specs.Actions.{actionsOf}
 use Rattle.engine.specs.Turn.{Entry, Turned, remembered, counted, takesTurn, doTurn, tryTurn, turnOf, turnsFrom}
 use Rattle.engine.specs.Keyword.{tries, remembers}
@@ -38,11 +38,11 @@ use Rattle.engine.proofs.CellLaws.{length-inputs}
 use Rattle.engine.proofs.BeatLaws.{inputs-length}
 use Rattle.soundness.specs.Call.{Call, doBeat, doLock, doUnlock, doCancel, doReset, after, codeAfter, afterAll}
 use Rattle.soundness.specs.GoodAnswers.{Not22, Holds, holds-then}
-use Rattle.soundness.specs.SetLaws.{lines-lined, lines-known}
-use Rattle.soundness.specs.CellLaws.{ranged-each, cell-ranged, timer-cell, right-timer, CellsSound, cell-keeps, memory-keeps, state-right, right-state, set-sound, power-on}
-use Rattle.soundness.specs.CallLaws.{lockCall-keeps, unlockCall-keeps, cancelCall-keeps, resetCall-keeps, Answers, lockCall-answers, unlockCall-answers, cancelCall-answers, resetCall-r, resetCall-length, resetCall-code}
-use Rattle.soundness.specs.WriteLaws.{BeatSound}
-use Rattle.soundness.specs.ActionLaws.{WorldSound, condition-runs}
+use Rattle.soundness.specs.SetSoundLaws.{lines-lined, lines-known}
+use Rattle.soundness.specs.CellSoundLaws.{ranged-each, cell-ranged, timer-cell, right-timer, CellsSound, cell-keeps, memory-keeps, state-right, right-state, set-sound, power-on}
+use Rattle.soundness.specs.CallSoundLaws.{lockCall-keeps, unlockCall-keeps, cancelCall-keeps, resetCall-keeps, Answers, lockCall-answers, unlockCall-answers, cancelCall-answers, resetCall-r, resetCall-length, resetCall-code}
+use Rattle.soundness.specs.WriteSoundLaws.{BeatSound}
+use Rattle.soundness.specs.ActionSoundLaws.{WorldSound, condition-runs}
 use Rattle.soundness.specs.LineLaws.{actions-keep, LineClear, line-clear}
 
 -- ---- turns
@@ -93,7 +93,7 @@ module _ (s : List ℕ) (sound : soundLines s .sound ≡ true) (size : length s 
         let m = getD (x .memory) k false in
         ifNot (Holds TurnFine) (takesTurn s numbers cancelled automatic l k x) (λ e. h) λ e.
         ifNot (Holds TurnFine) (tries (l .keyword) m) (λ t. done-fine x [] _ h) λ t.
-        holds-then (λ a. Unit {0}) TurnFine (fromGot (conditionValue s (x .vars .r) (x .vars .cells) (l .condition))) _
+        holds-then (λ a. Unit {0}) TurnFine (fromValueOrAlarm (conditionValue s (x .vars .r) (x .vars .cells) (l .condition))) _
         (condition-runs s (x .vars) (l .condition) (h .vars) (clear .condition (tries-keyword (l .keyword) m t))) λ a u.
         let c = not-true (getD cancelled k false) (both (not (getD cancelled k false)) _ e .0) in
         done-fine (remembered x k (remembers (l .keyword) m (isYes (a .0)))) _ _

@@ -1,2 +1,2 @@
--- StepLaws: how much a step takes and writes.
-pub mod StepLaws
+-- ProgramLaws: how much a step takes and writes.
+pub mod ProgramLaws

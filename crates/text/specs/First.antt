@@ -5,7 +5,7 @@ use Prim.Native.Nat.{ℕ, zero, suc, _+_}
 use lib.Dec.{eqb}
 use lib.ListN.{getD, take, drop}
 use Rattle.tokens.specs.Token.{EQUALS, SAME, OTHER, LESS, MORE, ATMOST, ATLEAST, PLUS, MINUS, TIMES, OVER, OPEN, CLOSE, LEFT, RIGHT}
-use Rattle.text.specs.declared.first.First.{First}
+use Rattle.text.specs.declared.scan.First.{First}
 use Rattle.text.specs.Byte.{bytes, POINT, isDigit, isLetter, startsWord, isWordByte, run}
 use Rattle.text.specs.Word.{Words, tokenIn, wordToken}
 use Rattle.text.specs.Number.{numberToken}

@@ -8,7 +8,7 @@ use lib.Dec.{eqb}
 use lib.ListN.{length, take, drop, getD, length-drop, drop-of-length-le}
 use lib.Seq.{take-all, getD-drop, drop-drop, drop-cons}
 use borrow.Author.Tests.{eq-eqb, ne-eqb}
-use Rattle.text.specs.declared.first.First.{First}
+use Rattle.text.specs.declared.scan.First.{First}
 use Rattle.text.specs.Byte.{POINT, isDigit, isLetter, startsWord, isWordByte, run}
 use Rattle.text.specs.Word.{tokenIn, wordToken}
 use Rattle.text.specs.Number.{numberToken}

@@ -8,7 +8,7 @@ use lib.Dec.{eqb}
 use lib.ListN.{length, take, drop, getD, length-drop}
 use Rattle.values.specs.Choice.{decide}
 use Rattle.tokens.specs.Token.{AllReal}
-use Rattle.text.specs.declared.first.First.{First}
+use Rattle.text.specs.declared.scan.First.{First}
 use Rattle.text.specs.Byte.{POINT, isDigit, isLetter, startsWord, isWordByte, isSpace, run}
 use Rattle.text.specs.ByteLaws.{run-within}
 use Rattle.text.specs.Word.{tokenIn, wordToken}

@@ -2,13 +2,13 @@
 //
 // No public call asks anything of its caller.
 pub mod bytes;
-mod first;
 mod lines;
 mod number;
+mod scan;
 mod word;
 
-pub use first::First;
-pub use first::first_token;
 pub use lines::Bounds;
 pub use lines::is_blank;
 pub use lines::line_bounds;
+pub use scan::First;
+pub use scan::first_token;

@@ -5,8 +5,8 @@ use mathlib.Core.List.{List}
 use Prim.Native.Nat.{ℕ, zero, suc, _+_, _-_, _<_, _≤_}
 use native.Mathlib.Omega.{arith}
 use borrow.Author.Tests.{le-leb, lt-leb, ne-eqb}
-use Rattle.tokens.specs.Token.{MINUS, OPEN, CLOSE, TRUE, FALSE, NOT, NUMBER, isVariable, load}
-use Rattle.tokens.specs.Reading.{read, ends, then, upTo, Meaning, isIndexed, indexAt, token, readExpression, readClose, readVariable, readTruth, operandFrom, readOperand}
+use Rattle.tokens.specs.Token.{MINUS, OPEN, CLOSE, TRUE, FALSE, NOT, NUMBER, isVariable, numberCarried}
+use Rattle.tokens.specs.Descent.{read, ends, then, upTo, Meaning, isIndexed, indexAt, token, readExpression, readClose, readVariable, readTruth, operandFrom, readOperand}
 
 module _ (s : List ℕ) {A : Type 0} (𝓜 : Meaning A) where
   pub closes : (a : A) (p t : ℕ) → t ≡ token s p → t ≡ CLOSE → readClose s 𝓜 a p ≡ read a (p + 1)
@@ -51,7 +51,7 @@ module _ (s : List ℕ) {A : Type 0} (𝓜 : Meaning A) where
         go zero f = absurd (f refl)
         go (suc n) f = let q : suc n - 1 ≡ n = omega arith in rw (q, e)
 
-    pub number-arm : NUMBER ≤ t → upTo (𝓜 .number (load t)) (p + 1) ≡ readOperand s 𝓜 k p
+    pub number-arm : NUMBER ≤ t → upTo (𝓜 .number (numberCarried t)) (p + 1) ≡ readOperand s 𝓜 k p
     unfolding operandFrom
     number-arm h = sym (first ∙ simp (operandFrom, le-leb NUMBER t h))
 

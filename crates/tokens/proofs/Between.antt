@@ -7,7 +7,7 @@ use lib.Dec.{eqb, leb}
 use borrow.Author.Tests.{leb-true, lt-leb, not-true}
 use Rattle.values.specs.Choice.{both}
 use Rattle.tokens.specs.Token.{AND, XOR, between, isLogic}
-use Rattle.tokens.specs.Reading.{isRow}
+use Rattle.tokens.specs.Descent.{isRow}
 
 pub never : {X : Type 0} → false ≡ true → X
 never e = absurd (false≢true e)

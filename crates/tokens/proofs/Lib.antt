@@ -4,7 +4,7 @@
 pub mod Between
 pub mod Indices
 pub mod Arms
-pub mod Answers
+pub mod AnswerLaws
 pub mod Rows
 pub mod BracketLaws
 pub mod SingleFaultLaws

@@ -2,5 +2,5 @@
 -- SingleFault: the faults of single things. Definitions only.
 pub mod Token
 pub mod Index
-pub mod Reading
+pub mod Descent
 pub mod SingleFault

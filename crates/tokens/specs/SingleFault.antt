@@ -3,30 +3,10 @@ use mathlib.Core.Bool.{Bool, true, false, cond, not, _&&_, _||_, Bool·beq}
 use mathlib.Core.List.{List, [], _∷_}
 use Prim.Native.Nat.{ℕ, _+_, _-_, min}
 use lib.Dec.{eqb, leb, ltb}
+use Rattle.values.specs.Codes.{confused, outside, readOnly, mAlone}
 use Rattle.values.specs.Value.{top}
 use Rattle.tokens.specs.Token.{END, OPEN, CLOSE, WHEN, EVERY, OUT, TIMER, R, SETAL, between, isFifo, thousandths}
 use Rattle.tokens.specs.Index.{isInside}
-
-abbrev pub tooDeep : ℕ
-tooDeep = 4
-
-abbrev pub notInGrammar : ℕ
-notInGrammar = 5
-
-abbrev pub confused : ℕ
-confused = 6
-
-abbrev pub outside : ℕ
-outside = 7
-
-abbrev pub readOnly : ℕ
-readOnly = 8
-
-abbrev pub codeAlone : ℕ
-codeAlone = 9
-
-abbrev pub tooMany : ℕ
-tooMany = 10
 
 -- the lower of two faults, where 0 is none
 unfoldable pub lower : ℕ → ℕ → ℕ
@@ -75,7 +55,7 @@ writeFault w i = lower (unless (isInside w i) outside) (unless (isWritable w i) 
 
 -- M 0..99, and only under WHEN or EVERY
 unfoldable pub codeFault : ℕ → ℕ → ℕ
-codeFault kw n = lower (unless (leb n 99) outside) (unless (eqb kw WHEN || eqb kw EVERY) codeAlone)
+codeFault kw n = lower (unless (leb n 99) outside) (unless (eqb kw WHEN || eqb kw EVERY) mAlone)
 
 -- a line number is 1..255
 unfoldable pub idFault : ℕ → ℕ

@@ -240,18 +240,18 @@ AllReal l = (i : ℕ) → i < length l → getD l i 0 ≡ 0 → ⊥
 -- ---- what a token carries
 
 -- twice the thousandths of a number, and one more for a written point
-abbrev pub load : ℕ → ℕ
-load t = t - NUMBER
+abbrev pub numberCarried : ℕ → ℕ
+numberCarried t = t - NUMBER
 
 abbrev pub thousandths : ℕ → ℕ
 thousandths n = n / 2
 
 -- a number written without a point
 abbrev pub isWhole : ℕ → Bool
-isWhole t = isNumber t && eqb (load t % 2000) 0
+isWhole t = isNumber t && eqb (numberCarried t % 2000) 0
 
 abbrev pub whole : ℕ → ℕ
-whole t = load t / 2000
+whole t = numberCarried t / 2000
 
 -- the token of a whole number
 abbrev pub wholeToken : ℕ → ℕ

@@ -17,26 +17,16 @@ use crate::token::is_bracket;
 use crate::token::is_fifo;
 use crate::token::token_at;
 use values::arithmetic::TOP;
+use values::codes::CONFUSED;
+use values::codes::M_ALONE;
+use values::codes::OUTSIDE;
+use values::codes::READ_ONLY;
 
 // The codes.
-pub const TOO_DEEP: u8 = 4;
-
-pub const NOT_IN_GRAMMAR: u8 = 5;
-
-pub const CONFUSED: u8 = 6;
-
-pub const OUTSIDE: u8 = 7;
-
-pub const READ_ONLY: u8 = 8;
-
-pub const CODE_ALONE: u8 = 9;
-
-pub const TOO_MANY: u8 = 10;
-
 // The brackets that may be open.
 pub const BRACKETS: usize = 8;
 
-// The highest load of a number in the range: 1,000,000 and a written point.
+// The most that a number in the range carries: 1,000,000 and a written point.
 const HIGHEST: u32 = 2 * (TOP as u32) + 1;
 
 // The lower of two faults.
@@ -59,7 +49,7 @@ pub fn wanting(wanted: bool, truth: bool) -> u8
     if wanted == truth { 0 } else { CONFUSED }
 }
 
-// 7 for a number above 1,000,000; t is the load of its token, twice its thousandths and one more for a written point.
+// 7 for a number above 1,000,000; t is what its token carries, twice its thousandths and one more for a written point.
 pub fn number_fault(t: u32) -> u8
     ensures { λ x. ⌜ x ≡ numberFault t ⌝ }
 {
@@ -117,7 +107,7 @@ pub fn code_fault(keyword: u32, n: u32) -> u8
     if (keyword == WHEN) | (keyword == EVERY) {
         0
     } else {
-        CODE_ALONE
+        M_ALONE
     }
 }
 
@@ -148,13 +138,13 @@ pub fn id_fault(n: u32) -> u8
 }
 
 // Whether more than eight brackets ( are open at some place from `at` to the line's end.
-pub fn opens_too_many(code: &[u32], at: usize) -> bool
-    ensures { λ x. ⌜ x ≡ opensTooMany (drop at (now (code .entry))) 0 ⌝ }
+pub fn opens_too_many(set: &[u32], at: usize) -> bool
+    ensures { λ x. ⌜ x ≡ opensTooMany (drop at (now (set .entry))) 0 ⌝ }
 {
     let mut open: usize = 0;
     let mut i = at;
-    while i < code.len() {
-        let t = token_at(code, i);
+    while i < set.len() {
+        let t = token_at(set, i);
         if t == END {
             return false;
         }

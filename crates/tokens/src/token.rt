@@ -3,7 +3,7 @@ ghost use mathlib.Core.Path.{_≡_};
 ghost use Prim.Native.Nat.{_<_};
 ghost use lib.ListN.{length, getD};
 ghost use Rattle.tokens.specs.Token.{between, isVariable, isFifo, isAxis, isDrive, isCall, isKeyword, isId, isBracket, isFactor, isTerm, isCompare, isLogic, isWhole, whole};
-ghost use Rattle.tokens.specs.Reading.{isRow, isIndex, indexOf, isIndexed, indexAt};
+ghost use Rattle.tokens.specs.Descent.{isRow, isIndex, indexOf, isIndexed, indexAt};
 
 // The lines that a set may have, the actions of each, and the bytes of its text.
 pub const LINES: usize = 32;
@@ -115,10 +115,10 @@ pub const W: u32 = 62;
 pub const NUMBER: u32 = 2147483648;
 
 // The token at a place, 0 past the end.
-pub fn token_at(code: &[u32], at: usize) -> u32
-    ensures { λ r. ⌜ (r ≡ getD (now (code .entry)) at 0) × ((r ≡ 0 → ⊥) → at < length (now (code .entry))) ⌝ }
+pub fn token_at(set: &[u32], at: usize) -> u32
+    ensures { λ r. ⌜ (r ≡ getD (now (set .entry)) at 0) × ((r ≡ 0 → ⊥) → at < length (now (set .entry))) ⌝ }
 {
-    if at < code.len() { code[at] } else { 0 }
+    if at < set.len() { set[at] } else { 0 }
 }
 
 fn is_between(low: u32, high: u32, t: u32) -> bool
@@ -254,27 +254,27 @@ fn index_of(w: u32, t: u32) -> u32
 }
 
 // Whether an index of the word w stands behind place `at`.
-pub fn is_indexed(code: &[u32], w: u32, at: usize) -> bool
-    ensures { λ r. ⌜ r ≡ isIndexed (now (code .entry)) w at ⌝ }
+pub fn is_indexed(set: &[u32], w: u32, at: usize) -> bool
+    ensures { λ r. ⌜ r ≡ isIndexed (now (set .entry)) w at ⌝ }
 {
-    if code.len() <= at {
+    if set.len() <= at {
         return false;
     }
-    if token_at(code, at + 1) != LEFT {
+    if token_at(set, at + 1) != LEFT {
         return false;
     }
-    if token_at(code, at + 3) != RIGHT {
+    if token_at(set, at + 3) != RIGHT {
         return false;
     }
-    is_index(w, token_at(code, at + 2))
+    is_index(w, token_at(set, at + 2))
 }
 
 // The index of the word w behind place `at`.
-pub fn index_at(code: &[u32], w: u32, at: usize) -> u32
-    ensures { λ r. ⌜ r ≡ indexAt (now (code .entry)) w at ⌝ }
+pub fn index_at(set: &[u32], w: u32, at: usize) -> u32
+    ensures { λ r. ⌜ r ≡ indexAt (now (set .entry)) w at ⌝ }
 {
-    if code.len() <= at {
+    if set.len() <= at {
         return index_of(w, 0);
     }
-    index_of(w, token_at(code, at + 2))
+    index_of(w, token_at(set, at + 2))
 }

@@ -14,13 +14,13 @@ use mir.Syntax.{w32}
 use mir.Val.{toZ}
 use borrow.Author.Tests.{eq-eqb, ne-eqb, le-leb, lt-leb}
 use Rattle.values.proofs.Signed.{back}
-use Rattle.transcript.specs.declared.beat_line.Reading.{Reading}
-use Rattle.transcript.specs.BeatLineReading.{readByte, readOn, greatest, signed, withField, closed, readLent}
+use Rattle.transcript.specs.declared.beat_line.HalfLine.{HalfLine}
+use Rattle.transcript.specs.HalfLine.{readByte, readOn, greatest, signed, withField, closed, readLent}
 
 -- ---- the bytes from place i on
 
-module _ (t : List ℕ) (r : Reading) (i : ℕ) where
-  pub read-next : i < length t → {x : Reading} → x ≡ readByte r (getD t i 0) → readOn x (drop (i + 1) t) ≡ readOn r (drop i t)
+module _ (t : List ℕ) (r : HalfLine) (i : ℕ) where
+  pub read-next : i < length t → {x : HalfLine} → x ≡ readByte r (getD t i 0) → readOn x (drop (i + 1) t) ≡ readOn r (drop i t)
   unfolding readOn
   read-next h e = rw (e, drop-cons t i 0 h, add-one i)
 
@@ -38,7 +38,7 @@ flipped (suc k) h g =
     rw e (back w32 {z = negsuc k} (record { sfits = omega arith }))
 
 -- the greatest value of a field
-module _ (r : Reading) (h : r .value ≤ greatest r) where
+module _ (r : HalfLine) (h : r .value ≤ greatest r) where
   pub word-bound : r .field ≡ 1 → r .value ≤ 65535
   unfolding greatest
   word-bound e = simp (greatest, eq-eqb _ _ e) at h
@@ -58,9 +58,9 @@ module _ (r : Reading) (h : r .value ≤ greatest r) where
 
 -- ---- the end of the line: c is the line with its last field closed
 
-module _ (r : Reading) {c : Reading} (e : c ≡ closed r) where
+module _ (r : HalfLine) {c : HalfLine} (e : c ≡ closed r) where
   stage-is : closed r .stage ≡ c .stage
-  stage-is = ap (λ (x : Reading). x .stage) (sym e)
+  stage-is = ap (λ (x : HalfLine). x .stage) (sym e)
 
   pub unended : (c .stage ≡ 2 → ⊥) → readLent r ≡ none
   unfolding readLent

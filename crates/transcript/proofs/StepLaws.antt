@@ -19,20 +19,20 @@ use Rattle.reader.specs.Load.{loadAnswer, loadSet}
 use Rattle.transcript.specs.declared.session.Place.{Place}
 use Rattle.transcript.specs.declared.session.Session.{Session}
 use Rattle.transcript.specs.declared.session.Ended.{Ended}
-use Rattle.transcript.specs.declared.beat_line.Reading.{Reading}
-use Rattle.transcript.specs.declared.beat_line.Told.{Told}
+use Rattle.transcript.specs.declared.beat_line.HalfLine.{HalfLine}
+use Rattle.transcript.specs.declared.beat_line.MaybeLent.{MaybeLent}
 use Rattle.transcript.specs.BeatLine.{Lent}
 use Rattle.transcript.specs.Output.{loadLine, errorLine}
-use Rattle.transcript.specs.BeatLineReading.{noReading, readOn, readLent, withoutCR}
+use Rattle.transcript.specs.HalfLine.{noHalfLine, readOn, readLent, withoutCR}
 use Rattle.transcript.specs.declared.totals.Totals.{Totals}
 use Rattle.transcript.specs.Totals.{maxBeats, ended, areFit, errorText}
 use Rattle.transcript.specs.TotalsLaws.{error-some}
 use Rattle.transcript.specs.Tally.{counted, answerOf, beatText, Tally, tallied}
 use Rattle.transcript.specs.TallyLaws.{taken-fit}
-use Rattle.transcript.specs.Machine.{TEXT, BEATS, OVER, keptSize, Fed, isFit, withPhase, withPlace, withReading, starAfter, starOn, placeOn, placeEnd, opened, textEnd, beatOf, beatEnd, chunk, lineEnd}
+use Rattle.transcript.specs.Machine.{TEXT, BEATS, OVER, keptSize, Fed, isFit, withPhase, withPlace, withHalfLine, starAfter, starOn, placeOn, placeEnd, opened, textEnd, beatOf, beatEnd, chunk, lineEnd}
 use Rattle.transcript.specs.Put.{IsPut, furthest}
-use Rattle.transcript.specs.SessionHeld.{IsFed, machineOf}
-use Rattle.transcript.specs.Told.{toldOf, lentIn}
+use Rattle.transcript.specs.SessionAnswers.{IsFed, machineOf}
+use Rattle.transcript.specs.MaybeLent.{maybeLent, lentIn}
 use Rattle.transcript.specs.SessionRoomLaws.{Fit, Lives, beat-orders, beat-room}
 use Rattle.transcript.proofs.OutLaws.{reached}
 
@@ -48,7 +48,7 @@ pub alive : {x : Session} → Lives x → (x .phase ≡ OVER → ⊥) → Fit x
 alive (inl f) n = f
 alive (inr o) n = absurd (n (o .0))
 
-pub fit-but-totals : (x : Session) → x .place .size ≤ keptSize → x .place .start ≤ x .place .size → x .reading .field ≤ 15 → areFit (x .totals) ≡ isFit x
+pub fit-but-totals : (x : Session) → x .place .size ≤ keptSize → x .place .start ≤ x .place .size → x .half .field ≤ 15 → areFit (x .totals) ≡ isFit x
 unfolding isFit
 fit-but-totals x a b c = simp (le-leb _ _ a, le-leb _ _ b, le-leb _ _ c)
 
@@ -85,7 +85,7 @@ module _ (t s : List ℕ) (x : Session) (l : List ℕ) where
   unfolding chunk
   text-taken h e f = rw (e, f) (simp (chunk, eq-eqb _ _ h))
 
-  pub beats-taken : x .phase ≡ BEATS → {r : Reading} → r ≡ readOn (x .reading) l → machineOf t s (withReading x r) ≡ chunk (machineOf t s x) l
+  pub beats-taken : x .phase ≡ BEATS → {r : HalfLine} → r ≡ readOn (x .half) l → machineOf t s (withHalfLine x r) ≡ chunk (machineOf t s x) l
   unfolding chunk
   beats-taken h e = rw e (simp (chunk, ne-eqb (x .phase) 0 (λ g. omega arith), eq-eqb _ _ h))
 
@@ -96,20 +96,20 @@ module _ (t s : List ℕ) (x : Session) (l : List ℕ) where
 -- ---- beats
 
 -- what a line lends, as it was told
-module _ (o : Option Lent) {t : Told} (e : t ≡ toldOf o) where
+module _ (o : Option Lent) {t : MaybeLent} (e : t ≡ maybeLent o) where
   pub lent-some : t .good ≡ true → o ≡ some (lentIn t)
   lent-some h = go o e
     where
-      go : (o : Option Lent) → t ≡ toldOf o → o ≡ some (lentIn t)
-      go none e = never (sym (ap (λ (y : Told). y .good) e) ∙ h)
+      go : (o : Option Lent) → t ≡ maybeLent o → o ≡ some (lentIn t)
+      go none e = never (sym (ap (λ (y : MaybeLent). y .good) e) ∙ h)
       go (some l) e = rw e
 
   pub lent-none : t .good ≡ false → o ≡ none
   lent-none h = go o e
     where
-      go : (o : Option Lent) → t ≡ toldOf o → o ≡ none
+      go : (o : Option Lent) → t ≡ maybeLent o → o ≡ none
       go none e = refl
-      go (some l) e = never (sym h ∙ ap (λ (y : Told). y .good) e)
+      go (some l) e = never (sym h ∙ ap (λ (y : MaybeLent). y .good) e)
 
 -- a beat of a line that lends l, its totals y
 module _ (t s : List ℕ) (x : Session) (l : Lent) (at : ℕ) (f : Fit x) (w : at ≤ 4096) where
@@ -123,15 +123,15 @@ module _ (t s : List ℕ) (x : Session) (l : Lent) (at : ℕ) (f : Fit x) (w : a
   pub end-near : {b exit : List ℕ} {q : ℕ} → IsPut b at (tallied s (x .totals) l at .text) exit q → q ≤ furthest
   end-near p = let e = p .behind in let r = beat-room s (x .totals) l in let g = ap length text-is in omega arith
 
-  module _ {y : Totals} (e : y ≡ tallied s (x .totals) l at .totals) {r : Reading} (k : r ≡ noReading) where
+  module _ {y : Totals} (e : y ≡ tallied s (x .totals) l at .totals) {r : HalfLine} (k : r ≡ noHalfLine) where
     beats-are : x .totals .beats + 1 ≡ y .beats
     beats-are = ap (λ (z : Tally). z .totals .beats) (sym tally-is) ∙ ap (λ (z : Totals). z .beats) (sym e)
 
-    pub beat-last : y .beats ≡ maxBeats → beatOf (machineOf t s x) l ≡ record { machine = machineOf t s (record { phase = OVER; place = x .place; reading = r; totals = y }); output = tallied s (x .totals) l at .text ++ ended y }
+    pub beat-last : y .beats ≡ maxBeats → beatOf (machineOf t s x) l ≡ record { machine = machineOf t s (record { phase = OVER; place = x .place; half = r; totals = y }); output = tallied s (x .totals) l at .text ++ ended y }
     unfolding beatOf
     beat-last h = rw (e, tally-is, k) (simp (beatOf, eq-eqb (x .totals .beats + 1) maxBeats (beats-are ∙ h)))
 
-    pub beat-more : (y .beats ≡ maxBeats → ⊥) → beatOf (machineOf t s x) l ≡ record { machine = machineOf t s (record { phase = x .phase; place = x .place; reading = r; totals = y }); output = tallied s (x .totals) l at .text }
+    pub beat-more : (y .beats ≡ maxBeats → ⊥) → beatOf (machineOf t s x) l ≡ record { machine = machineOf t s (record { phase = x .phase; place = x .place; half = r; totals = y }); output = tallied s (x .totals) l at .text }
     unfolding beatOf
     beat-more h = rw (e, tally-is, k) (simp (beatOf, ne-eqb (x .totals .beats + 1) maxBeats (λ g. h (sym beats-are ∙ g))))
 
@@ -140,7 +140,7 @@ pub error-put : (n : Totals) {b exit : List ℕ} (at : ℕ) {q : ℕ} → n .bea
 error-put n at h w p = reached at _ (rw (error-some n at h) at p) (omega arith)
 
 -- a beat line that was read
-module _ (t s : List ℕ) (x : Session) (r : Reading) where
+module _ (t s : List ℕ) (x : Session) (r : HalfLine) where
   pub beat-good : {l : Lent} → readLent r ≡ some l → beatEnd (machineOf t s x) r ≡ beatOf (machineOf t s x) l
   unfolding beatEnd
   beat-good e = simp (beatEnd, e)
@@ -156,7 +156,7 @@ module _ (t s : List ℕ) (x : Session) (u : List ℕ) {l : Loaded} (e : l ≡ l
   code-is : loadAnswer u .code ≡ l .code
   code-is = ap (λ (y : Loaded). y .code) (sym e)
 
-  pub opens : l .code ≡ 0 → {r : Reading} → r ≡ noReading → opened (machineOf t s x) u ≡ record { machine = machineOf t v (withPhase (withReading x r) BEATS); output = [] }
+  pub opens : l .code ≡ 0 → {r : HalfLine} → r ≡ noHalfLine → opened (machineOf t s x) u ≡ record { machine = machineOf t v (withPhase (withHalfLine x r) BEATS); output = [] }
   unfolding opened
   opens h g = rw (f, g) (simp (opened, code-is ∙ h))
 
@@ -181,7 +181,7 @@ module _ (t s : List ℕ) (x : Session) where
   unfolding lineEnd
   ends-text h = simp (lineEnd, eq-eqb _ _ h)
 
-  pub ends-beat : x .phase ≡ BEATS → {r : Reading} → r ≡ withoutCR (x .reading) → lineEnd (machineOf t s x) ≡ beatEnd (machineOf t s x) r
+  pub ends-beat : x .phase ≡ BEATS → {r : HalfLine} → r ≡ withoutCR (x .half) → lineEnd (machineOf t s x) ≡ beatEnd (machineOf t s x) r
   unfolding lineEnd
   ends-beat h e = rw e (simp (lineEnd, ne-eqb (x .phase) 0 (λ g. omega arith), eq-eqb _ _ h))
 

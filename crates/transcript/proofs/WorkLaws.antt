@@ -17,11 +17,11 @@ use Rattle.reader.specs.Load.{loadAnswer}
 use Rattle.transcript.specs.declared.session.Session.{Session}
 use Rattle.transcript.specs.declared.session.Ended.{Ended}
 use Rattle.transcript.specs.Output.{loadLine}
-use Rattle.transcript.specs.BeatLineReading.{isUntouched}
+use Rattle.transcript.specs.HalfLine.{isUntouched}
 use Rattle.transcript.specs.Totals.{ended}
 use Rattle.transcript.specs.Machine.{TEXT, BEATS, Machine, Fed, Work, isFit, beatEnd, chunk, lineEnd, textOver, lastOver, finished, finishedText, workFrom, worked}
 use Rattle.transcript.specs.Put.{IsPut}
-use Rattle.transcript.specs.SessionHeld.{IsFed, IsWork, machineOf}
+use Rattle.transcript.specs.SessionAnswers.{IsFed, IsWork, machineOf}
 use Rattle.transcript.specs.SessionRoomLaws.{Fit, Lives, fit-parts, chunk-lives, line-lives}
 use Rattle.transcript.proofs.OutLaws.{put-both, put-nothing}
 
@@ -195,10 +195,10 @@ module _ (t s : List ℕ) (x : Session) where
     unfolding finished
     finish-over p q = finish-fit ∙ simp (finished, ne-eqb _ _ p) (simp (ne-eqb _ _ q))
 
-    pub finish-new : x .phase ≡ BEATS → isUntouched (x .reading) ≡ true → finishedText (machineOf t s x) ≡ ended (x .totals)
+    pub finish-new : x .phase ≡ BEATS → isUntouched (x .half) ≡ true → finishedText (machineOf t s x) ≡ ended (x .totals)
     unfolding finished
     finish-new p q = finish-fit ∙ simp (finished, ne-eqb (x .phase) 0 (λ g. omega arith)) (simp (eq-eqb _ _ p) (simp q))
 
-    pub finish-last : x .phase ≡ BEATS → isUntouched (x .reading) ≡ false → finishedText (machineOf t s x) ≡ lastOver (machineOf t s x) (beatEnd (machineOf t s x) (x .reading))
+    pub finish-last : x .phase ≡ BEATS → isUntouched (x .half) ≡ false → finishedText (machineOf t s x) ≡ lastOver (machineOf t s x) (beatEnd (machineOf t s x) (x .half))
     unfolding finished
     finish-last p q = finish-fit ∙ simp (finished, ne-eqb (x .phase) 0 (λ g. omega arith)) (simp (eq-eqb _ _ p) (simp q))

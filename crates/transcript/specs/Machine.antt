@@ -11,13 +11,13 @@ use Rattle.text.specs.PutAt.{putAt}
 use Rattle.reader.specs.Load.{loadAnswer, loadSet}
 use Rattle.transcript.specs.declared.session.Place.{Place}
 use Rattle.transcript.specs.declared.session.Session.{Session}
-use Rattle.transcript.specs.declared.beat_line.Reading.{Reading}
+use Rattle.transcript.specs.declared.beat_line.HalfLine.{HalfLine}
 use Rattle.transcript.specs.BeatLine.{Lent}
 use Rattle.transcript.specs.Output.{loadLine, errorLine}
 use Rattle.transcript.specs.declared.totals.Totals.{Totals}
 use Rattle.transcript.specs.Totals.{maxBeats, noTotals, ended, areFit}
 use Rattle.transcript.specs.Tally.{counted, answerOf, beatText}
-use Rattle.transcript.specs.BeatLineReading.{noReading, readOn, isUntouched, withoutCR, readLent}
+use Rattle.transcript.specs.HalfLine.{noHalfLine, readOn, isUntouched, withoutCR, readLent}
 
 -- the phases: set text, beat lines, over
 abbrev pub TEXT : ℕ
@@ -50,25 +50,25 @@ abbrev pub noPlace : Place
 noPlace = record { size = 0; start = 0; star = 0 }
 
 abbrev pub begun : Session
-begun = record { phase = TEXT; place = noPlace; reading = noReading; totals = noTotals }
+begun = record { phase = TEXT; place = noPlace; half = noHalfLine; totals = noTotals }
 
 abbrev pub withPhase : Session → ℕ → Session
-withPhase x p = record { phase = p; place = x .place; reading = x .reading; totals = x .totals }
+withPhase x p = record { phase = p; place = x .place; half = x .half; totals = x .totals }
 
 abbrev pub withPlace : Session → Place → Session
-withPlace x p = record { phase = x .phase; place = p; reading = x .reading; totals = x .totals }
+withPlace x p = record { phase = x .phase; place = p; half = x .half; totals = x .totals }
 
-abbrev pub withReading : Session → Reading → Session
-withReading x r = record { phase = x .phase; place = x .place; reading = r; totals = x .totals }
+abbrev pub withHalfLine : Session → HalfLine → Session
+withHalfLine x r = record { phase = x .phase; place = x .place; half = r; totals = x .totals }
 
 -- a beat is over: its totals, and no byte of the next line
 abbrev pub withTotals : Session → Totals → Session
-withTotals x n = record { phase = x .phase; place = x .place; reading = noReading; totals = n }
+withTotals x n = record { phase = x .phase; place = x .place; half = noHalfLine; totals = n }
 
 -- one that could have come from a beginning; any other is treated as over
 unfoldable pub isFit : Session → Bool
 isFit x =
-    leb (x .place .size) keptSize && (leb (x .place .start) (x .place .size) && (leb (x .reading .field) 15 && areFit (x .totals)))
+    leb (x .place .size) keptSize && (leb (x .place .start) (x .place .size) && (leb (x .half .field) 15 && areFit (x .totals)))
 
 -- ---- set text
 
@@ -96,7 +96,7 @@ placeEnd p = record { size = min keptSize (p .size + 1); start = min keptSize (p
 unfoldable pub opened : Machine → List ℕ → Fed
 opened m t =
     elim (loadAnswer t .code) [
-      | zero ↦ record { machine = record { text = m .text; lines = loadSet t; session = withPhase (withReading (m .session) noReading) BEATS }; output = [] }
+      | zero ↦ record { machine = record { text = m .text; lines = loadSet t; session = withPhase (withHalfLine (m .session) noHalfLine) BEATS }; output = [] }
       | suc c ↦ record { machine = record { text = m .text; lines = loadSet t; session = withPhase (m .session) OVER }; output = loadLine (suc c) (loadAnswer t .line) }
     ]
 
@@ -124,7 +124,7 @@ beatOf m l =
     ]
 
 -- a beat line that was read
-unfoldable pub beatEnd : Machine → Reading → Fed
+unfoldable pub beatEnd : Machine → HalfLine → Fed
 beatEnd m r =
     elim (readLent r) [
       | none ↦ record { machine = record { text = m .text; lines = m .lines; session = withPhase (m .session) OVER }; output = errorLine (m .session .totals .beats + 1) }
@@ -138,7 +138,7 @@ unfoldable pub chunk : Machine → List ℕ → Machine
 chunk m l =
     elim (eqb (m .session .phase) TEXT) [
       | true ↦ record { text = putAt (m .text) (m .session .place .size) l; lines = m .lines; session = withPlace (m .session) (placeOn (m .session .place) l) }
-      | false ↦ elim (eqb (m .session .phase) BEATS) [ true ↦ record { text = m .text; lines = m .lines; session = withReading (m .session) (readOn (m .session .reading) l) } | false ↦ m ]
+      | false ↦ elim (eqb (m .session .phase) BEATS) [ true ↦ record { text = m .text; lines = m .lines; session = withHalfLine (m .session) (readOn (m .session .half) l) } | false ↦ m ]
     ]
 
 -- an LF
@@ -146,7 +146,7 @@ unfoldable pub lineEnd : Machine → Fed
 lineEnd m =
     elim (eqb (m .session .phase) TEXT) [
       | true ↦ textEnd m
-      | false ↦ elim (eqb (m .session .phase) BEATS) [ true ↦ beatEnd m (withoutCR (m .session .reading)) | false ↦ record { machine = m; output = [] } ]
+      | false ↦ elim (eqb (m .session .phase) BEATS) [ true ↦ beatEnd m (withoutCR (m .session .half)) | false ↦ record { machine = m; output = [] } ]
     ]
 
 -- the lines of some input
@@ -172,7 +172,7 @@ finished m =
       | true ↦ textOver m (elim (eqb (m .session .place .star) 1) [ true ↦ take (m .session .place .start) (m .text) | false ↦ take (m .session .place .size) (m .text) ])
       | false ↦
           elim (eqb (m .session .phase) BEATS) [
-            | true ↦ elim (isUntouched (m .session .reading)) [ true ↦ ended (m .session .totals) | false ↦ lastOver m (beatEnd m (m .session .reading)) ]
+            | true ↦ elim (isUntouched (m .session .half)) [ true ↦ ended (m .session .totals) | false ↦ lastOver m (beatEnd m (m .session .half)) ]
             | false ↦ []
           ]
     ]

@@ -10,16 +10,16 @@ use Rattle.values.specs.Choice.{either}
 use Rattle.engine.specs.OrderLaws.{eight-bytes}
 use Rattle.engine.specs.declared.order.Order.{Order}
 use Rattle.tokens.specs.Token.{END, M, SETAL, LOCK, isVariable, isDrive, whole, maxLines}
-use Rattle.tokens.specs.Reading.{Answer, good, stop, indexAt}
+use Rattle.tokens.specs.Descent.{Answer, good, stop, indexAt}
 use Rattle.working.specs.Operators.{isYes}
 use Rattle.working.specs.Working.{rightValue, conditionValue}
 use Rattle.checking.specs.declared.check.Line.{Line}
 use Rattle.engine.specs.declared.state.State.{State}
 use Rattle.engine.specs.Set.{rankIn, noLine, soundLines}
 use Rattle.soundness.specs.GoodAnswers.{Ok, bind-ok, ok-then}
-use Rattle.soundness.specs.SetLaws.{lines-lined}
+use Rattle.soundness.specs.SetSoundLaws.{lines-lined}
 use Rattle.engine.specs.Sound.{isSound}
-use Rattle.engine.specs.Action.{World, Did, ordered, fromGot, lockOf, takenAt, assignmentOf, driveOf, commandOf, actionOf}
+use Rattle.engine.specs.Action.{World, Did, ordered, fromValueOrAlarm, lockOf, takenAt, assignmentOf, driveOf, commandOf, actionOf}
 use Rattle.engine.specs.Actions.{actionsOf}
 use Rattle.engine.specs.Drive.{driveOrder}
 use Rattle.engine.specs.Write.{writeTo}
@@ -61,7 +61,7 @@ drive-adds : (s : List ℕ) (number : ℕ) (x : World) (w p : ℕ) → DidAdd x 
 unfolding driveOf
 drive-adds s number x w p =
     either (DidAdd x 8) (ltb 255 (indexAt s w p)) (λ e. tt) λ e.
-    bind-ok (λ (d : Did). Adds x 8 (d .world)) (fromGot (rightValue s (x .vars .r) (x .vars .cells) (p + 5))) _ λ a _.
+    bind-ok (λ (d : Did). Adds x 8 (d .world)) (fromValueOrAlarm (rightValue s (x .vars .r) (x .vars .cells) (p + 5))) _ λ a _.
     bind-ok (λ (d : Did). Adds x 8 (d .world)) (driveOrder number w (indexAt s w p) (a .0)) _ λ o _.
     order-adds x o
 
@@ -104,7 +104,7 @@ module _ (s numbers : List ℕ) (cancelled : List Bool) (automatic : Bool) where
   try-adds l k x =
       let m = getD (x .memory) k false in
       either (TurnAdds x 64) (tries (l .keyword) m)
-      (λ e. bind-ok (λ (t : Turned). Adds x 64 (t .world)) (fromGot (conditionValue s (x .vars .r) (x .vars .cells) (l .condition))) _ λ a _.
+      (λ e. bind-ok (λ (t : Turned). Adds x 64 (t .world)) (fromValueOrAlarm (conditionValue s (x .vars .r) (x .vars .cells) (l .condition))) _ λ a _.
       do-adds l k (remembered x k (remembers (l .keyword) m (isYes (a .0)))) (worked k (isYes (a .0)) ∷ []) (acts (l .keyword) m (isYes (a .0))))
       (λ e. do-adds l k x [] (acts (l .keyword) m false))
 

@@ -15,14 +15,14 @@ use Rattle.engine.specs.Beat.{bufferSize}
 use Rattle.reader.specs.Load.{loadAnswer}
 use Rattle.transcript.specs.declared.session.Place.{Place}
 use Rattle.transcript.specs.declared.session.Session.{Session}
-use Rattle.transcript.specs.declared.beat_line.Reading.{Reading}
+use Rattle.transcript.specs.declared.beat_line.HalfLine.{HalfLine}
 use Rattle.transcript.specs.BeatLine.{Lent}
 use Rattle.transcript.specs.Output.{digitsUp, decimal, signedText, fourOf, loadLine, errorLine, codeLine, orderLine, orderLines, endLine}
 use Rattle.transcript.specs.declared.totals.Totals.{Totals}
 use Rattle.transcript.specs.Totals.{maxBeats, areFit}
 use Rattle.transcript.specs.TotalsLaws.{FitTotals, fit-totals, totals-fit, counting-fit}
 use Rattle.transcript.specs.Tally.{counted, answerOf, bufferOf, beatText}
-use Rattle.transcript.specs.BeatLineReading.{withField, closed, spaceAfter, modeByte, minusByte, digitByte, fieldByte, readByte, readOn, greatest, readLent, withoutCR, isUntouched}
+use Rattle.transcript.specs.HalfLine.{withField, closed, spaceAfter, modeByte, minusByte, digitByte, fieldByte, readByte, readOn, greatest, readLent, withoutCR, isUntouched}
 use Rattle.transcript.specs.Machine.{TEXT, BEATS, OVER, keptSize, Machine, Fed, isFit, placeOn, placeEnd, opened, textEnd, beatOf, beatEnd, chunk, lineEnd, textOver, lastOver, finished, finishedText, lineRoom}
 use Rattle.transcript.specs.OrdersLaws.{orders-within}
 
@@ -133,7 +133,7 @@ beatOf-room m l =
     let b = end-room (n .beats) (n .coded) (n .orders) in
     either (Prints 12104) (eqb (n .beats) maxBeats) (λ e. simp length-append (omega arith)) (λ e. omega arith)
 
-pub beat-end-room : (m : Machine) (r : Reading) → length (beatEnd m r .output) ≤ 12104
+pub beat-end-room : (m : Machine) (r : HalfLine) → length (beatEnd m r .output) ≤ 12104
 unfolding beatEnd
 beat-end-room m r = byLent (Prints 12104) (readLent r) (λ e. let a = error-room (m .session .totals .beats + 1) in omega arith) (λ l e. beatOf-room m l)
 
@@ -152,7 +152,7 @@ pub line-room : (m : Machine) → length (lineEnd m .output) ≤ lineRoom
 unfolding lineEnd
 line-room m =
     let a = text-end-room m in
-    let b = beat-end-room m (withoutCR (m .session .reading)) in
+    let b = beat-end-room m (withoutCR (m .session .half)) in
     either (Prints lineRoom) (eqb (m .session .phase) TEXT) (λ e. omega arith) λ e.
     either (Prints lineRoom) (eqb (m .session .phase) BEATS) (λ g. omega arith) (λ g. omega arith)
 
@@ -174,12 +174,12 @@ pub finished-room : (m : Machine) → length (finished m) ≤ lineRoom
 unfolding finished
 finished-room m =
     let x = m .session in
-    let h = last-room m (beatEnd m (x .reading)) (beat-end-room m (x .reading)) in
+    let h = last-room m (beatEnd m (x .half)) (beat-end-room m (x .half)) in
     let n = x .totals in
     let k = end-room (n .beats) (n .coded) (n .orders) in
     either (Short lineRoom) (eqb (x .phase) TEXT) (λ e. let a = over-room m (elim (eqb (x .place .star) 1) [ true ↦ take (x .place .start) (m .text) | false ↦ take (x .place .size) (m .text) ]) in omega arith) λ e.
     either (Short lineRoom) (eqb (x .phase) BEATS)
-    (λ g. either (Short lineRoom) (isUntouched (x .reading)) (λ u. omega arith) (λ u. omega arith))
+    (λ g. either (Short lineRoom) (isUntouched (x .half)) (λ u. omega arith) (λ u. omega arith))
     (λ g. omega arith)
 
 pub finished-text-room : (m : Machine) → length (finishedText m) ≤ lineRoom
@@ -191,7 +191,7 @@ finished-text-room m = either (Short lineRoom) (isFit (m .session)) (λ e. finis
 pub record Fit (x : Session) : Type 0 where
   pub size : x .place .size ≤ keptSize
   pub start : x .place .start ≤ x .place .size
-  pub field : x .reading .field ≤ 15
+  pub field : x .half .field ≤ 15
   pub totals : FitTotals (x .totals)
 
 -- each of the tests
@@ -199,7 +199,7 @@ pub fit-parts : (x : Session) → isFit x ≡ true → Fit x
 unfolding isFit
 fit-parts x h =
     let n = areFit (x .totals) in
-    let f = leb (x .reading .field) 15 in
+    let f = leb (x .half .field) 15 in
     let s = leb (x .place .start) (x .place .size) in
     let p = leb (x .place .size) keptSize in
     let h₁ = both p (s && (f && n)) h .1 in
@@ -217,40 +217,40 @@ fit-whole x f = and-true (le-leb _ _ (f .size)) (and-true (le-leb _ _ (f .start)
 
 -- ---- a line's fields: a space begins the next only below the fifteenth
 
-abbrev Narrow : Reading → Type 0
+abbrev Narrow : HalfLine → Type 0
 Narrow r = r .field ≤ 15
 
-pub closed-field : (r : Reading) → closed r .field ≡ r .field
+pub closed-field : (r : HalfLine) → closed r .field ≡ r .field
 unfolding closed withField
 closed-field r =
-    let P : Reading → Type 0 = λ y. y .field ≡ r .field in
+    let P : HalfLine → Type 0 = λ y. y .field ≡ r .field in
     either P (eqb (r .stage) 2)
     (λ e. either P (eqb (r .field) 0) (λ g. refl) λ g.
     either P (leb (r .value) (greatest r)) (λ h. either P (eqb (r .field) 1) (λ k. refl) (λ k. refl)) (λ h. refl))
     (λ e. refl)
 
-space-narrow : (r : Reading) → Narrow r → Narrow (spaceAfter r)
+space-narrow : (r : HalfLine) → Narrow r → Narrow (spaceAfter r)
 unfolding spaceAfter
 space-narrow r n =
     either Narrow (eqb (r .stage) 2 && ltb (r .field) 15)
     (λ e. let h = ltb-true (r .field) 15 (both (eqb (r .stage) 2) (ltb (r .field) 15) e .1) in omega arith)
     (λ e. n)
 
-field-narrow : (r : Reading) (b : ℕ) → Narrow r → Narrow (fieldByte r b)
+field-narrow : (r : HalfLine) (b : ℕ) → Narrow r → Narrow (fieldByte r b)
 unfolding fieldByte modeByte minusByte digitByte
 field-narrow r b n =
     either Narrow (eqb (r .field) 0) (λ e. either Narrow (eqb (r .stage) 0 && (eqb b 65 || eqb b 77)) (λ g. n) (λ g. n)) λ e.
     either Narrow (isDigit b) (λ g. n) λ g.
     either Narrow (eqb b 45) (λ h. either Narrow (eqb (r .stage) 0 && leb 2 (r .field)) (λ k. n) (λ k. n)) (λ h. n)
 
-pub byte-narrow : (r : Reading) (b : ℕ) → r .field ≤ 15 → readByte r b .field ≤ 15
+pub byte-narrow : (r : HalfLine) (b : ℕ) → r .field ≤ 15 → readByte r b .field ≤ 15
 unfolding readByte
 byte-narrow r b n =
     either Narrow (leb 3 (r .stage)) (λ e. n) λ e.
     either Narrow (eqb b SPACE) (λ g. space-narrow (closed r) (rw closed-field n)) λ g.
     either Narrow (eqb b CR) (λ h. either Narrow (eqb (r .stage) 2) (λ k. n) (λ k. n)) (λ h. field-narrow r b n)
 
-pub read-narrow : (r : Reading) (l : List ℕ) → r .field ≤ 15 → readOn r l .field ≤ 15
+pub read-narrow : (r : HalfLine) (l : List ℕ) → r .field ≤ 15 → readOn r l .field ≤ 15
 unfolding readOn
 read-narrow r [] n = n
 read-narrow r (b ∷ bs) n = read-narrow (readByte r b) bs (byte-narrow r b n)
@@ -270,7 +270,7 @@ chunk-fit m l f =
     either P (eqb (x .phase) TEXT)
     (λ e. record { size = p .0; start = p .1; field = f .field; totals = f .totals }) λ e.
     either P (eqb (x .phase) BEATS)
-    (λ g. record { size = f .size; start = f .start; field = read-narrow (x .reading) l (f .field); totals = f .totals })
+    (λ g. record { size = f .size; start = f .start; field = read-narrow (x .half) l (f .field); totals = f .totals })
     (λ g. f)
 
 -- ---- the line's end
@@ -292,7 +292,7 @@ beatOf-fit m l f =
     either FedLives (eqb (n .beats) maxBeats) (λ e. inr (refl, eqb-true (n .beats) maxBeats e))
     (λ e. inl (record { size = f .size; start = f .start; field = omega arith; totals = counting-fit (x .totals) (a .code) (a .orders) (a .state) (f .totals) o (eqb-false (n .beats) maxBeats e) }))
 
-beatEnd-fit : (m : Machine) (r : Reading) → Fit (m .session) → FedLives (beatEnd m r)
+beatEnd-fit : (m : Machine) (r : HalfLine) → Fit (m .session) → FedLives (beatEnd m r)
 unfolding beatEnd
 beatEnd-fit m r f =
     byLent FedLives (readLent r)
@@ -317,7 +317,7 @@ pub line-fit : (m : Machine) → Fit (m .session) → Lives (lineEnd m .machine 
 unfolding lineEnd
 line-fit m f =
     either FedLives (eqb (m .session .phase) TEXT) (λ e. textEnd-fit m f) λ e.
-    either FedLives (eqb (m .session .phase) BEATS) (λ g. beatEnd-fit m (withoutCR (m .session .reading)) f) (λ g. inl f)
+    either FedLives (eqb (m .session .phase) BEATS) (λ g. beatEnd-fit m (withoutCR (m .session .half)) f) (λ g. inl f)
 
 -- ---- over
 

@@ -4,8 +4,8 @@ ghost use mathlib.Core.Bool.{true, false};
 ghost use Prim.Native.Nat.{_+_, _*_, _≤_, _<_, min};
 ghost use lib.ListN.{set};
 ghost use Rattle.text.specs.Byte.{isDigit};
-ghost use Rattle.transcript.specs.BeatLineReading.{noReading, withStage, illFormed, highest, greatest, signed, withField, closed, spaceAfter, modeByte, minusByte, digitByte, fieldByte, readByte, readOn, isUntouched, withoutCR, readLent};
-ghost use Rattle.transcript.specs.Told.{toldOf};
+ghost use Rattle.transcript.specs.HalfLine.{noHalfLine, withStage, illFormed, highest, greatest, signed, withField, closed, spaceAfter, modeByte, minusByte, digitByte, fieldByte, readByte, readOn, isUntouched, withoutCR, readLent};
+ghost use Rattle.transcript.specs.MaybeLent.{maybeLent};
 ghost use mathlib.Core.Option.{none};
 use text::bytes::CR;
 use text::bytes::SPACE;
@@ -43,7 +43,7 @@ const ILL: u8 = 3;
 const RETURN: u8 = 4;
 
 // A beat line so far. Fields are counted from 0: the mode, the input word, the numbers. `value` has the digits of the field under way.
-pub struct Reading {
+pub struct HalfLine {
     pub field: u8,
     pub stage: u8,
     pub automatic: bool,
@@ -54,17 +54,17 @@ pub struct Reading {
 }
 
 // What a beat line lends, if it is well-formed.
-pub struct Told {
+pub struct MaybeLent {
     pub good: bool,
     pub automatic: bool,
     pub word: u16,
     pub numbers: [i32; NUMBERS],
 }
 
-pub fn no_reading() -> Reading
-    ensures { λ x. ⌜ x ≡ noReading ⌝ }
+pub fn no_half_line() -> HalfLine
+    ensures { λ x. ⌜ x ≡ noHalfLine ⌝ }
 {
-    Reading {
+    HalfLine {
         field: 0,
         stage: NOTHING,
         automatic: false,
@@ -75,7 +75,7 @@ pub fn no_reading() -> Reading
     }
 }
 
-fn with_stage(r: Reading, stage: u8) -> Reading
+fn with_stage(r: HalfLine, stage: u8) -> HalfLine
     ensures { λ x. ⌜ x ≡ withStage r stage ⌝ }
 {
     let mut x = r;
@@ -83,7 +83,7 @@ fn with_stage(r: Reading, stage: u8) -> Reading
     x
 }
 
-fn ill_formed(r: Reading) -> Reading
+fn ill_formed(r: HalfLine) -> HalfLine
     ensures { λ x. ⌜ x ≡ illFormed r ⌝ }
 {
     with_stage(r, ILL)
@@ -91,7 +91,7 @@ fn ill_formed(r: Reading) -> Reading
 
 // ---- the end of a field
 
-fn greatest_value(r: Reading) -> u64
+fn greatest_value(r: HalfLine) -> u64
     ensures { λ x. ⌜ x ≡ greatest r ⌝ }
 {
     let field = r.field;
@@ -124,7 +124,7 @@ fn put_number(numbers: &mut [i32], at: usize, v: i32)
 }
 
 // The value of the field under way becomes the input word or a number.
-fn with_field(r: Reading) -> Reading
+fn with_field(r: HalfLine) -> HalfLine
     requires { ⌜ 1 ≤ r .field ⌝ }
     ensures { λ x. ⌜ x ≡ withField r ⌝ }
 {
@@ -154,7 +154,7 @@ fn with_field(r: Reading) -> Reading
 }
 
 // The field under way is over, if it may end there.
-fn close(r: Reading) -> Reading
+fn close(r: HalfLine) -> HalfLine
     ensures { λ x. ⌜ x ≡ closed r ⌝ }
 {
     let stage = r.stage;
@@ -171,7 +171,7 @@ fn close(r: Reading) -> Reading
 // ---- bytes
 
 // A space behind a field: the next begins, if there may be one.
-fn space_after(r: Reading) -> Reading
+fn space_after(r: HalfLine) -> HalfLine
     ensures { λ x. ⌜ x ≡ spaceAfter r ⌝ }
 {
     let stage = r.stage;
@@ -189,7 +189,7 @@ fn space_after(r: Reading) -> Reading
 }
 
 // The mode's letter.
-fn mode_byte(r: Reading, b: u8) -> Reading
+fn mode_byte(r: HalfLine, b: u8) -> HalfLine
     ensures { λ x. ⌜ x ≡ modeByte r b ⌝ }
 {
     let stage = r.stage;
@@ -210,7 +210,7 @@ fn mode_byte(r: Reading, b: u8) -> Reading
 }
 
 // A minus before the digits of a number, not of the input word.
-fn minus_byte(r: Reading) -> Reading
+fn minus_byte(r: HalfLine) -> HalfLine
     ensures { λ x. ⌜ x ≡ minusByte r ⌝ }
 {
     let stage = r.stage;
@@ -239,7 +239,7 @@ fn grown(value: u64, digit: u64) -> u64
     if HIGHEST < v { HIGHEST } else { v }
 }
 
-fn digit_byte(r: Reading, b: u8) -> Reading
+fn digit_byte(r: HalfLine, b: u8) -> HalfLine
     requires { ⌜ isDigit b ≡ true ⌝ }
     ensures { λ x. ⌜ x ≡ digitByte r b ⌝ }
 {
@@ -251,7 +251,7 @@ fn digit_byte(r: Reading, b: u8) -> Reading
 }
 
 // A byte of a field.
-fn field_byte(r: Reading, b: u8) -> Reading
+fn field_byte(r: HalfLine, b: u8) -> HalfLine
     ensures { λ x. ⌜ x ≡ fieldByte r b ⌝ }
 {
     let field = r.field;
@@ -268,7 +268,7 @@ fn field_byte(r: Reading, b: u8) -> Reading
 }
 
 // The next byte of the line.
-fn read_byte(r: Reading, b: u8) -> Reading
+fn read_byte(r: HalfLine, b: u8) -> HalfLine
     ensures { λ x. ⌜ x ≡ readByte r b ⌝ }
 {
     let stage = r.stage;
@@ -288,7 +288,7 @@ fn read_byte(r: Reading, b: u8) -> Reading
 }
 
 // Bytes of the line, none of them an LF.
-pub fn read_bytes(part: &[u8], r: Reading) -> Reading
+pub fn read_bytes(part: &[u8], r: HalfLine) -> HalfLine
     ensures { λ x. ⌜ x ≡ readOn r (now (part .entry)) ⌝ }
 {
     let mut x = r;
@@ -303,7 +303,7 @@ pub fn read_bytes(part: &[u8], r: Reading) -> Reading
 // ---- the end of the line
 
 // Whether no byte was read.
-pub fn is_untouched(r: Reading) -> bool
+pub fn is_untouched(r: HalfLine) -> bool
     ensures { λ x. ⌜ x ≡ isUntouched r ⌝ }
 {
     let field = r.field;
@@ -315,7 +315,7 @@ pub fn is_untouched(r: Reading) -> bool
 }
 
 // At the line's LF a CR before it is dropped.
-pub fn without_cr(r: Reading) -> Reading
+pub fn without_cr(r: HalfLine) -> HalfLine
     ensures { λ x. ⌜ x ≡ withoutCR r ⌝ }
 {
     let stage = r.stage;
@@ -325,10 +325,10 @@ pub fn without_cr(r: Reading) -> Reading
     r
 }
 
-fn nothing_told() -> Told
-    ensures { λ x. ⌜ x ≡ toldOf none ⌝ }
+fn nothing_lent() -> MaybeLent
+    ensures { λ x. ⌜ x ≡ maybeLent none ⌝ }
 {
-    Told {
+    MaybeLent {
         good: false,
         automatic: false,
         word: 0,
@@ -337,20 +337,20 @@ fn nothing_told() -> Told
 }
 
 // What a line that ends there lends.
-pub fn read_lent(r: Reading) -> Told
-    ensures { λ x. ⌜ x ≡ toldOf (readLent r) ⌝ }
+pub fn read_lent(r: HalfLine) -> MaybeLent
+    ensures { λ x. ⌜ x ≡ maybeLent (readLent r) ⌝ }
 {
     let c = close(r);
     let stage = c.stage;
     if stage != ENDABLE {
-        return nothing_told();
+        return nothing_lent();
     }
     let field = r.field;
     if field < 1 {
-        return nothing_told();
+        return nothing_lent();
     }
     let numbers = c.numbers;
-    Told {
+    MaybeLent {
         good: true,
         automatic: c.automatic,
         word: c.word,

@@ -2,8 +2,8 @@
 //
 // No public call asks anything of its caller.
 mod beat_line;
-mod out;
-mod output;
+mod buffer;
+mod printing;
 mod session;
 mod tally;
 mod totals;

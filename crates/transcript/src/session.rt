@@ -8,19 +8,19 @@ ghost use lib.ListN.{length};
 ghost use Rattle.text.specs.PutAt.{putAt};
 ghost use Rattle.transcript.specs.Machine.{OVER, begun, isFit, starAfter, starOn, placeOn, placeEnd, opened, textEnd, beatOf, beatEnd, chunk, lineEnd, textOver, lastOver, finishedText, worked, keptSize};
 ghost use Rattle.transcript.specs.Put.{IsPut};
-ghost use Rattle.transcript.specs.SessionHeld.{IsFed, IsWork, machineOf};
-ghost use Rattle.transcript.specs.Told.{lentIn};
+ghost use Rattle.transcript.specs.SessionAnswers.{IsFed, IsWork, machineOf};
+ghost use Rattle.transcript.specs.MaybeLent.{lentIn};
 ghost use Rattle.transcript.specs.SessionRoomLaws.{Fit, Lives};
-use crate::beat_line::Reading;
-use crate::beat_line::Told;
+use crate::beat_line::HalfLine;
+use crate::beat_line::MaybeLent;
 use crate::beat_line::is_untouched;
-use crate::beat_line::no_reading;
+use crate::beat_line::no_half_line;
 use crate::beat_line::read_bytes;
 use crate::beat_line::read_lent;
 use crate::beat_line::without_cr;
-use crate::out::put;
-use crate::out::put_bytes;
-use crate::output::load_line;
+use crate::buffer::put;
+use crate::buffer::put_bytes;
+use crate::printing::load_line;
 use crate::tally::tally_beat;
 use crate::totals::MAX_BEATS;
 use crate::totals::Totals;
@@ -65,7 +65,7 @@ pub struct Place {
 pub struct Session {
     pub phase: u8,
     pub place: Place,
-    pub reading: Reading,
+    pub half: HalfLine,
     pub totals: Totals,
 }
 
@@ -93,7 +93,7 @@ pub fn begin() -> Session
             start: 0,
             star: 0,
         },
-        reading: no_reading(),
+        half: no_half_line(),
         totals: no_totals(),
     }
 }
@@ -117,7 +117,7 @@ fn is_fit(session: Session) -> bool
     if size < session.place.start {
         return false;
     }
-    if LAST_FIELD < session.reading.field {
+    if LAST_FIELD < session.half.field {
         return false;
     }
     let totals = session.totals;
@@ -205,15 +205,21 @@ fn place_end(place: Place) -> Place
 // ---- beats
 
 // A beat line that lends something: C, an O per order, and END behind the last beat.
-fn work_beat(session: Session, set: &[u32; SIZE], told: Told, out: &mut [u8], at: usize) -> Ended
+fn work_beat(
+    session: Session,
+    set: &[u32; SIZE],
+    lent: MaybeLent,
+    out: &mut [u8],
+    at: usize,
+) -> Ended
     requires { ⌜ Fit session × (at ≤ 4096) ⌝ }
-    ensures { λ x. ⌜ ((t : List ℕ) → IsFed (beatOf (machineOf t (now (set .entry)) session) (lentIn told)) t (now (set .entry)) (now (out .entry)) at x (now (out .exit))) ⌝ }
+    ensures { λ x. ⌜ ((t : List ℕ) → IsFed (beatOf (machineOf t (now (set .entry)) session) (lentIn lent)) t (now (set .entry)) (now (out .entry)) at x (now (out .exit))) ⌝ }
 {
     let totals = session.totals;
-    let t = tally_beat(totals, set, told, out, at);
+    let t = tally_beat(totals, set, lent, out, at);
     let next = t.totals;
     let mut x = session;
-    x.reading = no_reading();
+    x.half = no_half_line();
     x.totals = next;
     if next.beats == MAX_BEATS {
         let end = put_end(next, out, t.end);
@@ -230,20 +236,14 @@ fn work_beat(session: Session, set: &[u32; SIZE], told: Told, out: &mut [u8], at
 }
 
 // A beat line that was read: E if it is ill-formed.
-fn beat_end(
-    session: Session,
-    set: &[u32; SIZE],
-    reading: Reading,
-    out: &mut [u8],
-    at: usize,
-) -> Ended
+fn beat_end(session: Session, set: &[u32; SIZE], half: HalfLine, out: &mut [u8], at: usize) -> Ended
     requires { ⌜ Fit session × (at ≤ 4096) ⌝ }
-    ensures { λ x. ⌜ ((t : List ℕ) → IsFed (beatEnd (machineOf t (now (set .entry)) session) reading) t (now (set .entry)) (now (out .entry)) at x (now (out .exit))) ⌝ }
+    ensures { λ x. ⌜ ((t : List ℕ) → IsFed (beatEnd (machineOf t (now (set .entry)) session) half) t (now (set .entry)) (now (out .entry)) at x (now (out .exit))) ⌝ }
 {
-    let told = read_lent(reading);
-    let good = told.good;
+    let lent = read_lent(half);
+    let good = lent.good;
     if good {
-        return work_beat(session, set, told, out, at);
+        return work_beat(session, set, lent, out, at);
     }
     let totals = session.totals;
     let end = put_error(totals, out, at);
@@ -271,8 +271,8 @@ fn take_bytes(session: Session, text: &mut [u8; KEPT], part: &[u8]) -> Session
         return x;
     }
     if phase == BEATS {
-        let reading = session.reading;
-        x.reading = read_bytes(part, reading);
+        let half = session.half;
+        x.half = read_bytes(part, half);
         return x;
     }
     x
@@ -295,7 +295,7 @@ fn open_set(session: Session, t: &[u8], set: &mut [u32; SIZE], out: &mut [u8], a
         };
     }
     x.phase = BEATS;
-    x.reading = no_reading();
+    x.half = no_half_line();
     Ended {
         session: x,
         end: at,
@@ -344,8 +344,8 @@ fn line_end(
         return text_end(session, text, set, out, at);
     }
     if phase == BEATS {
-        let reading = session.reading;
-        return beat_end(session, set, without_cr(reading), out, at);
+        let half = session.half;
+        return beat_end(session, set, without_cr(half), out, at);
     }
     Ended {
         session: session,
@@ -421,11 +421,11 @@ fn text_over(session: Session, t: &[u8], out: &mut [u8]) -> usize
 }
 
 // A last beat line without LF.
-fn last_over(session: Session, set: &[u32; SIZE], reading: Reading, out: &mut [u8]) -> usize
+fn last_over(session: Session, set: &[u32; SIZE], half: HalfLine, out: &mut [u8]) -> usize
     requires { ⌜ Fit session ⌝ }
-    ensures { λ x. ⌜ ((t : List ℕ) → IsPut (now (out .entry)) 0 (lastOver (machineOf t (now (set .entry)) session) (beatEnd (machineOf t (now (set .entry)) session) reading)) (now (out .exit)) x) ⌝ }
+    ensures { λ x. ⌜ ((t : List ℕ) → IsPut (now (out .entry)) 0 (lastOver (machineOf t (now (set .entry)) session) (beatEnd (machineOf t (now (set .entry)) session) half)) (now (out .exit)) x) ⌝ }
 {
-    let f = beat_end(session, set, reading, out, 0);
+    let f = beat_end(session, set, half, out, 0);
     let s = f.session;
     let end = f.end;
     let phase = s.phase;
@@ -454,10 +454,10 @@ pub fn finish(session: Session, text: &[u8; KEPT], set: &[u32; SIZE], out: &mut 
     if phase != BEATS {
         return 0;
     }
-    let reading = session.reading;
-    if is_untouched(reading) {
+    let half = session.half;
+    if is_untouched(half) {
         let totals = session.totals;
         return put_end(totals, out, 0);
     }
-    last_over(session, set, reading, out)
+    last_over(session, set, half, out)
 }

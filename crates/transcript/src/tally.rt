@@ -1,11 +1,11 @@
 // A beat of a session, worked and counted, and the lines that are printed of it.
 ghost use mathlib.Core.Path.{_≡_};
-ghost use Rattle.transcript.specs.Told.{lentIn};
+ghost use Rattle.transcript.specs.MaybeLent.{lentIn};
 ghost use Rattle.transcript.specs.Put.{IsPut};
 ghost use Rattle.transcript.specs.Tally.{tallied};
-use crate::beat_line::Told;
-use crate::output::code_line;
-use crate::output::order_lines;
+use crate::beat_line::MaybeLent;
+use crate::printing::code_line;
+use crate::printing::order_lines;
 use crate::totals::Totals;
 use crate::totals::count;
 use crate::totals::is_taken;
@@ -24,17 +24,17 @@ pub struct Tallied {
 pub fn tally_beat(
     totals: Totals,
     set: &[u32; SIZE],
-    told: Told,
+    lent: MaybeLent,
     out: &mut [u8],
     at: usize,
 ) -> Tallied
-    ensures { λ x. ⌜ x .totals ≡ tallied (now (set .entry)) totals (lentIn told) at .totals ⌝ }
-    ensures { λ x. ⌜ IsPut (now (out .entry)) at (tallied (now (set .entry)) totals (lentIn told) at .text) (now (out .exit)) (x .end) ⌝ }
+    ensures { λ x. ⌜ x .totals ≡ tallied (now (set .entry)) totals (lentIn lent) at .totals ⌝ }
+    ensures { λ x. ⌜ IsPut (now (out .entry)) at (tallied (now (set .entry)) totals (lentIn lent) at .text) (now (out .exit)) (x .end) ⌝ }
 {
     let mut orders = [0u8; ORDERS];
     let state = totals.state;
-    let numbers = told.numbers;
-    let b = beat(set, state, told.automatic, told.word, &numbers, &mut orders);
+    let numbers = lent.numbers;
+    let b = beat(set, state, lent.automatic, lent.word, &numbers, &mut orders);
     let n = b.orders;
     if !is_taken(totals, n, at) {
         return Tallied {

@@ -3,8 +3,8 @@ ghost use mathlib.Core.Path.{_≡_};
 ghost use Prim.Native.Nat.{_≤_};
 ghost use Rattle.transcript.specs.Put.{IsPut, inReach};
 ghost use Rattle.transcript.specs.Totals.{noTotals, ended, oneIf, areFit, isTaken, countingFit, errorText};
-use crate::output::end_line;
-use crate::output::error_line;
+use crate::printing::end_line;
+use crate::printing::error_line;
 use engine::State;
 use engine::power_on;
 

@@ -8,27 +8,17 @@ use Prim.Native.Nat.{ℕ, zero, suc, _+_, _-_, _*_, _≤_}
 use lib.Dec.{eqb, leb}
 use lib.IntN.{ℤ, pos, _+ℤ_}
 use lib.ListN.{length, take, drop, getD, set, replicate}
+use Rattle.values.specs.Codes.{unsound, fifoEmpty, fifoFull, notAllowed}
 use Rattle.values.specs.declared.arithmetic.Worked.{Worked}
 use Rattle.values.specs.declared.arithmetic.Worked.the-variants as W
 use Rattle.values.specs.declared.fifo.Moved.{Moved}
 use Rattle.values.specs.declared.fifo.Moved.the-variants as M
-use Rattle.values.specs.declared.fifo.Seen.{Seen}
-use Rattle.values.specs.declared.fifo.Seen.the-variants as S
-use Rattle.values.specs.Value.{unit, notAllowed, equalTo, valued}
+use Rattle.values.specs.declared.fifo.FifoValue.{FifoValue}
+use Rattle.values.specs.declared.fifo.FifoValue.the-variants as S
+use Rattle.values.specs.Value.{unit, equalTo, valued}
 
 abbrev pub places : ℕ
 places = 16
-
--- document 01's numbers of a FIFO's alarms
-abbrev pub fifoEmpty : ℕ
-fifoEmpty = 32
-
-abbrev pub fifoFull : ℕ
-fifoFull = 33
-
--- document 01's code for a part and a count that are no FIFO: no sound state has them
-abbrev pub unsound : ℕ
-unsound = 22
 
 -- document 01's code of an answer
 abbrev pub movedCode : Moved → ℕ
@@ -36,10 +26,10 @@ movedCode (M.Done v n) = 0
 movedCode (M.Alarm k) = k
 movedCode M.Unfit = unsound
 
-abbrev pub seenCode : Seen → ℕ
-seenCode (S.Value v) = 0
-seenCode (S.Alarm k) = k
-seenCode S.Unfit = unsound
+abbrev pub fifoValueCode : FifoValue → ℕ
+fifoValueCode (S.Value v) = 0
+fifoValueCode (S.Alarm k) = k
+fifoValueCode S.Unfit = unsound
 
 -- the values of a FIFO, oldest first
 abbrev pub contents : List ℤ → ℕ → List ℤ
@@ -78,10 +68,10 @@ unfoldable pub removed : List ℤ → ℕ → List ℤ
 removed xs n = cond (fits (length xs) n) (cond (eqb n 0) xs (shifted xs n)) xs
 
 -- [1] reads the oldest, [2] the newest; an empty FIFO gives alarm 32
-unfoldable pub oldestOf : List ℤ → ℕ → Seen
+unfoldable pub oldestOf : List ℤ → ℕ → FifoValue
 oldestOf xs n = cond (fits (length xs) n) (cond (eqb n 0) (S.Alarm fifoEmpty) (S.Value (getD xs 0 (pos 0)))) S.Unfit
 
-unfoldable pub newestOf : List ℤ → ℕ → Seen
+unfoldable pub newestOf : List ℤ → ℕ → FifoValue
 newestOf xs n = cond (fits (length xs) n) (cond (eqb n 0) (S.Alarm fifoEmpty) (S.Value (getD xs (n - 1) (pos 0)))) S.Unfit
 
 -- the exact sum of the first n places
@@ -94,16 +84,16 @@ unfoldable pub sumAll : List ℤ → ℤ
 sumAll [] = pos 0
 sumAll (x ∷ xs) = x +ℤ sumAll xs
 
-abbrev pub seen : Worked → Seen
-seen (W.Value v) = S.Value v
-seen (W.Alarm k) = S.Alarm k
+abbrev pub asFifoValue : Worked → FifoValue
+asFifoValue (W.Value v) = S.Value v
+asFifoValue (W.Alarm k) = S.Alarm k
 
 -- [3] reads the exact sum, alarm 30 if it is out of range
-unfoldable pub totalOf : List ℤ → ℕ → Seen
-totalOf xs n = cond (fits (length xs) n) (seen (valued (sumFirst xs n))) S.Unfit
+unfoldable pub totalOf : List ℤ → ℕ → FifoValue
+totalOf xs n = cond (fits (length xs) n) (asFifoValue (valued (sumFirst xs n))) S.Unfit
 
 -- [4] reads the count, as a value: in whole units
-unfoldable pub countOf : List ℤ → ℕ → Seen
+unfoldable pub countOf : List ℤ → ℕ → FifoValue
 countOf xs n = cond (fits (length xs) n) (S.Value (pos (n * unit))) S.Unfit
 
 -- every place 0

@@ -11,14 +11,15 @@ use lib.IntN.{ℤ, pos, _+ℤ_, +ℤ-idl, +ℤ-idr, +ℤ-assoc}
 use lib.ListN.{length, take, drop, getD, set, replicate, length-append, length-take, length-drop, length-set, length-replicate, getD-replicate, List·getD-append, List·getD-eq-default}
 use lib.Seq.{length-take-le, take-at, take-suc, take-suc-set, getD-at, getD-take, getD-drop, getD-append-add, getD-set-same, getD-set-other, set-out}
 use borrow.Author.Tests.{eq-eqb, ne-eqb, le-leb, eqb-true, eqb-false, leb-true}
+use Rattle.values.specs.Codes.{fifoEmpty, fifoFull, notAllowed}
 use Rattle.values.specs.declared.fifo.Moved.the-variants as M
-use Rattle.values.specs.declared.fifo.Seen.{Seen}
-use Rattle.values.specs.declared.fifo.Seen.the-variants as S
+use Rattle.values.specs.declared.fifo.FifoValue.{FifoValue}
+use Rattle.values.specs.declared.fifo.FifoValue.the-variants as S
 use Rattle.values.specs.declared.arithmetic.Worked.{Worked}
 use Rattle.values.specs.declared.arithmetic.Worked.the-variants as W
-use Rattle.values.specs.Value.{unit, notAllowed, inRange, equalTo, valued}
+use Rattle.values.specs.Value.{unit, inRange, equalTo, valued}
 use Rattle.values.specs.ValueLaws.{Ranged, valued-in-range, abs-range}
-use Rattle.values.specs.Fifo.{places, fifoEmpty, fifoFull, contents, Unused, countAfter, fits, appendAnswer, appended, shifted, removeAnswer, removed, oldestOf, newestOf, sumFirst, sumAll, seen, totalOf, countOf, cleared, emptyAnswer, emptied}
+use Rattle.values.specs.Fifo.{places, contents, Unused, countAfter, fits, appendAnswer, appended, shifted, removeAnswer, removed, oldestOf, newestOf, sumFirst, sumAll, asFifoValue, totalOf, countOf, cleared, emptyAnswer, emptied}
 use Rattle.values.specs.Numbers.{clash}
 
 -- ---- a part of sixteen places with at most sixteen in use
@@ -254,45 +255,45 @@ newest-contents xs n e l h = rw (fits-holds xs n e h, ne-eqb n 0 (λ q. omega ar
 -- ---- what is read is in range
 
 -- what a reading gives is in range whenever it is a value
-abbrev pub SeenRanged : Seen → Type 0
-SeenRanged s = (v : ℤ) → s ≡ S.Value v → inRange v ≡ true
+abbrev pub FifoValueRanged : FifoValue → Type 0
+FifoValueRanged s = (v : ℤ) → s ≡ S.Value v → inRange v ≡ true
 
-value-ranged : (z : ℤ) → inRange z ≡ true → SeenRanged (S.Value z)
+value-ranged : (z : ℤ) → inRange z ≡ true → FifoValueRanged (S.Value z)
 value-ranged z h v e = let q : z ≡ v = cc in rw (← q) h
 
-alarm-ranged : (k : ℕ) → SeenRanged (S.Alarm k)
+alarm-ranged : (k : ℕ) → FifoValueRanged (S.Alarm k)
 alarm-ranged k v e = clash (cc)
 
 -- where part and count are no FIFO there is no value
-fit-ranged : (b : Bool) (s : Seen) → (b ≡ true → SeenRanged s) → SeenRanged (cond b s S.Unfit)
+fit-ranged : (b : Bool) (s : FifoValue) → (b ≡ true → FifoValueRanged s) → FifoValueRanged (cond b s S.Unfit)
 fit-ranged true s r v e = r refl v e
 fit-ranged false s r v e = clash (cc)
 
-place-ranged : (b : Bool) (z : ℤ) → inRange z ≡ true → SeenRanged (cond b (S.Alarm fifoEmpty) (S.Value z))
+place-ranged : (b : Bool) (z : ℤ) → inRange z ≡ true → FifoValueRanged (cond b (S.Alarm fifoEmpty) (S.Value z))
 place-ranged true z h = alarm-ranged fifoEmpty
 place-ranged false z h = value-ranged z h
 
 -- the oldest, where the places are
-pub oldest-in-range : (xs : List ℤ) (n : ℕ) → PlacesRanged xs → SeenRanged (oldestOf xs n)
+pub oldest-in-range : (xs : List ℤ) (n : ℕ) → PlacesRanged xs → FifoValueRanged (oldestOf xs n)
 unfolding oldestOf
 oldest-in-range xs n r = fit-ranged (fits (length xs) n) _ (λ p. place-ranged (eqb n 0) (getD xs 0 (pos 0)) (r 0))
 
 -- the newest, where the places are
-pub newest-in-range : (xs : List ℤ) (n : ℕ) → PlacesRanged xs → SeenRanged (newestOf xs n)
+pub newest-in-range : (xs : List ℤ) (n : ℕ) → PlacesRanged xs → FifoValueRanged (newestOf xs n)
 unfolding newestOf
 newest-in-range xs n r = fit-ranged (fits (length xs) n) _ (λ p. place-ranged (eqb n 0) (getD xs (n - 1) (pos 0)) (r (n - 1)))
 
-seen-ranged : (w : Worked) → Ranged w → SeenRanged (seen w)
-seen-ranged (W.Value z) r = value-ranged z (r z refl)
-seen-ranged (W.Alarm k) r = alarm-ranged k
+asked-ranged : (w : Worked) → Ranged w → FifoValueRanged (asFifoValue w)
+asked-ranged (W.Value z) r = value-ranged z (r z refl)
+asked-ranged (W.Alarm k) r = alarm-ranged k
 
 -- the sum
-pub total-in-range : (xs : List ℤ) (n : ℕ) → SeenRanged (totalOf xs n)
+pub total-in-range : (xs : List ℤ) (n : ℕ) → FifoValueRanged (totalOf xs n)
 unfolding totalOf
-total-in-range xs n = fit-ranged (fits (length xs) n) _ (λ p. seen-ranged (valued (sumFirst xs n)) (valued-in-range (sumFirst xs n)))
+total-in-range xs n = fit-ranged (fits (length xs) n) _ (λ p. asked-ranged (valued (sumFirst xs n)) (valued-in-range (sumFirst xs n)))
 
 -- the count
-pub count-in-range : (xs : List ℤ) (n : ℕ) → SeenRanged (countOf xs n)
+pub count-in-range : (xs : List ℤ) (n : ℕ) → FifoValueRanged (countOf xs n)
 unfolding countOf
 count-in-range xs n =
     fit-ranged (fits (length xs) n) _

@@ -2,12 +2,13 @@
 -- Time is the definitions, TimeLaws the laws that follow from them.
 -- A FIFO in its part of R. Fifo is the definitions, FifoLaws the laws that follow from them.
 -- The two's complement of 32 bits.
+pub mod Codes
 pub mod Value
 pub mod Choice
 pub mod Numbers
 pub mod ValueLaws
 pub mod Unique
-mod Table
+mod ValueTable
 pub mod Time
 pub mod TimeLaws
 pub mod Fifo

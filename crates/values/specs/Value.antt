@@ -5,6 +5,7 @@ use Prim.Native.Nat.{ℕ}
 use lib.Dec.{eqb, leb}
 use lib.IntN.{ℤ, pos, negsuc, natAbs, negℤ, _+ℤ_, _-ℤ_, _*ℤ_}
 use lib.Signed.{ltZ, quotZ}
+use Rattle.values.specs.Codes.{outOfRange, zeroDivisor, notAllowed}
 use Rattle.values.specs.declared.arithmetic.Worked.{Worked}
 use Rattle.values.specs.declared.arithmetic.Worked.the-variants.{Value, Alarm}
 
@@ -15,16 +16,6 @@ top = 1000000000
 -- the thousandths of a unit
 abbrev pub unit : ℕ
 unit = 1000
-
--- document 01's numbers of the alarms that values raise
-abbrev pub outOfRange : ℕ
-outOfRange = 30
-
-abbrev pub zeroDivisor : ℕ
-zeroDivisor = 31
-
-abbrev pub notAllowed : ℕ
-notAllowed = 34
 
 -- document 01's code of an answer: 0 is success
 abbrev pub codeOf : Worked → ℕ

@@ -10,9 +10,10 @@ use lib.Signed.{quotZ}
 use mir.Syntax.{w32}
 use mir.Val.{SFits}
 use borrow.Author.Tests.{eqb-true, eq-eqb, ne-eqb, leb-true, le-leb}
+use Rattle.values.specs.Codes.{zeroDivisor, notAllowed}
 use Rattle.values.specs.declared.arithmetic.Worked.{Worked}
 use Rattle.values.specs.declared.arithmetic.Worked.the-variants.{Value, Alarm}
-use Rattle.values.specs.Value.{top, unit, zeroDivisor, notAllowed, inRange, valued, sumOf, differenceOf, productOf, quotientOf, negationOf, lessThan, equalTo, wholeUnits, outputOf, feedOf, signOf}
+use Rattle.values.specs.Value.{top, unit, inRange, valued, sumOf, differenceOf, productOf, quotientOf, negationOf, lessThan, equalTo, wholeUnits, outputOf, feedOf, signOf}
 use Rattle.values.specs.Numbers.{clash, abs-neg, abs-mul, abs-quot, no-difference, fits-abs}
 
 -- ---- equality is what it says

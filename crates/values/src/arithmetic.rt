@@ -1,6 +1,9 @@
 // The working with values: sum, difference, product, quotient, negation, comparison, and what the targets make of a value.
 ghost use mathlib.Core.Path.{_≡_};
 ghost use Rattle.values.specs.Value.{inRange, valued, sumOf, differenceOf, productOf, quotientOf, negationOf, lessThan, equalTo, wholeUnits, outputOf, feedOf, signOf};
+use crate::codes::NOT_ALLOWED;
+use crate::codes::OUT_OF_RANGE;
+use crate::codes::ZERO_DIVISOR;
 
 // The greatest value, one million units; the least is its negative.
 pub const TOP: i32 = 1000000000;
@@ -8,12 +11,6 @@ pub const TOP: i32 = 1000000000;
 pub const UNIT: i32 = 1000;
 
 // The alarms that a value raises, by document 01's numbers.
-pub const OUT_OF_RANGE: u8 = 30;
-
-pub const ZERO_DIVISOR: u8 = 31;
-
-pub const NOT_ALLOWED: u8 = 34;
-
 // What working gives: a value, or the number of an alarm.
 pub enum Worked {
     Value(i32),

@@ -7,19 +7,17 @@ ghost use mathlib.Core.Bool.{true};
 ghost use Prim.Native.Nat.{_≤_, _<_};
 ghost use lib.ListN.{length};
 ghost use Rattle.values.specs.Fifo.{fits, sumFirst, shifted, appendAnswer, appended, removeAnswer, removed, oldestOf, newestOf, totalOf, countOf, cleared, emptyAnswer, emptied};
-use crate::arithmetic::NOT_ALLOWED;
 use crate::arithmetic::UNIT;
 use crate::arithmetic::Worked;
 use crate::arithmetic::value_of;
+use crate::codes::FIFO_EMPTY;
+use crate::codes::FIFO_FULL;
+use crate::codes::NOT_ALLOWED;
 
 // The places of a FIFO.
 pub const PLACES: usize = 16;
 
 // The alarms of a FIFO, by document 01's numbers.
-pub const EMPTY: u8 = 32;
-
-pub const FULL: u8 = 33;
-
 // What a change gives: the value that went in or out with the new count, the number of an alarm, or that part and count are no FIFO.
 pub enum Moved {
     Done(i32, u8),
@@ -28,7 +26,7 @@ pub enum Moved {
 }
 
 // What a reading gives.
-pub enum Seen {
+pub enum FifoValue {
     Value(i32),
     Alarm(u8),
     Unfit,
@@ -54,7 +52,7 @@ pub fn append(part: &mut [i32], count: u8, v: i32) -> Moved
     }
     let at = count as usize;
     if at == PLACES {
-        return Moved::Alarm(FULL);
+        return Moved::Alarm(FIFO_FULL);
     }
     part[at] = v;
     Moved::Done(v, count + 1)
@@ -84,7 +82,7 @@ pub fn remove(part: &mut [i32], count: u8) -> Moved
         return Moved::Unfit;
     }
     if count == 0 {
-        return Moved::Alarm(EMPTY);
+        return Moved::Alarm(FIFO_EMPTY);
     }
     let v = part[0];
     shift(part, count as usize);
@@ -92,30 +90,30 @@ pub fn remove(part: &mut [i32], count: u8) -> Moved
 }
 
 // Reading [1]: the oldest value.
-pub fn oldest(part: &[i32], count: u8) -> Seen
+pub fn oldest(part: &[i32], count: u8) -> FifoValue
     ensures { λ r. ⌜ r ≡ oldestOf (now (part .entry)) count ⌝ }
 {
     if !is_fit(part.len(), count) {
-        return Seen::Unfit;
+        return FifoValue::Unfit;
     }
     if count == 0 {
-        return Seen::Alarm(EMPTY);
+        return FifoValue::Alarm(FIFO_EMPTY);
     }
-    Seen::Value(part[0])
+    FifoValue::Value(part[0])
 }
 
 // Reading [2]: the newest value.
-pub fn newest(part: &[i32], count: u8) -> Seen
+pub fn newest(part: &[i32], count: u8) -> FifoValue
     ensures { λ r. ⌜ r ≡ newestOf (now (part .entry)) count ⌝ }
 {
     if !is_fit(part.len(), count) {
-        return Seen::Unfit;
+        return FifoValue::Unfit;
     }
     if count == 0 {
-        return Seen::Alarm(EMPTY);
+        return FifoValue::Alarm(FIFO_EMPTY);
     }
     let at = (count - 1) as usize;
-    Seen::Value(part[at])
+    FifoValue::Value(part[at])
 }
 
 // The exact sum of the first n places.
@@ -134,26 +132,26 @@ fn sum_first(part: &[i32], n: usize) -> i64
 }
 
 // Reading [3]: the exact sum, or alarm 30.
-pub fn total(part: &[i32], count: u8) -> Seen
+pub fn total(part: &[i32], count: u8) -> FifoValue
     ensures { λ r. ⌜ r ≡ totalOf (now (part .entry)) count ⌝ }
 {
     if !is_fit(part.len(), count) {
-        return Seen::Unfit;
+        return FifoValue::Unfit;
     }
     match value_of(sum_first(part, count as usize)) {
-        Worked::Value(v) => Seen::Value(v),
-        Worked::Alarm(k) => Seen::Alarm(k),
+        Worked::Value(v) => FifoValue::Value(v),
+        Worked::Alarm(k) => FifoValue::Alarm(k),
     }
 }
 
 // Reading [4]: the count, in whole units.
-pub fn count_value(part: &[i32], count: u8) -> Seen
+pub fn count_value(part: &[i32], count: u8) -> FifoValue
     ensures { λ r. ⌜ r ≡ countOf (now (part .entry)) count ⌝ }
 {
     if !is_fit(part.len(), count) {
-        return Seen::Unfit;
+        return FifoValue::Unfit;
     }
-    Seen::Value(count as i32 * UNIT)
+    FifoValue::Value(count as i32 * UNIT)
 }
 
 // Every place becomes 0.

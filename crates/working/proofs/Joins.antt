@@ -7,7 +7,7 @@ use borrow.Author.Tests.{ne-eqb}
 use lib.IntN.{ℤ}
 use Rattle.values.specs.Value.{sumOf, differenceOf, productOf, quotientOf}
 use Rattle.tokens.specs.Token.{SAME, OTHER, LESS, MORE, ATMOST, ATLEAST, PLUS, MINUS, TIMES, OVER, AND, XOR, isFactor, isTerm, isCompare, isLogic}
-use Rattle.tokens.specs.Reading.{good}
+use Rattle.tokens.specs.Descent.{good}
 use Rattle.tokens.proofs.Between.{inside}
 use Rattle.working.specs.Operators.{fromWorked, yesNo, isYes, joinTruths, joinLogic, joinValues}
 

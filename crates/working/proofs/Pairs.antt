@@ -12,8 +12,8 @@ use Rattle.values.specs.declared.arithmetic.Worked.{Worked}
 use Rattle.values.proofs.Signed.{back}
 use Rattle.values.specs.Complement.{twosComplement, signed}
 use Rattle.values.specs.ComplementLaws.{signed-back}
-use Rattle.tokens.specs.Reading.{Answer, Read, read, ends, then, upTo}
-use Rattle.tokens.proofs.Answers as answers
+use Rattle.tokens.specs.Descent.{Answer, Read, read, ends, then, upTo}
+use Rattle.tokens.proofs.AnswerLaws as answers
 use Rattle.working.specs.Pair.{pairOf, alarmOf, nextOf, valueOf, alarmIn, said}
 use Rattle.working.specs.Operators.{fromWorked}
 

@@ -7,7 +7,7 @@ use Rattle.values.specs.Value.{sumOf, differenceOf, productOf, quotientOf, less
 use Rattle.values.specs.declared.arithmetic.Worked.{Worked}
 use Rattle.values.specs.declared.arithmetic.Worked.the-variants as W
 use Rattle.tokens.specs.Token.{SAME, OTHER, LESS, MORE, ATMOST, ATLEAST, PLUS, MINUS, TIMES, OVER, AND, OR}
-use Rattle.tokens.specs.Reading.{Answer, good, stop}
+use Rattle.tokens.specs.Descent.{Answer, good, stop}
 
 abbrev pub fromWorked : Worked → Answer ℤ
 fromWorked (W.Value v) = good v

@@ -5,7 +5,7 @@ use lib.Dec.{eqb}
 use lib.IntN.{ℤ}
 use Rattle.values.specs.Complement.{twosComplement, signed}
 use Rattle.tokens.specs.Token.{room}
-use Rattle.tokens.specs.Reading.{Read, read, ends}
+use Rattle.tokens.specs.Descent.{Read, read, ends}
 use Rattle.values.specs.declared.arithmetic.Worked.{Worked}
 use Rattle.values.specs.declared.arithmetic.Worked.the-variants.{Value, Alarm}
 

@@ -7,11 +7,12 @@ use Prim.Native.Nat.{ℕ, _+_, _-_, _*_}
 use lib.Dec.{eqb, leb}
 use lib.IntN.{ℤ, pos, negsuc}
 use lib.ListN.{take, drop, getD}
-use Rattle.values.specs.Fifo.{places, unsound, oldestOf, newestOf, totalOf, countOf}
+use Rattle.values.specs.Codes.{unsound}
+use Rattle.values.specs.Fifo.{places, oldestOf, newestOf, totalOf, countOf}
 use Rattle.values.specs.declared.arithmetic.Worked.{Worked}
 use Rattle.values.specs.declared.arithmetic.Worked.the-variants.{Value, Alarm}
-use Rattle.values.specs.declared.fifo.Seen.{Seen}
-use Rattle.values.specs.declared.fifo.Seen.the-variants as S
+use Rattle.values.specs.declared.fifo.FifoValue.{FifoValue}
+use Rattle.values.specs.declared.fifo.FifoValue.the-variants as S
 use Rattle.tokens.specs.Token.{INA, OUT, MARKER, PARAM, R, TIMER, FIFO1, IM, isFifo}
 use Rattle.tokens.specs.Index.{firstIndex, isInside}
 
@@ -53,23 +54,23 @@ countAt c w = asCount (getD c (counts + (w - FIFO1)) (pos 0))
 
 -- ---- what they read
 
-abbrev pub fromSeen : Seen → Worked
-fromSeen (S.Value v) = Value v
-fromSeen (S.Alarm k) = Alarm k
-fromSeen S.Unfit = Alarm unsound
+abbrev pub fromFifoValue : FifoValue → Worked
+fromFifoValue (S.Value v) = Value v
+fromFifoValue (S.Alarm k) = Alarm k
+fromFifoValue S.Unfit = Alarm unsound
 
 -- [1] the oldest, [2] the newest, [3] the sum, [4] the count; [0] is not read here, so that no condition changes anything
 unfoldable pub fifoValue : List ℤ → ℕ → ℕ → Worked
 fifoValue xs n i =
     elim (eqb i 1) [
-      | true ↦ fromSeen (oldestOf xs n)
+      | true ↦ fromFifoValue (oldestOf xs n)
       | false ↦
           elim (eqb i 2) [
-            | true ↦ fromSeen (newestOf xs n)
+            | true ↦ fromFifoValue (newestOf xs n)
             | false ↦
                 elim (eqb i 3) [
-                  | true ↦ fromSeen (totalOf xs n)
-                  | false ↦ elim (eqb i 4) [ true ↦ fromSeen (countOf xs n) | false ↦ Alarm unsound ]
+                  | true ↦ fromFifoValue (totalOf xs n)
+                  | false ↦ elim (eqb i 4) [ true ↦ fromFifoValue (countOf xs n) | false ↦ Alarm unsound ]
                 ]
           ]
     ]

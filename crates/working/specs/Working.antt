@@ -4,11 +4,11 @@ use mathlib.Core.Bool.{true, false, not}
 use mathlib.Core.List.{List}
 use Prim.Native.Nat.{ℕ}
 use lib.IntN.{ℤ, pos}
+use Rattle.values.specs.Codes.{unsound}
 use Rattle.values.specs.Value.{negationOf}
-use Rattle.values.specs.Fifo.{unsound}
-use Rattle.working.specs.declared.work.Got.{Got}
+use Rattle.working.specs.declared.walk.ValueOrAlarm.{ValueOrAlarm}
 use Rattle.tokens.specs.Token.{setSize, thousandths}
-use Rattle.tokens.specs.Reading.{good, Read, read, ends, upTo, Meaning, sumAt, expressionAt}
+use Rattle.tokens.specs.Descent.{good, Read, read, ends, upTo, Meaning, sumAt, expressionAt}
 use Rattle.working.specs.Variables.{variableValue}
 use Rattle.working.specs.Operators.{fromWorked, yesNo, isYes, joinValues}
 
@@ -25,7 +25,7 @@ valueOver r c = record {
 }
 
 -- how the code answers: a value and the next place, or an alarm alone
-abbrev pub told : Read ℤ → Got
+abbrev pub told : Read ℤ → ValueOrAlarm
 told (read v q) = record { good = true; value = v; next = q }
 told (ends k) = record { good = false; value = pos k; next = 0 }
 
@@ -37,8 +37,8 @@ abbrev pub inverted : ℤ → ℕ → Read ℤ
 inverted a q = read (yesNo (not (isYes a))) q
 
 -- the condition, and the right side, that begin at place p of the set s
-unfoldable pub conditionValue : List ℕ → List ℤ → List ℤ → ℕ → Got
+unfoldable pub conditionValue : List ℕ → List ℤ → List ℤ → ℕ → ValueOrAlarm
 conditionValue s r c p = told (expressionAt s (valueOver r c) setSize p)
 
-unfoldable pub rightValue : List ℕ → List ℤ → List ℤ → ℕ → Got
+unfoldable pub rightValue : List ℕ → List ℤ → List ℤ → ℕ → ValueOrAlarm
 rightValue s r c p = told (sumAt s (valueOver r c) setSize p)

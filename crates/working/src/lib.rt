@@ -1,11 +1,11 @@
 // The working of a line: its variables, its operators, and the value of its condition and of its right sides.
 //
 // No public call asks anything of its caller.
-mod join;
+mod operators;
 mod pair;
 pub mod variables;
-mod work;
+mod walk;
 
-pub use work::Got;
-pub use work::condition;
-pub use work::right_side;
+pub use walk::ValueOrAlarm;
+pub use walk::condition;
+pub use walk::right_side;

@@ -4,7 +4,7 @@
 ghost use mathlib.Core.Path.{_≡_};
 ghost use Prim.Native.Nat.{_<_};
 ghost use Rattle.tokens.specs.Token.{room};
-ghost use Rattle.tokens.specs.Reading.{upTo};
+ghost use Rattle.tokens.specs.Descent.{upTo};
 ghost use Rattle.working.specs.Operators.{fromWorked};
 ghost use Rattle.working.specs.Pair.{pairOf, alarmOf, valueOf, nextOf, alarmIn, workedPair, said};
 use tokens::token::ROOM;

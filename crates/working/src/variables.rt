@@ -5,7 +5,7 @@
 ghost use mathlib.Core.Path.{_≡_};
 ghost use mathlib.Core.Bool.{true};
 ghost use Rattle.tokens.specs.Token.{isFifo};
-ghost use Rattle.working.specs.Variables.{cellOf, cellStart, asCount, fromSeen, fifoValue, fifoAt, variableValue};
+ghost use Rattle.working.specs.Variables.{cellOf, cellStart, asCount, fromFifoValue, fifoValue, fifoAt, variableValue};
 use tokens::index::first_index;
 use tokens::index::is_inside;
 use tokens::token::FIFO1;
@@ -18,8 +18,9 @@ use tokens::token::R;
 use tokens::token::TIMER;
 use tokens::token::is_fifo;
 use values::arithmetic::Worked;
+use values::codes::UNSOUND;
+use values::fifo::FifoValue;
 use values::fifo::PLACES;
-use values::fifo::Seen;
 
 // The places of R.
 pub const RS: usize = 164;
@@ -56,8 +57,6 @@ pub const TIMERS: usize = 8;
 // Where the first FIFO's run of R starts.
 pub const RUNS: usize = 100;
 // Document 01's code for what no sound set or state has.
-pub const UNSOUND: u8 = 22;
-
 fn cell_start(w: u32) -> usize
     ensures { λ r. ⌜ r ≡ cellStart w ⌝ }
 {
@@ -104,13 +103,13 @@ pub fn count_of(cell: i32) -> u8
     cell as u8
 }
 
-fn from_seen(s: Seen) -> Worked
-    ensures { λ r. ⌜ r ≡ fromSeen s ⌝ }
+fn from_fifo_value(s: FifoValue) -> Worked
+    ensures { λ r. ⌜ r ≡ fromFifoValue s ⌝ }
 {
     match s {
-        Seen::Value(v) => Worked::Value(v),
-        Seen::Alarm(k) => Worked::Alarm(k),
-        Seen::Unfit => Worked::Alarm(UNSOUND),
+        FifoValue::Value(v) => Worked::Value(v),
+        FifoValue::Alarm(k) => Worked::Alarm(k),
+        FifoValue::Unfit => Worked::Alarm(UNSOUND),
     }
 }
 
@@ -119,16 +118,16 @@ fn fifo_value(part: &[i32], count: u8, i: u32) -> Worked
     ensures { λ r. ⌜ r ≡ fifoValue (now (part .entry)) count i ⌝ }
 {
     if i == 1 {
-        return from_seen(values::fifo::oldest(part, count));
+        return from_fifo_value(values::fifo::oldest(part, count));
     }
     if i == 2 {
-        return from_seen(values::fifo::newest(part, count));
+        return from_fifo_value(values::fifo::newest(part, count));
     }
     if i == 3 {
-        return from_seen(values::fifo::total(part, count));
+        return from_fifo_value(values::fifo::total(part, count));
     }
     if i == 4 {
-        return from_seen(values::fifo::count_value(part, count));
+        return from_fifo_value(values::fifo::count_value(part, count));
     }
     Worked::Alarm(UNSOUND)
 }

@@ -13,4 +13,4 @@ code-condition-spec =
     (tie.spec
     (λ c κs. search needs)
     (λ c κs. search needs)
-    (λ c. back w64 (record { sfits = c .packed-got .ok }) ∙ c .packed-got .ensures ∙ ap packed (c .before .condition .ensures)))
+    (λ c. back w64 (record { sfits = c .packed-value .ok }) ∙ c .packed-value .ensures ∙ ap packed (c .before .condition .ensures)))

@@ -5,7 +5,7 @@ use Prim.Native.Nat.{ℕ, _-_, _≤_, _<_}
 use native.Mathlib.Omega.{arith}
 use lib.ListN.{length, take, drop, length-replicate}
 use lib.Seq.{length-take-le}
-use Rattle.synrun.proofs.StepLaws.{left-length, written-room, no-more, some}
+use Rattle.synrun.proofs.ProgramLaws.{left-length, written-room, no-more, some}
 use Rattle.synrun.proofs.hand_over.Statement.{statement}
 use Rattle.synrun.proofs.hand_over.Tie as tie
 

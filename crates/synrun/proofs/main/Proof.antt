@@ -4,7 +4,7 @@ use mathlib.Core.Path.{sym}
 use Prim.Native.Nat.{ℕ}
 use lib.ListN.{length-replicate}
 use lib.Seq.{length-take-le}
-use Rattle.synrun.proofs.StepLaws.{end-room}
+use Rattle.synrun.proofs.ProgramLaws.{end-room}
 use Rattle.synrun.proofs.main.Statement.{statement}
 use Rattle.synrun.proofs.main.Tie as tie
 

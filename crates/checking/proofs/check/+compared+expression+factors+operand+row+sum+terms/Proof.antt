@@ -8,17 +8,17 @@ use Prim.Native.Nat.{_+_, _*_, _<_}
 use native.Mathlib.Omega.{arith}
 use Rattle.values.specs.Choice.{both}
 use Rattle.tokens.specs.Token.{AND, XOR, SAME, ATLEAST, PLUS, MINUS, TIMES, OVER, IN, IM, isFactor, isTerm}
-use Rattle.tokens.specs.Reading.{then, isRow, more, readClose, readProduct, readSum, readExpression, readOperand, sumAt, expressionAt}
+use Rattle.tokens.specs.Descent.{then, isRow, more, readClose, readProduct, readSum, readExpression, readOperand, sumAt, expressionAt}
 use Rattle.checking.specs.Fault.{sight}
-use Rattle.checking.specs.Seen.{sightOf, seen, signedSight}
+use Rattle.checking.specs.SightNumber.{sightOf, seen, signedSight}
 use Rattle.checking.specs.Brackets.{Onward}
-use Rattle.tokens.proofs.Answers.{stepped}
+use Rattle.tokens.proofs.AnswerLaws.{stepped}
 use Rattle.tokens.proofs.Arms.{spent, number-arm, variable-arm, open-arm, not-arm, truth-arm}
 use Rattle.tokens.proofs.Between.{no-end, row-no-end}
 use Rattle.tokens.proofs.Rows.{Kept, row-stops, row-ends, row-spent, row-goes, product-is, sum-is, expression-is, expression-stops, rest-compares, rest-rows, rest-none}
 use Rattle.checking.proofs.SignLaws.{signs-arm}
-use Rattle.checking.proofs.SeenLaws.{passes, seen-nothing, seen-stop, seen-read, number-made, seen-number, joins-factor, joins-term, joins-compared, joins-row}
-use Rattle.checking.proofs.CountLaws.{plain-above, plain-below, plain-high, plain-low, counts-signs, counted-none, counted-nothing, counted-behind, counted-token, onward-same, onward-then, same-end-on, joined-on}
+use Rattle.checking.proofs.SightNumberLaws.{passes, seen-nothing, seen-stop, seen-read, number-made, seen-number, joins-factor, joins-term, joins-compared, joins-row}
+use Rattle.checking.proofs.BracketCountLaws.{other-above, other-below, other-high, other-low, counts-signs, counted-none, counted-nothing, counted-behind, counted-token, onward-same, onward-then, same-end-on, joined-on}
 use Rattle.checking.proofs.SumLaws.{sum-stops, sum-single, expression-closes}
 use Rattle.tokens.proofs.fault.number_fault.Reads as number-fault
 use Rattle.tokens.proofs.token.is_compare.Reads as is-compare
@@ -28,8 +28,8 @@ use Rattle.tokens.proofs.token.is_row.Reads as is-row
 use Rattle.tokens.proofs.token.is_term.Reads as is-term
 use Rattle.tokens.proofs.token.is_variable.Reads as is-variable
 use Rattle.tokens.proofs.token.token_at.Reads as token-at
-use Rattle.checking.proofs.seen.next_of.Reads as next-of
-use Rattle.checking.proofs.seen.number_seen.Reads as number-seen
+use Rattle.checking.proofs.sight_number.next_of.Reads as next-of
+use Rattle.checking.proofs.sight_number.number_seen.Reads as number-seen
 use Rattle.checking.proofs.check.as_wanted.Reads as as-wanted
 use Rattle.checking.proofs.check.closed.Reads as closed
 use Rattle.checking.proofs.check.compared.Reads as compared
@@ -55,19 +55,19 @@ use Rattle.checking.proofs.check.+compared+expression+factors+operand+r
 use Rattle.checking.proofs.check.+compared+expression+factors+operand+row+sum+terms.Tie.{close}
 
 abbrev factors-Inv : factors-lts.InvT-loop
-factors-Inv code w left a₀ rounds₀ a rounds =
-    let sub = readOperand code sight left in
-    (Kept code sight isFactor sub (then (seen w) (more code sight isFactor sub left)) rounds (seen a)) × Onward code w a
+factors-Inv tokens w left a₀ rounds₀ a rounds =
+    let sub = readOperand tokens sight left in
+    (Kept tokens sight isFactor sub (then (seen w) (more tokens sight isFactor sub left)) rounds (seen a)) × Onward tokens w a
 
 abbrev terms-Inv : terms-lts.InvT-loop
-terms-Inv code w left a₀ rounds₀ a rounds =
-    let sub = readProduct code sight (readOperand code sight left) left in
-    (Kept code sight isTerm sub (then (seen w) (more code sight isTerm sub left)) rounds (seen a)) × Onward code w a
+terms-Inv tokens w left a₀ rounds₀ a rounds =
+    let sub = readProduct tokens sight (readOperand tokens sight left) left in
+    (Kept tokens sight isTerm sub (then (seen w) (more tokens sight isTerm sub left)) rounds (seen a)) × Onward tokens w a
 
 abbrev row-Inv : row-lts.InvT-loop
-row-Inv code first w left a₀ rounds₀ a rounds =
-    let sub = readSum code sight (readOperand code sight left) left in
-    (Kept code sight (isRow first) sub (then (seen w) (more code sight (isRow first) sub left)) rounds (seen a)) × Onward code w a
+row-Inv tokens first w left a₀ rounds₀ a rounds =
+    let sub = readSum tokens sight (readOperand tokens sight left) left in
+    (Kept tokens sight (isRow first) sub (then (seen w) (more tokens sight (isRow first) sub left)) rounds (seen a)) × Onward tokens w a
 
 pub +compared+expression+factors+operand+row+sum+terms-spec : {M : Type 1} → statement M
 unfolding sight sumAt expressionAt
@@ -96,7 +96,7 @@ unfolding sight sumAt expressionAt
     let a = n .before .args in
     let k = sym (e .before .is-compare .ensures) ∙ e .if2 .taken in (
       rest-compares _ _ _ _ (seen-read (a .a) (n .next-of .ensures) (d .before .before .if1 .left)) (d .token-at .ensures .0) (e .before .is-compare .ensures) (e .if2 .taken) (c .before .sum .ensures .0) (joins-compared _ (sightOf (a .a)) (seen (c .before .sum .result)) k (c .join .ensures .0)),
-      joined-on _ (n .next-of .ensures) (d .before .before .if1 .left) (d .token-at .ensures .0) (plain-low SAME ATLEAST _ (omega arith) (omega arith) refl k) (c .before .sum .ensures .1) (c .join .ensures .1),
+      joined-on _ (n .next-of .ensures) (d .before .before .if1 .left) (d .token-at .ensures .0) (other-low SAME ATLEAST _ (omega arith) (omega arith) refl k) (c .before .sum .ensures .1) (c .join .ensures .1),
     ))
     (λ c κs. search needs)
     (λ c.
@@ -144,7 +144,7 @@ unfolding sight sumAt expressionAt
       c .compared2 .ensures .1 .goes _ (c .before .terms .ensures .1 .goes _ (f .factors .ensures .1 .goes _ (o .1))),
     )))
     -- factors
-    (λ t. factors-lts.spec (_, next-of.Learnt, _, token-at.Learnt, _, is-factor.Learnt, _, operand.Post, _, join.Learnt) _ factors.Post factors-Inv (λ code w left a₀ rounds₀ a rounds. rounds)
+    (λ t. factors-lts.spec (_, next-of.Learnt, _, token-at.Learnt, _, is-factor.Learnt, _, operand.Post, _, join.Learnt) _ factors.Post factors-Inv (λ tokens w left a₀ rounds₀ a rounds. rounds)
     (λ c. (record { is-whole = refl }, onward-same _ _))
     (λ c κs. search needs)
     (λ c. let i = c .before .before .before .loop in (row-stops (i .inv .0) (seen-stop (i .a) (c .before .next-of .ensures) (c .if1 .taken)), i .inv .1))
@@ -167,7 +167,7 @@ unfolding sight sumAt expressionAt
     let i = n .before .before .loop in
     let k = sym (e .before .is-factor .ensures) ∙ not-false _ (e .if2 .left) in (
       row-goes (i .inv .0) (seen-read (i .a) (n .next-of .ensures) (d .before .before .if1 .left)) (d .token-at .ensures .0) (e .before .is-factor .ensures) (e .if2 .left) (omega arith) (c .before .operand .ensures .0) (joins-factor _ (sightOf (i .a)) (seen (c .before .operand .result)) k (c .join .ensures .0)),
-      onward-then _ (i .inv .1) (joined-on _ (n .next-of .ensures) (d .before .before .if1 .left) (d .token-at .ensures .0) (plain-low TIMES OVER _ (omega arith) (omega arith) refl k) (c .before .operand .ensures .1) (c .join .ensures .1)),
+      onward-then _ (i .inv .1) (joined-on _ (n .next-of .ensures) (d .before .before .if1 .left) (d .token-at .ensures .0) (other-low TIMES OVER _ (omega arith) (omega arith) refl k) (c .before .operand .ensures .1) (c .join .ensures .1)),
     ))
     (λ c. let i = c .before .loop .inv in (row-spent (i .0) (omega arith), i .1)))
     -- operand
@@ -182,7 +182,7 @@ unfolding sight sumAt expressionAt
     let m : d .before .before .before .args .at + 1 < 8192 = omega (arith, d .token-at .ensures .1 (λ z. omega arith)) in (
       seen-number {d = 0} _ (omega arith) (omega arith) m (omega arith) (c .number-seen .ensures) (c .before .number-fault .ensures) ∙
           number-arm _ _ _ _ _ (d .before .before .if1 .left) (d .token-at .ensures .0) (c .before .before .if2 .taken),
-      counted-token _ _ (d .token-at .ensures .0) (λ g. plain-above _ (omega (arith, c .before .before .if2 .taken))) (counted-none _ _ _ (number-made {d = 0} _ (omega arith) (omega arith) m (c .number-seen .ensures) .next)),
+      counted-token _ _ (d .token-at .ensures .0) (λ g. other-above _ (omega (arith, c .before .before .if2 .taken))) (counted-none _ _ _ (number-made {d = 0} _ (omega arith) (omega arith) m (c .number-seen .ensures) .next)),
     ))
     (λ c κs. search needs)
     (λ c κs. let d = c .before .before .before in omega (arith, d .token-at .ensures .1 (no-end IN IM (d .token-at .result) (omega arith) (c .before .is-variable .ensures) (c .if3 .taken))))
@@ -190,7 +190,7 @@ unfolding sight sumAt expressionAt
     let s = c .before .before .before in
     let v = c .before .before .is-variable .ensures in (
       c .variable .ensures .0 ∙ variable-arm _ _ _ _ _ (s .before .before .before .if1 .left) (s .before .token-at .ensures .0) (s .if2 .left) (sym v ∙ c .before .if3 .taken),
-      counted-token _ _ (s .before .token-at .ensures .0) (λ g. plain-high IN IM _ (omega arith) v (c .before .if3 .taken)) (c .variable .ensures .1),
+      counted-token _ _ (s .before .token-at .ensures .0) (λ g. other-high IN IM _ (omega arith) v (c .before .if3 .taken)) (c .variable .ensures .1),
     ))
     (λ c. omega (arith, c .before .before .before .before .token-at .ensures .1 (λ z. omega arith)))
     (λ c. omega arith)
@@ -199,7 +199,7 @@ unfolding sight sumAt expressionAt
     (λ c.
     let s = c .before .before .before .before .before .before in
     let o = c .before .before .if4 .taken in (
-      stepped (readClose (s .before .before .before .args .code .now) sight) (readExpression _ _ _ _ _) (c .before .expression .ensures .0) (c .closed .ensures .0) (open-arm _ _ _ _ _ (s .before .before .if1 .left) (s .token-at .ensures .0) o),
+      stepped (readClose (s .before .before .before .args .set .now) sight) (readExpression _ _ _ _ _) (c .before .expression .ensures .0) (c .closed .ensures .0) (open-arm _ _ _ _ _ (s .before .before .if1 .left) (s .token-at .ensures .0) o),
       c .closed .ensures .1 .goes _ (sym (s .token-at .ensures .0) ∙ o) (c .before .expression .ensures .1),
     ))
     (λ c. omega arith)
@@ -216,7 +216,7 @@ unfolding sight sumAt expressionAt
     let at = s .before .before .before .args .at in
     let n = b .signs-behind in (
       stepped (signedSight false) (readOperand _ _ _ _) (c .before .operand .ensures .0) (c .as-wanted .ensures .0) (signs-arm _ _ _ _ _ _ _ (s .before .before .if1 .left) (s .token-at .ensures .0) (b .before .if5 .taken) (n .ensures .0) refl refl),
-      same-end-on _ (c .as-wanted .ensures .1) .goes _ (counted-token _ _ (s .token-at .ensures .0) (λ g. plain-below _ (omega (arith, b .before .if5 .taken)) (omega (arith, b .before .if5 .taken))) (counted-behind _ (at + 1) (at + n .result + 1) (counts-signs _ _ _ _ (n .ensures .0)) (c .before .operand .ensures .1))),
+      same-end-on _ (c .as-wanted .ensures .1) .goes _ (counted-token _ _ (s .token-at .ensures .0) (λ g. other-below _ (omega (arith, b .before .if5 .taken)) (omega (arith, b .before .if5 .taken))) (counted-behind _ (at + 1) (at + n .result + 1) (counts-signs _ _ _ _ (n .ensures .0)) (c .before .operand .ensures .1))),
     ))
     (λ c. omega (arith, c .before .before .before .before .before .before .token-at .ensures .1 (λ z. omega arith)))
     (λ c. omega arith)
@@ -225,7 +225,7 @@ unfolding sight sumAt expressionAt
     (λ c.
     let s = c .before .before .before .before .before .before .before .before in (
       stepped (signedSight true) (readOperand _ _ _ _) (c .before .operand2 .ensures .0) (c .as-wanted2 .ensures .0) (not-arm _ _ _ _ _ (s .before .before .if1 .left) (s .token-at .ensures .0) (c .before .before .if6 .taken)),
-      same-end-on _ (c .as-wanted2 .ensures .1) .goes _ (counted-token _ _ (s .token-at .ensures .0) (λ g. plain-above _ (omega (arith, c .before .before .if6 .taken))) (c .before .operand2 .ensures .1)),
+      same-end-on _ (c .as-wanted2 .ensures .1) .goes _ (counted-token _ _ (s .token-at .ensures .0) (λ g. other-above _ (omega (arith, c .before .before .if6 .taken))) (c .before .operand2 .ensures .1)),
     ))
     (λ c κs. λ ne. omega (arith, c .before .before .before .before .before .before .token-at .ensures .1 ne))
     (λ c.
@@ -236,7 +236,7 @@ unfolding sight sumAt expressionAt
       counted-token _ _ t (c .truth .ensures .1 .0) (c .truth .ensures .1 .1),
     )))
     -- row
-    (λ t. row-lts.spec (_, next-of.Learnt, _, token-at.Learnt, _, is-row.Learnt, _, sum.Post, _, join.Learnt) _ row.Post row-Inv (λ code first w left a₀ rounds₀ a rounds. rounds)
+    (λ t. row-lts.spec (_, next-of.Learnt, _, token-at.Learnt, _, is-row.Learnt, _, sum.Post, _, join.Learnt) _ row.Post row-Inv (λ tokens first w left a₀ rounds₀ a rounds. rounds)
     (λ c. (record { is-whole = refl }, onward-same _ _))
     (λ c κs. search needs)
     (λ c. let i = c .before .before .before .loop in (row-stops (i .inv .0) (seen-stop (i .a) (c .before .next-of .ensures) (c .if1 .taken)), i .inv .1))
@@ -259,7 +259,7 @@ unfolding sight sumAt expressionAt
     let i = n .before .before .loop in
     let k = both _ _ (sym (e .before .is-row .ensures) ∙ not-false _ (e .if2 .left)) .0 in (
       row-goes (i .inv .0) (seen-read (i .a) (n .next-of .ensures) (d .before .before .if1 .left)) (d .token-at .ensures .0) (e .before .is-row .ensures) (e .if2 .left) (omega arith) (c .before .sum .ensures .0) (joins-row _ (sightOf (i .a)) (seen (c .before .sum .result)) k (c .join .ensures .0)),
-      onward-then _ (i .inv .1) (joined-on _ (n .next-of .ensures) (d .before .before .if1 .left) (d .token-at .ensures .0) (plain-high AND XOR _ (omega arith) refl k) (c .before .sum .ensures .1) (c .join .ensures .1)),
+      onward-then _ (i .inv .1) (joined-on _ (n .next-of .ensures) (d .before .before .if1 .left) (d .token-at .ensures .0) (other-high AND XOR _ (omega arith) refl k) (c .before .sum .ensures .1) (c .join .ensures .1)),
     ))
     (λ c. let i = c .before .loop .inv in (row-spent (i .0) (omega arith), i .1)))
     -- sum
@@ -281,7 +281,7 @@ unfolding sight sumAt expressionAt
     let f = c .before .factors .ensures in
     (sum-is _ _ _ _ _ (product-is _ _ _ _ _ (o .0) (f .0)) (c .terms .ensures .0), c .terms .ensures .1 .goes _ (f .1 .goes _ (o .1)))))
     -- terms
-    λ t. terms-lts.spec (_, next-of.Learnt, _, token-at.Learnt, _, is-term.Learnt, _, operand.Post, _, factors.Post, _, join.Learnt) _ terms.Post terms-Inv (λ code w left a₀ rounds₀ a rounds. rounds)
+    λ t. terms-lts.spec (_, next-of.Learnt, _, token-at.Learnt, _, is-term.Learnt, _, operand.Post, _, factors.Post, _, join.Learnt) _ terms.Post terms-Inv (λ tokens w left a₀ rounds₀ a rounds. rounds)
     (λ c. (record { is-whole = refl }, onward-same _ _))
     (λ c κs. search needs)
     (λ c. let i = c .before .before .before .loop in (row-stops (i .inv .0) (seen-stop (i .a) (c .before .next-of .ensures) (c .if1 .taken)), i .inv .1))
@@ -307,6 +307,6 @@ unfolding sight sumAt expressionAt
     let f = c .before .factors .ensures in
     let k = sym (e .before .is-term .ensures) ∙ not-false _ (e .if2 .left) in (
       row-goes (i .inv .0) (seen-read (i .a) (n .next-of .ensures) (d .before .before .if1 .left)) (d .token-at .ensures .0) (e .before .is-term .ensures) (e .if2 .left) (omega arith) (product-is _ _ _ _ _ (o .0) (f .0)) (joins-term _ (sightOf (i .a)) (seen (c .before .factors .result)) k (c .join .ensures .0)),
-      onward-then _ (i .inv .1) (joined-on _ (n .next-of .ensures) (d .before .before .if1 .left) (d .token-at .ensures .0) (plain-low PLUS MINUS _ (omega arith) (omega arith) refl k) (f .1 .goes _ (o .1)) (c .join .ensures .1)),
+      onward-then _ (i .inv .1) (joined-on _ (n .next-of .ensures) (d .before .before .if1 .left) (d .token-at .ensures .0) (other-low PLUS MINUS _ (omega arith) (omega arith) refl k) (f .1 .goes _ (o .1)) (c .join .ensures .1)),
     ))
     (λ c. let i = c .before .loop .inv in (row-spent (i .0) (omega arith), i .1))

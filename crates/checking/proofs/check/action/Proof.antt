@@ -5,8 +5,8 @@ use borrow.Author.Tests.{not-true, not-false}
 use mathlib.Core.Path.{refl, sym, _∙_}
 use Prim.Native.Nat.{_+_}
 use Rattle.checking.proofs.FaultLaws.{no-action, action-command, action-wrong, action-assigns}
-use Rattle.checking.proofs.SeenLaws.{faulted-nothing}
-use Rattle.checking.proofs.CountLaws.{counts-assigned, counted-nothing, counted-behind, counted-token}
+use Rattle.checking.proofs.SightNumberLaws.{faulted-nothing}
+use Rattle.checking.proofs.BracketCountLaws.{counts-assigned, counted-nothing, counted-behind, counted-token}
 use Rattle.checking.proofs.check.action.Statement.{statement}
 use Rattle.checking.proofs.check.action.Tie as tie
 

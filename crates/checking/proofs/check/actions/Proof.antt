@@ -3,29 +3,29 @@ use borrow.Author.Needs.{needs}
 use native.Mathlib.Omega.{arith}
 use mathlib.Core.Path.{_≡_, refl, sym, ap, _∙_}
 use Prim.Native.Nat.{ℕ, _+_}
-use Rattle.tokens.specs.Reading.{Read, read, then}
+use Rattle.tokens.specs.Descent.{Read, read, then}
 use Rattle.tokens.specs.Token.{setSize}
 use Rattle.tokens.specs.SingleFault.{lower}
 use Rattle.checking.specs.Fault.{actionsAt}
-use Rattle.checking.specs.Seen.{nextOf, faultOf, faulted}
+use Rattle.checking.specs.SightNumber.{nextOf, faultOf, faulted}
 use Rattle.checking.specs.Brackets.{InGrammar, Onward}
 use Rattle.checking.proofs.FaultLaws.{acts-none, Round, round-stops, round-ends, round-goes}
-use Rattle.checking.proofs.SeenLaws.{room, faulted-nothing, number-made, faulted-read, faulted-made}
-use Rattle.checking.proofs.CountLaws.{onward-same, onward-then, onward-nothing, counted-none, joined-next}
+use Rattle.checking.proofs.SightNumberLaws.{room, faulted-nothing, number-made, faulted-read, faulted-made}
+use Rattle.checking.proofs.BracketCountLaws.{onward-same, onward-then, onward-nothing, counted-none, joined-next}
 use Rattle.checking.proofs.check.actions.Statement.{statement}
 use Rattle.checking.proofs.check.actions.Tie as tie
 
 abbrev Inv-loop : tie.InvT-loop
-Inv-loop code keyword w low₀ n₀ rounds₀ low n rounds =
-    (then (faulted low) (actionsAt code keyword setSize rounds n) ≡ actionsAt code keyword setSize setSize 0 (faultOf w) (nextOf w)) × ((n + rounds ≡ setSize) × (InGrammar low × Onward code w low))
+Inv-loop tokens keyword w low₀ n₀ rounds₀ low n rounds =
+    (then (faulted low) (actionsAt tokens keyword setSize rounds n) ≡ actionsAt tokens keyword setSize setSize 0 (faultOf w) (nextOf w)) × ((n + rounds ≡ setSize) × (InGrammar low × Onward tokens w low))
 
 abbrev μ-loop : tie.MeasureT-loop
-μ-loop code keyword w low₀ n₀ rounds₀ low n rounds = rounds
+μ-loop tokens keyword w low₀ n₀ rounds₀ low n rounds = rounds
 
 -- the round so far, behind the next action, and what it goes on behind
 module _ (c : tie.After-next-of2 Inv-loop μ-loop) where
   round : let j = c .before in let i = j .before .before .before .before .loop in let a = j .before .before .before .before .before .args in
-      Round (a .code .now) (a .keyword) setSize (i .rounds) (i .n) (i .low) (j .before .action .result) (j .join-faults .result) (j .before .before .next-of .result) (c .next-of2 .result) (actionsAt (a .code .now) (a .keyword) setSize setSize 0 (faultOf (a .w)) (nextOf (a .w)))
+      Round (a .set .now) (a .keyword) setSize (i .rounds) (i .n) (i .low) (j .before .action .result) (j .join-faults .result) (j .before .before .next-of .result) (c .next-of2 .result) (actionsAt (a .set .now) (a .keyword) setSize setSize 0 (faultOf (a .w)) (nextOf (a .w)))
   round =
       let j = c .before in
       let n = j .before .before in
@@ -41,7 +41,7 @@ module _ (c : tie.After-next-of2 Inv-loop μ-loop) where
         to = c .next-of2 .ensures;
       }
 
-  on : let j = c .before in let a = j .before .before .before .before .before .args in Onward (a .code .now) (a .w) (j .join-faults .result)
+  on : let j = c .before in let a = j .before .before .before .before .before .args in Onward (a .set .now) (a .w) (j .join-faults .result)
   on =
       let j = c .before in
       let n = j .before .before in
@@ -54,7 +54,7 @@ actions-spec =
     (tie.spec
     Inv-loop
     μ-loop
-    (λ c. (ap (λ (r : Read ℕ). then r (actionsAt (c .args .code .now) (c .args .keyword) setSize setSize 0)) (faulted-read (c .args .w) refl (c .pre)), (omega arith, (c .pre, onward-same _ _))))
+    (λ c. (ap (λ (r : Read ℕ). then r (actionsAt (c .args .set .now) (c .args .keyword) setSize setSize 0)) (faulted-read (c .args .w) refl (c .pre)), (omega arith, (c .pre, onward-same _ _))))
     (λ c κs. search needs)
     (λ c κs. search needs)
     (λ c κs. search needs)
@@ -91,6 +91,6 @@ actions-spec =
     (λ c.
     let i = c .before .loop in
     let a = c .before .before .args in (
-      faulted-nothing ∙ sym (acts-none _ _ _ _ _ _ _ (c .loop-test .left)) ∙ ap (λ (r : Read ℕ). then r (actionsAt (a .code .now) (a .keyword) setSize (i .rounds) (i .n))) (sym (faulted-read (i .low) refl (i .inv .1 .1 .0))) ∙ i .inv .0,
+      faulted-nothing ∙ sym (acts-none _ _ _ _ _ _ _ (c .loop-test .left)) ∙ ap (λ (r : Read ℕ). then r (actionsAt (a .set .now) (a .keyword) setSize (i .rounds) (i .n))) (sym (faulted-read (i .low) refl (i .inv .1 .1 .0))) ∙ i .inv .0,
       onward-nothing _ _ refl,
     )))

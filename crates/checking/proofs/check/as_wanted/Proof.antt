@@ -3,10 +3,10 @@ use borrow.Author.Needs.{needs}
 use mathlib.Core.Path.{_≡_, sym, ap, _∙_}
 use mathlib.Core.Bool.{Bool}
 use native.Mathlib.Omega.{arith}
-use Rattle.tokens.specs.Reading.{read}
+use Rattle.tokens.specs.Descent.{read}
 use Rattle.tokens.specs.SingleFault.{lower, wantingFault}
-use Rattle.checking.specs.Seen.{truthOf, faultOf, signedSight}
-use Rattle.checking.proofs.SeenLaws.{room, passes, enters, number-made, truth-made, seen-number, seen-truth, same-end, same-end-made, faultless-seen, faultless-same}
+use Rattle.checking.specs.SightNumber.{truthOf, faultOf, signedSight}
+use Rattle.checking.proofs.SightNumberLaws.{room, passes, enters, number-made, truth-made, seen-number, seen-truth, same-end, same-end-made, faultless-seen, faultless-same}
 use Rattle.checking.proofs.check.as_wanted.Statement.{statement}
 use Rattle.checking.proofs.check.as_wanted.Tie as tie
 

@@ -3,11 +3,11 @@ use borrow.Author.Needs.{needs}
 use native.Mathlib.Omega.{arith}
 use mathlib.Core.Path.{refl, sym, _∙_}
 use Prim.Native.Nat.{_+_, _<_}
-use Rattle.tokens.specs.Reading.{sumAt}
+use Rattle.tokens.specs.Descent.{sumAt}
 use Rattle.checking.specs.Fault.{assignedAt}
 use Rattle.checking.proofs.FaultLaws.{removal-tokens}
-use Rattle.checking.proofs.SeenLaws.{number-made, faulted-made, faulted-wanted}
-use Rattle.checking.proofs.CountLaws.{counts-index, counted-none, counted-behind, counted-token, same-end-on}
+use Rattle.checking.proofs.SightNumberLaws.{number-made, faulted-made, faulted-wanted}
+use Rattle.checking.proofs.BracketCountLaws.{counts-index, counted-none, counted-behind, counted-token, same-end-on}
 use Rattle.checking.proofs.check.assigned.Statement.{statement}
 use Rattle.checking.proofs.check.assigned.Tie as tie
 

@@ -4,12 +4,12 @@ use native.Mathlib.Omega.{arith}
 use mathlib.Core.Path.{_≡_, refl, sym, ap, _∙_}
 use Prim.Native.Nat.{ℕ, _+_, _<_}
 use Rattle.tokens.specs.Token.{IN, IM, POS, MOV}
-use Rattle.tokens.specs.Reading.{Read, read, then, indexAt, sumAt}
+use Rattle.tokens.specs.Descent.{Read, read, then, indexAt, sumAt}
 use Rattle.tokens.specs.SingleFault.{lower, writeFault}
 use Rattle.checking.specs.Fault.{assignedAt, assignmentAt}
-use Rattle.checking.specs.Seen.{faultOf}
-use Rattle.checking.proofs.SeenLaws.{faulted-nothing, number-made, faulted-wanted}
-use Rattle.checking.proofs.CountLaws.{plain-high, counted-nothing, joined-counted, same-end-on}
+use Rattle.checking.specs.SightNumber.{faultOf}
+use Rattle.checking.proofs.SightNumberLaws.{faulted-nothing, number-made, faulted-wanted}
+use Rattle.checking.proofs.BracketCountLaws.{other-high, counted-nothing, joined-counted, same-end-on}
 use Rattle.checking.proofs.check.assignment.Statement.{statement}
 use Rattle.checking.proofs.check.assignment.Tie as tie
 
@@ -30,12 +30,12 @@ assignment-spec =
     let i = n .before .before in
     let v = i .before .before .before in
     let a = v .before .args in
-    let e : n .before .write-fault .result ≡ writeFault (a .w) (indexAt (a .code .now) (a .w) (a .at)) = n .before .write-fault .ensures ∙ ap (writeFault (a .w)) (i .index-at .ensures) in
+    let e : n .before .write-fault .result ≡ writeFault (a .w) (indexAt (a .set .now) (a .w) (a .at)) = n .before .write-fault .ensures ∙ ap (writeFault (a .w)) (i .index-at .ensures) in
     let m : a .at < 8192 = omega (arith, v .before .pre) in
     let k = number-made {d = 0} (a .at) (omega arith) (omega arith) m (n .number-seen .ensures) .fault ∙ e in (
       simp (assignmentAt, sym (v .is-variable .ensures) ∙ i .before .before .if1 .taken)
-          (c .join-faults .ensures .0 ∙ ap (λ (x : Read ℕ). then x (λ g q. read (lower (faultOf (n .number-seen .result)) g) q)) (c .before .assigned .ensures .0) ∙ ap (λ (f : ℕ). then (assignedAt (a .code .now) 4130 (a .at + 5)) (λ g q. read (lower f g) q)) k),
-      (λ g. plain-high IN IM _ (omega arith) (v .is-variable .ensures) (i .before .before .if1 .taken), joined-counted _ _ (c .before .assigned .ensures .1) (c .join-faults .ensures .1)),
+          (c .join-faults .ensures .0 ∙ ap (λ (x : Read ℕ). then x (λ g q. read (lower (faultOf (n .number-seen .result)) g) q)) (c .before .assigned .ensures .0) ∙ ap (λ (f : ℕ). then (assignedAt (a .set .now) 4130 (a .at + 5)) (λ g q. read (lower f g) q)) k),
+      (λ g. other-high IN IM _ (omega arith) (v .is-variable .ensures) (i .before .before .if1 .taken), joined-counted _ _ (c .before .assigned .ensures .1) (c .join-faults .ensures .1)),
     ))
     (λ c κs. search needs)
     (λ c. omega arith)
@@ -46,7 +46,7 @@ assignment-spec =
     let d = s .before .before in (
       simp (assignmentAt, sym (d .before .before .is-variable .ensures) ∙ d .before .if1 .left, sym (d .is-drive .ensures) ∙ s .before .if2 .taken)
           (faulted-wanted _ _ _ (sumAt _ _ _ _) (s .sum .ensures .0) (c .as-wanted .ensures .0)),
-      (λ g. plain-high POS MOV _ (omega arith) (d .is-drive .ensures) (s .before .if2 .taken), same-end-on _ (c .as-wanted .ensures .1) .goes _ (s .sum .ensures .1)),
+      (λ g. other-high POS MOV _ (omega arith) (d .is-drive .ensures) (s .before .if2 .taken), same-end-on _ (c .as-wanted .ensures .1) .goes _ (s .sum .ensures .1)),
     ))
     (λ c.
     let d = c .before in (

@@ -3,12 +3,12 @@ use borrow.Author.Needs.{needs}
 use native.Mathlib.Omega.{arith}
 use mathlib.Core.Path.{sym, ap, _∙_}
 use Prim.Native.Nat.{ℕ, _+_}
-use Rattle.tokens.specs.Reading.{Read}
+use Rattle.tokens.specs.Descent.{Read}
 use Rattle.checking.specs.Fault.{judged}
-use Rattle.checking.specs.Seen.{faultOf, depthOf, bodyFrom}
+use Rattle.checking.specs.SightNumber.{faultOf, depthOf, bodyFrom}
 use Rattle.checking.proofs.FaultLaws.{body-none, body-does}
-use Rattle.checking.proofs.SeenLaws.{Made, faulted-stop, faulted-read, next-made}
-use Rattle.checking.proofs.CountLaws.{plain-above, next-on}
+use Rattle.checking.proofs.SightNumberLaws.{Made, faulted-stop, faulted-read, next-made}
+use Rattle.checking.proofs.BracketCountLaws.{other-above, next-on}
 use Rattle.checking.proofs.check.body.Statement.{statement}
 use Rattle.checking.proofs.check.body.Tie as tie
 
@@ -27,14 +27,14 @@ body-spec =
     (λ c.
     let n = c .before .before in
     let a = n .before .args in
-    c .refused .ensures ∙ ap (λ (r : Read ℕ). judged (a .code .now) (a .at) (bodyFrom (a .code .now) (a .at) (a .keyword) (a .condition) r)) (sym (faulted-stop (a .a) (n .next-of .ensures) (c .before .if1 .taken))))
+    c .refused .ensures ∙ ap (λ (r : Read ℕ). judged (a .set .now) (a .at) (bodyFrom (a .set .now) (a .at) (a .keyword) (a .condition) r)) (sym (faulted-stop (a .a) (n .next-of .ensures) (c .before .if1 .taken))))
     (λ c κs. search needs)
     (λ c κs. search needs)
     (λ c.
     let t = c .before .before in
     let n = t .before .before .before in
     let a = n .before .args in
-    c .refused2 .ensures ∙ ap (judged (a .code .now) (a .at)) (body-none _ _ _ _ _ _ (t .token-at .ensures .0) (c .before .if2 .taken) ∙ ap (bodyFrom (a .code .now) (a .at) (a .keyword) (a .condition)) (sym (faulted-read (a .a) (n .next-of .ensures) (t .before .before .if1 .left)))))
+    c .refused2 .ensures ∙ ap (judged (a .set .now) (a .at)) (body-none _ _ _ _ _ _ (t .token-at .ensures .0) (c .before .if2 .taken) ∙ ap (bodyFrom (a .set .now) (a .at) (a .keyword) (a .condition)) (sym (faulted-read (a .a) (n .next-of .ensures) (t .before .before .if1 .left)))))
     (λ c. omega (arith, c .before .token-at .ensures .1 (λ z. omega arith)))
     (λ c. let t = c .before in omega (arith, t .before .before .before .next-of .ensures, t .token-at .ensures .1 (λ z. omega arith)))
     (λ c κs. λ z. omega (arith, c .before .before .before .before .next-of .ensures, c .before .token-at .ensures .1 (λ z. omega arith)))
@@ -42,12 +42,12 @@ body-spec =
     let t = c .before .before in
     let n = t .before .before .before in
     let k = begun (c .before) in
-    (n .before .pre .0, c .actions .ensures .1 .goes _ (next-on _ _ _ (n .next-of .ensures) (t .before .before .if1 .left) (t .token-at .ensures .0) (plain-above _ (omega (arith, c .before .if2 .left))) (k .next) (k .depth) .goes _ (n .before .pre .1))))
+    (n .before .pre .0, c .actions .ensures .1 .goes _ (next-on _ _ _ (n .next-of .ensures) (t .before .before .if1 .left) (t .token-at .ensures .0) (other-above _ (omega (arith, c .before .if2 .left))) (k .next) (k .depth) .goes _ (n .before .pre .1))))
     (λ c.
     let x = c .before in
     let t = x .before .before in
     let n = t .before .before .before in
     let a = n .before .args in
     c .parts .ensures ∙
-    ap (judged (a .code .now) (a .at)) (body-does _ _ _ _ _ _ (t .token-at .ensures .0) (x .before .if2 .left) _ (begun (x .before)) (x .actions .ensures .0) ∙
-    ap (bodyFrom (a .code .now) (a .at) (a .keyword) (a .condition)) (sym (faulted-read (a .a) (n .next-of .ensures) (t .before .before .if1 .left))))))
+    ap (judged (a .set .now) (a .at)) (body-does _ _ _ _ _ _ (t .token-at .ensures .0) (x .before .if2 .left) _ (begun (x .before)) (x .actions .ensures .0) ∙
+    ap (bodyFrom (a .set .now) (a .at) (a .keyword) (a .condition)) (sym (faulted-read (a .a) (n .next-of .ensures) (t .before .before .if1 .left))))))

@@ -4,11 +4,11 @@ use mathlib.Core.Path.{refl, sym, _∙_}
 use Prim.Native.Nat.{_<_}
 use native.Mathlib.Omega.{arith}
 use Rattle.tokens.specs.Token.{setSize}
-use Rattle.tokens.specs.Reading.{readClose}
+use Rattle.tokens.specs.Descent.{readClose}
 use Rattle.checking.specs.Fault.{sight}
 use Rattle.tokens.proofs.Arms.{closes, closes-not}
-use Rattle.checking.proofs.SeenLaws.{passes, enters, seen-nothing, seen-next, next-made, seen-deeper, deeper-made}
-use Rattle.checking.proofs.CountLaws.{closed-on, closed-nothing}
+use Rattle.checking.proofs.SightNumberLaws.{passes, enters, seen-nothing, seen-next, next-made, seen-deeper, deeper-made}
+use Rattle.checking.proofs.BracketCountLaws.{closed-on, closed-nothing}
 use Rattle.checking.proofs.check.closed.Statement.{statement}
 use Rattle.checking.proofs.check.closed.Tie as tie
 
@@ -27,7 +27,7 @@ closed-spec =
     (λ c.
     let d = c .before in
     let n = d .before .before .before in (
-      enters _ (n .next-of .ensures) (readClose (n .before .args .code .now) sight) (d .before .before .if1 .left) (seen-nothing ∙ sym (closes-not _ _ _ _ _ (d .token-at .ensures .0) (c .if2 .taken))),
+      enters _ (n .next-of .ensures) (readClose (n .before .args .set .now) sight) (d .before .before .if1 .left) (seen-nothing ∙ sym (closes-not _ _ _ _ _ (d .token-at .ensures .0) (c .if2 .taken))),
       closed-nothing _ _ refl,
     ))
     (λ c κs. search needs)
@@ -38,7 +38,7 @@ closed-spec =
     let n = d .before .before .before in
     let l = inside (g .before) in
     let k = next-made (n .before .args .a) (n .next-of .ensures) l in (
-      enters _ (n .next-of .ensures) (readClose (n .before .args .code .now) sight) (d .before .before .if1 .left)
+      enters _ (n .next-of .ensures) (readClose (n .before .args .set .now) sight) (d .before .before .if1 .left)
           (seen-next (n .before .args .a) (n .next-of .ensures) l ∙ sym (closes _ _ _ _ _ (d .token-at .ensures .0) (g .before .if2 .left))),
       closed-on _ (n .before .args .a) _ (n .next-of .ensures) (d .before .before .if1 .left) (sym (d .token-at .ensures .0) ∙ g .before .if2 .left) (k .next) (λ h. absurd (omega (arith, k .depth, g .depth-of .ensures, c .if3 .taken))),
     ))
@@ -50,7 +50,7 @@ closed-spec =
     let n = d .before .before .before in
     let l = inside (g .before) in
     let k = deeper-made (n .before .args .a) (n .next-of .ensures) l (omega (arith, g .depth-of .ensures, c .if3 .left)) in (
-      enters _ (n .next-of .ensures) (readClose (n .before .args .code .now) sight) (d .before .before .if1 .left)
+      enters _ (n .next-of .ensures) (readClose (n .before .args .set .now) sight) (d .before .before .if1 .left)
           (seen-deeper (n .before .args .a) (n .next-of .ensures) l ∙ sym (closes _ _ _ _ _ (d .token-at .ensures .0) (g .before .if2 .left))),
       closed-on _ (n .before .args .a) _ (n .next-of .ensures) (d .before .before .if1 .left) (sym (d .token-at .ensures .0) ∙ g .before .if2 .left) (k .next) (λ h. omega (arith, k .depth)),
     )))

@@ -7,24 +7,24 @@ use mathlib.Core.Bool.{true}
 use Prim.Native.Nat.{ℕ, _+_, _<_}
 use lib.ListN.{getD}
 use Rattle.tokens.specs.Token.{SETAL, UNLOCK, isWhole, whole}
-use Rattle.tokens.specs.Reading.{ends, read}
+use Rattle.tokens.specs.Descent.{ends, read}
 use Rattle.checking.specs.Fault.{commandAt}
-use Rattle.checking.specs.Seen.{faulted}
-use Rattle.checking.specs.Brackets.{Plain, InGrammar, Counted}
+use Rattle.checking.specs.SightNumber.{faulted}
+use Rattle.checking.specs.Brackets.{NoBracket, InGrammar, Counted}
 use Rattle.tokens.specs.SingleFault.{codeFault, callFault}
 use Rattle.tokens.proofs.Between.{tested}
 use Rattle.checking.proofs.FaultLaws.{no-command, no-code, a-code, no-call, no-open, no-close, a-call}
-use Rattle.checking.proofs.SeenLaws.{faulted-nothing, number-made, faulted-made}
-use Rattle.checking.proofs.CountLaws.{plain-above, plain-high, counts-code, counts-call, counted-nothing, counted-to}
+use Rattle.checking.proofs.SightNumberLaws.{faulted-nothing, number-made, faulted-made}
+use Rattle.checking.proofs.BracketCountLaws.{other-above, other-high, counts-code, counts-call, counted-nothing, counted-to}
 use Rattle.checking.proofs.check.command.Statement.{statement}
 use Rattle.checking.proofs.check.command.Tie as tie
 
 -- behind the first test the token after the next is a whole number
-numbered : (c : tie.Else1) → let a = c .before .before .before .before .args in isWhole (getD (a .code .now) (a .at + 2) 0) ≡ true
+numbered : (c : tie.Else1) → let a = c .before .before .before .before .args in isWhole (getD (a .set .now) (a .at + 2) 0) ≡ true
 numbered c = tested isWhole (c .before .before .token-at .ensures .0) (c .before .is-whole .ensures) (not-false _ (c .if1 .left))
 
 -- what is no command
-none : (a : tie.Start) → ends 5 ≡ commandAt (a .args .code .now) (a .args .keyword) (a .args .w) (a .args .at) → (faulted 0 ≡ commandAt (a .args .code .now) (a .args .keyword) (a .args .w) (a .args .at)) × ((InGrammar 0 → Plain (a .args .w)) × Counted (a .args .code .now) (a .args .at + 1) 0)
+none : (a : tie.Start) → ends 5 ≡ commandAt (a .args .set .now) (a .args .keyword) (a .args .w) (a .args .at) → (faulted 0 ≡ commandAt (a .args .set .now) (a .args .keyword) (a .args .w) (a .args .at)) × ((InGrammar 0 → NoBracket (a .args .w)) × Counted (a .args .set .now) (a .args .at + 1) 0)
 none a e = (faulted-nothing ∙ e, (λ g. absurd (g refl), counted-nothing _ _ refl))
 
 pub command-spec : {M : Type 1} → statement M
@@ -51,12 +51,12 @@ command-spec =
     let s = g .before .before in
     let r = s .before .before in
     let a = r .before .before .before .before .args in
-    let n : f .code-fault .result ≡ codeFault (a .keyword) (whole (getD (a .code .now) (a .at + 2) 0)) = f .code-fault .ensures ∙ ap (codeFault (a .keyword)) (f .before .whole-of .ensures ∙ ap (λ (t : ℕ). whole t) (r .before .before .token-at .ensures .0)) in
+    let n : f .code-fault .result ≡ codeFault (a .keyword) (whole (getD (a .set .now) (a .at + 2) 0)) = f .code-fault .ensures ∙ ap (codeFault (a .keyword)) (f .before .whole-of .ensures ∙ ap (λ (t : ℕ). whole t) (r .before .before .token-at .ensures .0)) in
     let m : a .at + 3 < 8192 = omega (arith, r .before .before .before .before .pre) in
     let k = number-made {d = 0} _ (omega arith) (omega arith) m (c .number-seen .ensures) in
     let q = sym (s .token-at2 .ensures .0) ∙ g .if3 .left in (
       faulted-made k (omega arith) ∙ ap (λ (f : ℕ). read f (a .at + 3)) n ∙ a-code _ _ _ _ (numbered r) (g .before .if2 .taken) q,
-      (λ h. plain-above _ (omega (arith, g .before .if2 .taken)), counted-to _ _ _ (k .next) (k .depth) (λ g. counts-code (a .code .now) (a .at) q (numbered r))),
+      (λ h. other-above _ (omega (arith, g .before .if2 .taken)), counted-to _ _ _ (k .next) (k .depth) (λ g. counts-code (a .set .now) (a .at) q (numbered r))),
     ))
     (λ c κs. search needs)
     (λ c.
@@ -90,12 +90,12 @@ command-spec =
     let s = f .before .before .before in
     let r = s .before .before in
     let a = r .before .before .before .before .args in
-    let n : l .call-fault .result ≡ callFault (a .w) (whole (getD (a .code .now) (a .at + 2) 0)) = l .call-fault .ensures ∙ ap (callFault (a .w)) (l .before .whole-of2 .ensures ∙ ap (λ (t : ℕ). whole t) (r .before .before .token-at .ensures .0)) in
+    let n : l .call-fault .result ≡ callFault (a .w) (whole (getD (a .set .now) (a .at + 2) 0)) = l .call-fault .ensures ∙ ap (callFault (a .w)) (l .before .whole-of2 .ensures ∙ ap (λ (t : ℕ). whole t) (r .before .before .token-at .ensures .0)) in
     let m : a .at + 4 < 8192 = omega (arith, r .before .before .before .before .pre) in
     let k = number-made {d = 1} _ (omega arith) (omega arith) m (c .number-seen2 .ensures) in
     let b = sym (s .token-at2 .ensures .0) ∙ o .if5 .left in
     let e = sym (t .token-at3 .ensures .0) ∙ i .if6 .left in
     let w = not-false _ (f .if4 .left) in (
       faulted-made k (omega arith) ∙ ap (λ (f : ℕ). read f (a .at + 4)) n ∙ a-call _ _ _ _ (numbered r) (f .before .before .if2 .left) (sym (f .before .is-call .ensures) ∙ w) b e,
-      (λ h. plain-high SETAL UNLOCK _ (omega arith) (f .before .is-call .ensures) w, counted-to _ _ _ (k .next) (k .depth) (λ g. counts-call (a .code .now) (a .at) b (numbered r) e)),
+      (λ h. other-high SETAL UNLOCK _ (omega arith) (f .before .is-call .ensures) w, counted-to _ _ _ (k .next) (k .depth) (λ g. counts-call (a .set .now) (a .at) b (numbered r) e)),
     )))

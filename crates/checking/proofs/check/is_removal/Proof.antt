@@ -5,7 +5,7 @@ use mathlib.Core.Path.{_≡_, refl, sym, _∙_}
 use mathlib.Core.Bool.{true}
 use native.Mathlib.Omega.{arith}
 use Rattle.tokens.specs.Token.{FIFO1, FIFO4, isFifo}
-use Rattle.tokens.specs.Reading.{isIndexed}
+use Rattle.tokens.specs.Descent.{isIndexed}
 use Rattle.tokens.proofs.Between.{no-end}
 use Rattle.checking.proofs.FaultLaws.{removal}
 use Rattle.checking.proofs.check.is_removal.Statement.{statement}
@@ -14,7 +14,7 @@ use Rattle.checking.proofs.check.is_removal.Tie as tie
 fifo : (c : tie.Else1) → isFifo (c .before .before .token-at .result) ≡ true
 fifo c = sym (c .before .is-fifo .ensures) ∙ not-false _ (c .if1 .left)
 
-bracketed : (c : tie.Else2) → let d = c .before .before .before .before .before in isIndexed (d .before .before .args .code .now) (d .token-at .result) (d .before .before .args .at) ≡ true
+bracketed : (c : tie.Else2) → let d = c .before .before .before .before .before in isIndexed (d .before .before .args .set .now) (d .token-at .result) (d .before .before .args .at) ≡ true
 bracketed c = sym (c .before .is-indexed .ensures) ∙ not-false _ (c .if2 .left)
 
 pub is-removal-spec : {M : Type 1} → statement M

@@ -2,7 +2,7 @@
 use borrow.Author.Needs.{needs}
 use mathlib.Core.Path.{_∙_}
 use native.Mathlib.Omega.{arith}
-use Rattle.checking.proofs.CountLaws.{counted-whole}
+use Rattle.checking.proofs.BracketCountLaws.{counted-whole}
 use Rattle.checking.proofs.check.is_too_deep.Statement.{statement}
 use Rattle.checking.proofs.check.is_too_deep.Tie as tie
 

@@ -4,10 +4,10 @@ use mathlib.Core.Path.{sym, ap, _∙_}
 use mathlib.Core.Bool.{Bool}
 use Prim.Native.Nat.{ℕ}
 use native.Mathlib.Omega.{arith}
-use Rattle.tokens.specs.Reading.{Read, read}
+use Rattle.tokens.specs.Descent.{Read, read}
 use Rattle.checking.specs.Fault.{Sight, lowest}
-use Rattle.checking.specs.Seen.{sightOf}
-use Rattle.checking.proofs.SeenLaws.{room, passes, enters, number-made, truth-made, seen-number, seen-truth, joined-nothing, joined-made}
+use Rattle.checking.specs.SightNumber.{sightOf}
+use Rattle.checking.proofs.SightNumberLaws.{room, passes, enters, number-made, truth-made, seen-number, seen-truth, joined-nothing, joined-made}
 use Rattle.checking.proofs.check.join.Statement.{statement}
 use Rattle.checking.proofs.check.join.Tie as tie
 

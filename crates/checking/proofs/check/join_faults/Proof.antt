@@ -3,10 +3,10 @@ use borrow.Author.Needs.{needs}
 use mathlib.Core.Path.{_≡_, sym, ap, _∙_}
 use Prim.Native.Nat.{ℕ}
 use native.Mathlib.Omega.{arith}
-use Rattle.tokens.specs.Reading.{Read, read, then}
+use Rattle.tokens.specs.Descent.{Read, read, then}
 use Rattle.tokens.specs.SingleFault.{lower}
-use Rattle.checking.specs.Seen.{faultOf}
-use Rattle.checking.proofs.SeenLaws.{room, number-made, joined-nothing, joined-made, faulted-stop, faulted-read, faulted-made}
+use Rattle.checking.specs.SightNumber.{faultOf}
+use Rattle.checking.proofs.SightNumberLaws.{room, number-made, joined-nothing, joined-made, faulted-stop, faulted-read, faulted-made}
 use Rattle.checking.proofs.check.join_faults.Statement.{statement}
 use Rattle.checking.proofs.check.join_faults.Tie as tie
 

@@ -9,23 +9,23 @@ use lib.ListN.{getD}
 use Rattle.tokens.specs.Token.{ID, IDS, EQUALS, isId, isWhole}
 use Rattle.checking.specs.Fault.{lineAt}
 use Rattle.tokens.proofs.Between.{tested, no-end}
-use Rattle.checking.proofs.CountLaws.{counts-head}
+use Rattle.checking.proofs.BracketCountLaws.{counts-head}
 use Rattle.checking.proofs.check.line_at.Statement.{statement}
 use Rattle.checking.proofs.check.line_at.Tie as tie
 
 -- behind the first test an id stands at the line's start, which lies inside the code
 module _ (c : tie.Else1) where
-  named : let a = c .before .before .before .before .args in isId (getD (a .code .now) (a .at) 0) ≡ true
+  named : let a = c .before .before .before .before .args in isId (getD (a .set .now) (a .at) 0) ≡ true
   named = tested isId (c .before .before .token-at .ensures .0) (c .before .is-id .ensures) (not-false _ (c .if1 .left))
 
   starts : c .before .before .before .before .args .at < 4130
   starts = let d = c .before .before in omega (arith, d .token-at .ensures .1 (no-end ID IDS (d .token-at .result) (omega arith) (c .before .is-id .ensures) (not-false _ (c .if1 .left))))
 
 -- behind the others = and a number
-equals : (c : tie.Else2) → let a = c .before .before .before .before .before .before .before .args in getD (a .code .now) (a .at + 1) 0 ≡ EQUALS
+equals : (c : tie.Else2) → let a = c .before .before .before .before .before .before .before .args in getD (a .set .now) (a .at + 1) 0 ≡ EQUALS
 equals c = sym (c .before .token-at2 .ensures .0) ∙ c .if2 .left
 
-numbered : (c : tie.Else3) → let a = c .before .before .before .before .before .before .before .before .before .before .before .args in isWhole (getD (a .code .now) (a .at + 2) 0) ≡ true
+numbered : (c : tie.Else3) → let a = c .before .before .before .before .before .before .before .before .before .before .before .args in isWhole (getD (a .set .now) (a .at + 2) 0) ≡ true
 numbered c = tested isWhole (c .before .before .token-at3 .ensures .0) (c .before .is-whole .ensures) (not-false _ (c .if3 .left))
 
 pub line-at-spec : {M : Type 1} → statement M
@@ -60,7 +60,7 @@ line-at-spec =
     let f = w .before .before .before .before in
     let i = f .before .before .before in
     let a = i .before .before .before .before .args in
-    (starts i, counts-head (a .code .now) (a .at) (named i) (equals f) (numbered w)))
+    (starts i, counts-head (a .set .now) (a .at) (named i) (equals f) (numbered w)))
     (λ c κs. search needs)
     (λ c.
     let g = c .before in

@@ -1,6 +1,6 @@
 -- `check::lowest_of` meets its contract: it is what the calls say.
 use borrow.Author.Needs.{needs}
-use Rattle.checking.proofs.SeenLaws.{faultless-seen, lowest-none}
+use Rattle.checking.proofs.SightNumberLaws.{faultless-seen, lowest-none}
 use Rattle.checking.proofs.check.lowest_of.Statement.{statement}
 use Rattle.checking.proofs.check.lowest_of.Tie as tie
 

@@ -5,11 +5,11 @@ use mathlib.Core.Path.{_≡_, sym, ap, _∙_}
 use mathlib.Core.Bool.{true, false}
 use Prim.Native.Nat.{ℕ}
 use lib.Dec.{eqb}
+use Rattle.values.specs.Codes.{tooDeep}
 use Rattle.tokens.specs.Token.{whole, IDS}
-use Rattle.tokens.specs.SingleFault.{tooDeep}
 use Rattle.checking.specs.declared.check.Line.{Line}
 use Rattle.checking.specs.Fault.{numberOf, faultyLine, judged, lineParts}
-use Rattle.checking.specs.Seen.{faulted}
+use Rattle.checking.specs.SightNumber.{faulted}
 use Rattle.checking.proofs.FaultLaws.{parts-end, parts-faulty, parts-good, judged-deep, judged-not}
 use Rattle.checking.proofs.check.parts.Statement.{statement}
 use Rattle.checking.proofs.check.parts.Tie as tie
@@ -17,13 +17,13 @@ use Rattle.checking.proofs.check.parts.Tie as tie
 -- what 5 to 10 tell of the line is told where its brackets are not too many
 module _ (c : tie.After-is-too-deep) where
   told : Line
-  told = let a = c .before .args in lineParts (a .code .now) (a .at) (a .keyword) (a .condition) (a .actions) (faulted (a .a))
+  told = let a = c .before .args in lineParts (a .set .now) (a .at) (a .keyword) (a .condition) (a .actions) (faulted (a .a))
 
-  deep : c .is-too-deep .result ≡ true → faultyLine tooDeep ≡ judged (c .before .args .code .now) (c .before .args .at) told
-  deep h = judged-deep (c .before .args .code .now) (c .before .args .at) told (c .is-too-deep .ensures) h
+  deep : c .is-too-deep .result ≡ true → faultyLine tooDeep ≡ judged (c .before .args .set .now) (c .before .args .at) told
+  deep h = judged-deep (c .before .args .set .now) (c .before .args .at) told (c .is-too-deep .ensures) h
 
-  not-deep : c .is-too-deep .result ≡ false → told ≡ judged (c .before .args .code .now) (c .before .args .at) told
-  not-deep h = judged-not (c .before .args .code .now) (c .before .args .at) told (c .is-too-deep .ensures) h
+  not-deep : c .is-too-deep .result ≡ false → told ≡ judged (c .before .args .set .now) (c .before .args .at) told
+  not-deep h = judged-not (c .before .args .set .now) (c .before .args .at) told (c .is-too-deep .ensures) h
 
 pub parts-spec : {M : Type 1} → statement M
 unfolding told

@@ -1,7 +1,7 @@
 -- `check::refused` meets its contract: 4 comes before 5.
 use borrow.Author.Needs.{needs}
 use mathlib.Core.Path.{_∙_}
-use Rattle.tokens.specs.SingleFault.{notInGrammar}
+use Rattle.values.specs.Codes.{notInGrammar}
 use Rattle.checking.specs.Fault.{faultyLine}
 use Rattle.checking.proofs.FaultLaws.{judged-deep, judged-not}
 use Rattle.checking.proofs.check.refused.Statement.{statement}
@@ -13,6 +13,6 @@ refused-spec =
     (tie.spec
     (λ c κs. search needs)
     (λ c κs. search needs)
-    (λ c. let a = c .before .before .before .before .args in c .faulty .ensures ∙ judged-deep (a .code .now) (a .at) (faultyLine notInGrammar) (c .before .before .opens-too-many .ensures) (c .before .if1 .taken))
+    (λ c. let a = c .before .before .before .before .args in c .faulty .ensures ∙ judged-deep (a .set .now) (a .at) (faultyLine notInGrammar) (c .before .before .opens-too-many .ensures) (c .before .if1 .taken))
     (λ c κs. search needs)
-    (λ c. let a = c .before .before .before .before .args in c .faulty2 .ensures ∙ judged-not (a .code .now) (a .at) (faultyLine notInGrammar) (c .before .before .opens-too-many .ensures) (c .before .if1 .left)))
+    (λ c. let a = c .before .before .before .before .args in c .faulty2 .ensures ∙ judged-not (a .set .now) (a .at) (faultyLine notInGrammar) (c .before .before .opens-too-many .ensures) (c .before .if1 .left)))

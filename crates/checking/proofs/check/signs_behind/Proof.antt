@@ -3,16 +3,16 @@ use borrow.Author.Needs.{needs}
 use native.Mathlib.Omega.{arith}
 use mathlib.Core.Path.{_≡_, refl, sym, _∙_}
 use Prim.Native.Nat.{_+_, _-_, _<_, _≤_}
-use Rattle.checking.specs.Seen.{signsBehind}
+use Rattle.checking.specs.SightNumber.{signsBehind}
 use Rattle.checking.proofs.SignLaws.{behind-none, behind-one, behind-spent}
 use Rattle.checking.proofs.check.signs_behind.Statement.{statement}
 use Rattle.checking.proofs.check.signs_behind.Tie as tie
 
 abbrev Inv-loop : tie.InvT-loop
-Inv-loop code at most n₀ n = (n + signsBehind code (most - n) (at + n) ≡ signsBehind code most at) × ((n ≤ most) × (at + n < 4130))
+Inv-loop tokens at most n₀ n = (n + signsBehind tokens (most - n) (at + n) ≡ signsBehind tokens most at) × ((n ≤ most) × (at + n < 4130))
 
 abbrev μ-loop : tie.MeasureT-loop
-μ-loop code at most n₀ n = most - n
+μ-loop tokens at most n₀ n = most - n
 
 pub signs-behind-spec : {M : Type 1} → statement M
 signs-behind-spec =

@@ -5,8 +5,8 @@ use Prim.Native.Nat.{_+_, _<_}
 use native.Mathlib.Omega.{arith}
 use Rattle.checking.specs.Fault.{sight}
 use Rattle.tokens.proofs.Arms.{yes-truth, no-truth, not-truth}
-use Rattle.checking.proofs.SeenLaws.{seen-nothing, truth-made, seen-truth}
-use Rattle.checking.proofs.CountLaws.{plain-above, counted-none, counted-nothing}
+use Rattle.checking.proofs.SightNumberLaws.{seen-nothing, truth-made, seen-truth}
+use Rattle.checking.proofs.BracketCountLaws.{other-above, counted-none, counted-nothing}
 use Rattle.checking.proofs.check.truth.Statement.{statement}
 use Rattle.checking.proofs.check.truth.Tie as tie
 
@@ -20,13 +20,13 @@ truth-spec =
     (λ c.
     let m : c .before .before .args .at + 1 < 8192 = omega (arith, c .before .before .pre (λ e. omega arith)) in (
       seen-truth {f = 0} {d = 0} _ (omega arith) (omega arith) m (omega arith) (c .truth-seen .ensures) refl ∙ sym (yes-truth _ _ _ _ (c .before .if1 .taken)),
-      (λ g. plain-above _ (omega (arith, c .before .if1 .taken)), counted-none _ _ _ (truth-made {f = 0} {d = 0} _ (omega arith) (omega arith) m (c .truth-seen .ensures) .next)),
+      (λ g. other-above _ (omega (arith, c .before .if1 .taken)), counted-none _ _ _ (truth-made {f = 0} {d = 0} _ (omega arith) (omega arith) m (c .truth-seen .ensures) .next)),
     ))
     (λ c. omega (arith, c .before .before .pre (λ e. omega arith)))
     (λ c κs. search needs)
     (λ c.
     let m : c .before .before .before .args .at + 1 < 8192 = omega (arith, c .before .before .before .pre (λ e. omega arith)) in (
       seen-truth {f = 0} {d = 0} _ (omega arith) (omega arith) m (omega arith) (c .truth-seen2 .ensures) refl ∙ sym (no-truth _ _ _ _ (c .before .if2 .taken)),
-      (λ g. plain-above _ (omega (arith, c .before .if2 .taken)), counted-none _ _ _ (truth-made {f = 0} {d = 0} _ (omega arith) (omega arith) m (c .truth-seen2 .ensures) .next)),
+      (λ g. other-above _ (omega (arith, c .before .if2 .taken)), counted-none _ _ _ (truth-made {f = 0} {d = 0} _ (omega arith) (omega arith) m (c .truth-seen2 .ensures) .next)),
     ))
     (λ c. (seen-nothing ∙ sym (not-truth _ _ _ _ (c .before .if1 .left) (c .if2 .left)), (λ g. absurd (g refl), counted-nothing _ _ refl))))

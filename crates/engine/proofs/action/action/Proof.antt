@@ -5,9 +5,9 @@ use mathlib.Core.Path.{_≡_, refl, sym, _∙_}
 use Prim.Native.Nat.{_<_}
 use native.Mathlib.Omega.{arith}
 use denote.Ref.{now}
-use Rattle.tokens.specs.Reading.{Answer}
+use Rattle.tokens.specs.Descent.{Answer}
 use Rattle.engine.specs.Action.{Did, actionOf, roomForOne}
-use Rattle.engine.proofs.ActionHeldLaws.{same-flags}
+use Rattle.engine.proofs.ActionAnswerLaws.{same-flags}
 use Rattle.engine.proofs.ActionLaws.{no-more, one-fits}
 use Rattle.engine.proofs.action.action.Statement.{statement}
 use Rattle.engine.proofs.action.action.Tie as tie

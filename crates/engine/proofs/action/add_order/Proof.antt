@@ -5,8 +5,8 @@ use Prim.Native.Nat.{_+_, _*_, _≤_}
 use native.Mathlib.Omega.{arith}
 use lib.ListN.{length, take}
 use denote.Ref.{now}
-use Rattle.engine.specs.ActionHeld.{worldOf}
-use Rattle.engine.proofs.ActionHeldLaws.{with-orders}
+use Rattle.engine.specs.ActionAnswers.{worldOf}
+use Rattle.engine.proofs.ActionAnswerLaws.{with-orders}
 use Rattle.engine.proofs.ActionLaws.{one-more}
 use Rattle.engine.proofs.action.add_order.Statement.{statement}
 use Rattle.engine.proofs.action.add_order.Tie as tie

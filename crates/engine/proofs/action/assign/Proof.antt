@@ -7,18 +7,18 @@ use native.Mathlib.Omega.{arith}
 use denote.Ref.{now}
 use mir.Syntax.{w32}
 use Rattle.values.proofs.Signed.{back}
-use Rattle.tokens.specs.Reading.{Answer, good, indexAt}
+use Rattle.tokens.specs.Descent.{Answer, good, indexAt}
 use Rattle.engine.specs.Write.{Vars, writeTo}
 use Rattle.engine.specs.Action.{Taken, takenAt, assignmentOf}
-use Rattle.engine.specs.WriteHeld.{varsOf, IsWritten}
-use Rattle.engine.proofs.ActionHeldLaws.{taken-good, taken-stop, same-flags}
-use Rattle.engine.proofs.WriteHeldLaws.{written-good, written-stop}
+use Rattle.engine.specs.WriteAnswers.{varsOf, IsWritten}
+use Rattle.engine.proofs.ActionAnswerLaws.{taken-good, taken-stop, same-flags}
+use Rattle.engine.proofs.WriteAnswerLaws.{written-good, written-stop}
 use Rattle.engine.proofs.action.assign.Statement.{statement}
 use Rattle.engine.proofs.action.assign.Tie as tie
 
 -- the right side
 abbrev side : tie.After-take → Answer Taken
-side c = let a = c .before .before .before .before .args in takenAt (now (a .code)) (varsOf (now (a .r)) (now (a .cells)) (a .flags .runs)) (a .p + 5)
+side c = let a = c .before .before .before .before .args in takenAt (now (a .set)) (varsOf (now (a .r)) (now (a .cells)) (a .flags .runs)) (a .p + 5)
 
 taken : (c : tie.Else1) → let t = c .before .take in side (c .before) ≡ good (record { value = t .result .value; vars = varsOf (t .last .1 .0) (t .last .1 .1 .0) (c .before .before .before .before .before .args .flags .runs); next = t .result .next })
 taken c = let t = c .before .take in taken-good (t .result) (t .last .1 .0) (t .last .1 .1 .0) (c .before .before .before .before .before .args .flags .runs) (side (c .before)) (t .ensures) (not-false _ (c .if1 .left))
@@ -28,7 +28,7 @@ abbrev wrote : tie.After-write → Answer Vars
 wrote c =
     let t = c .before .before .before .before .before .before .before in
     let a = t .before .before .before .before .args in
-    writeTo (varsOf (t .take .last .1 .0) (t .take .last .1 .1 .0) (a .flags .runs)) (a .w) (indexAt (now (a .code)) (a .w) (a .p)) (t .take .result .value)
+    writeTo (varsOf (t .take .last .1 .0) (t .take .last .1 .1 .0) (a .flags .runs)) (a .w) (indexAt (now (a .set)) (a .w) (a .p)) (t .take .result .value)
 
 written : (c : tie.After-write) → IsWritten (c .write .result) (c .write .last .0) (c .write .last .1 .0) (wrote c)
 written c = rw (c .before .before .index-at .ensures, back w32 (record { sfits = c .before .struct-told .given .1 .1 .0 .1 })) at (c .write .ensures)

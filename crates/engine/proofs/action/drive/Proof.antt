@@ -10,30 +10,30 @@ use denote.Ref.{now}
 use mir.Syntax.{w32}
 use Rattle.engine.specs.declared.order.Order.{Order}
 use Rattle.values.proofs.Signed.{back}
-use Rattle.tokens.specs.Reading.{Answer, good, indexAt}
+use Rattle.tokens.specs.Descent.{Answer, good, indexAt}
 use Rattle.working.specs.Working.{rightValue}
-use Rattle.engine.specs.Action.{fromGot, driveOf}
+use Rattle.engine.specs.Action.{fromValueOrAlarm, driveOf}
 use Rattle.engine.specs.Drive.{driveOrder}
-use Rattle.engine.specs.DriveHeld.{IsOrder}
-use Rattle.engine.proofs.ActionHeldLaws.{worked-good, worked-stop, same-flags}
-use Rattle.engine.proofs.DriveHeldLaws.{order-good, order-stop}
+use Rattle.engine.specs.DriveAnswers.{IsOrder}
+use Rattle.engine.proofs.ActionAnswerLaws.{worked-good, worked-stop, same-flags}
+use Rattle.engine.proofs.DriveAnswerLaws.{order-good, order-stop}
 use Rattle.engine.proofs.action.drive.Statement.{statement}
 use Rattle.engine.proofs.action.drive.Tie as tie
 
 -- the index is a byte
-indexed : (c : tie.Else1) → let a = c .before .before .before .args in ltb 255 (indexAt (now (a .code)) (a .w) (a .p)) ≡ false
+indexed : (c : tie.Else1) → let a = c .before .before .before .args in ltb 255 (indexAt (now (a .set)) (a .w) (a .p)) ≡ false
 indexed c = rw (← c .before .index-at .ensures) (le-ltb _ _ (c .if1 .left))
 
 -- the sum
 abbrev sum : tie.After-work → Answer (ℤ × ℕ)
-sum c = let a = c .before .before .before .before .args in fromGot (rightValue (now (a .code)) (now (a .r)) (now (a .cells)) (a .p + 5))
+sum c = let a = c .before .before .before .before .args in fromValueOrAlarm (rightValue (now (a .set)) (now (a .r)) (now (a .cells)) (a .p + 5))
 
 worked : (c : tie.Else2) → sum (c .before) ≡ good (c .before .work .result .value, c .before .work .result .next)
 worked c = worked-good (c .before .work .result) (sum (c .before)) (c .before .work .ensures) (not-false _ (c .if2 .left))
 
 -- its order
 abbrev order : tie.After-drive-order → Answer Order
-order c = let s = c .before .before .before in let a = s .before .before .before .before .args in driveOrder (a .number) (a .w) (indexAt (now (a .code)) (a .w) (a .p)) (s .work .result .value)
+order c = let s = c .before .before .before in let a = s .before .before .before .before .args in driveOrder (a .number) (a .w) (indexAt (now (a .set)) (a .w) (a .p)) (s .work .result .value)
 
 ordered : (c : tie.After-drive-order) → IsOrder (c .drive-order .result) (order c)
 ordered c =

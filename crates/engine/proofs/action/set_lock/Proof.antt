@@ -4,7 +4,7 @@ use borrow.Author.Tests.{lt-ltb, le-ltb}
 use mathlib.Core.Path.{refl}
 use native.Mathlib.Omega.{arith}
 use Rattle.engine.specs.Action.{lockOf}
-use Rattle.engine.proofs.ActionHeldLaws.{same-flags}
+use Rattle.engine.proofs.ActionAnswerLaws.{same-flags}
 use Rattle.engine.proofs.action.set_lock.Statement.{statement}
 use Rattle.engine.proofs.action.set_lock.Tie as tie
 

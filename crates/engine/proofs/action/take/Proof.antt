@@ -9,30 +9,30 @@ use denote.Ref.{now}
 use mir.Syntax.{w32}
 use Rattle.values.proofs.Signed.{back}
 use Rattle.checking.specs.Fault.{isRemoval}
-use Rattle.tokens.specs.Reading.{Answer}
+use Rattle.tokens.specs.Descent.{Answer}
 use Rattle.working.specs.Working.{rightValue}
 use Rattle.engine.specs.Write.{Changed, changeFifo}
-use Rattle.engine.specs.Action.{fromGot, takenAt}
-use Rattle.engine.specs.WriteHeld.{IsChanged}
-use Rattle.engine.proofs.ActionHeldLaws.{worked-taken}
-use Rattle.engine.proofs.WriteHeldLaws.{changed-good, changed-stop}
+use Rattle.engine.specs.Action.{fromValueOrAlarm, takenAt}
+use Rattle.engine.specs.WriteAnswers.{IsChanged}
+use Rattle.engine.proofs.ActionAnswerLaws.{worked-taken}
+use Rattle.engine.proofs.WriteAnswerLaws.{changed-good, changed-stop}
 use Rattle.engine.proofs.WriteLaws.{oldest-taken}
 use Rattle.engine.proofs.ActionLaws.{removal-fifo}
 use Rattle.engine.proofs.action.take.Statement.{statement}
 use Rattle.engine.proofs.action.take.Tie as tie
 
-removes : (c : tie.Else1) → let a = c .before .before .args in isRemoval (now (a .code)) (a .p) ≡ true
+removes : (c : tie.Else1) → let a = c .before .before .args in isRemoval (now (a .set)) (a .p) ≡ true
 removes c = sym (c .before .is-removal .ensures) ∙ not-false _ (c .if1 .left)
 
 -- the removal
 abbrev removal : tie.After-take-oldest → Answer Changed
-removal c = let a = c .before .before .before .before .before .before .before .args in changeFifo (now (a .r)) (now (a .cells)) 1 (getD (now (a .code)) (a .p) 0) (pos 0)
+removal c = let a = c .before .before .before .before .before .before .before .args in changeFifo (now (a .r)) (now (a .cells)) 1 (getD (now (a .set)) (a .p) 0) (pos 0)
 
 -- what it came to
 changes : (c : tie.After-take-oldest) → IsChanged (c .take-oldest .result) (c .take-oldest .last .0) (c .take-oldest .last .1 .0) (removal c)
 changes c =
     let a = c .before .before .before .before .before .before .before .args in
-    rw (c .before .token-at .ensures .0, oldest-taken (now (a .r)) (now (a .cells)) (getD (now (a .code)) (a .p) 0) (removal-fifo _ _ (removes (c .before .before .before .before .before)))) at (c .take-oldest .ensures)
+    rw (c .before .token-at .ensures .0, oldest-taken (now (a .r)) (now (a .cells)) (getD (now (a .set)) (a .p) 0) (removal-fifo _ _ (removes (c .before .before .before .before .before)))) at (c .take-oldest .ensures)
 
 pub take-spec : {M : Type 1} → statement M
 unfolding takenAt
@@ -45,7 +45,7 @@ take-spec =
     let s = c .before .before .before in
     let a = s .before .before .args in
     simp (takenAt, sym (s .before .is-removal .ensures) ∙ not-true _ (s .if1 .taken))
-    (worked-taken (c .work .result) (now (a .r)) (now (a .cells)) (a .runs) (fromGot (rightValue (now (a .code)) (now (a .r)) (now (a .cells)) (a .p))) (c .work .ensures)))
+    (worked-taken (c .work .result) (now (a .r)) (now (a .cells)) (a .runs) (fromValueOrAlarm (rightValue (now (a .set)) (now (a .r)) (now (a .cells)) (a .p))) (c .work .ensures)))
     (λ c κs. search needs)
     (λ c κs. search needs)
     (λ c. search needs)

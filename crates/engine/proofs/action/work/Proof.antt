@@ -5,7 +5,7 @@ use mathlib.Core.Path.{refl, ap, _∙_}
 use mir.Syntax.{w32}
 use Rattle.values.proofs.Signed.{back}
 use Rattle.engine.specs.Action.{alarmOf}
-use Rattle.engine.proofs.ActionHeldLaws.{got-good, got-stop}
+use Rattle.engine.proofs.ActionAnswerLaws.{value-good, value-stop}
 use Rattle.engine.proofs.action.work.Statement.{statement}
 use Rattle.engine.proofs.action.work.Tie as tie
 
@@ -19,8 +19,8 @@ work-spec =
     (λ c.
     let s = c .before .before in
     let g = s .before .before .right-side in
-    rw (← g .ensures, got-stop (g .result) (not-true _ (s .before .if1 .taken)), c .not-taken .ensures)
+    rw (← g .ensures, value-stop (g .result) (not-true _ (s .before .if1 .taken)), c .not-taken .ensures)
     (refl, c .before .alarm-of .ensures ∙ ap alarmOf (back w32 (record { sfits = s .struct-told .given .1 .0 .1 }))))
     (λ c.
     let g = c .before .before .right-side in
-    rw (← g .ensures, got-good (g .result) (not-false _ (c .before .if1 .left))) (refl, (back w32 (record { sfits = c .struct-told2 .given .1 .0 .1 }), refl))))
+    rw (← g .ensures, value-good (g .result) (not-false _ (c .before .if1 .left))) (refl, (back w32 (record { sfits = c .struct-told2 .given .1 .0 .1 }), refl))))

@@ -2,7 +2,7 @@
 use borrow.Author.Needs.{needs}
 use mathlib.Core.Path.{refl}
 use native.Mathlib.Omega.{arith}
-use Rattle.engine.proofs.ActionHeldLaws.{same-flags}
+use Rattle.engine.proofs.ActionAnswerLaws.{same-flags}
 use Rattle.engine.proofs.ActionsLaws.{no-room, with-room}
 use Rattle.engine.proofs.actions.actions.Statement.{statement}
 use Rattle.engine.proofs.actions.actions.Tie as tie

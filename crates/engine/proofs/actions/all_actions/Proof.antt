@@ -7,32 +7,32 @@ use Prim.Native.Nat.{ℕ, _+_, _≤_}
 use native.Mathlib.Omega.{arith}
 use lib.IntN.{ℤ}
 use denote.Ref.{now}
-use Rattle.tokens.specs.Reading.{Answer, good}
+use Rattle.tokens.specs.Descent.{Answer, good}
 use Rattle.engine.specs.declared.action.Done.{Done}
 use Rattle.engine.specs.Action.{Note, Did, actionOf}
 use Rattle.engine.specs.Actions.{actionsOf}
-use Rattle.engine.specs.ActionHeld.{worldOf, IsDone}
-use Rattle.engine.proofs.ActionHeldLaws.{done-good, done-stop}
+use Rattle.engine.specs.ActionAnswers.{worldOf, IsDone}
+use Rattle.engine.proofs.ActionAnswerLaws.{done-good, done-stop}
 use Rattle.engine.proofs.ActionLaws.{one-fits}
 use Rattle.engine.proofs.ActionsLaws.{came, all-come, acts-stop, acts-end, acts-on, acts-none}
 use Rattle.engine.proofs.actions.all_actions.Statement.{statement}
 use Rattle.engine.proofs.actions.all_actions.Tie as tie
 
 abbrev Inv-loop : tie.InvT-loop
-Inv-loop code numbers cancelled r₀ cells₀ out₀ number p f₀ i₀ left₀ r cells out f i left = (came (actionsOf code numbers cancelled number left (worldOf r cells out f) i) ≡ came (actionsOf code numbers cancelled number 8 (worldOf r₀ cells₀ out₀ f₀) p)) × (f .count + left ≤ f₀ .count + 8) × (f .acted ≡ f₀ .acted)
+Inv-loop tokens numbers cancelled r₀ cells₀ out₀ number p f₀ i₀ left₀ r cells out f i left = (came (actionsOf tokens numbers cancelled number left (worldOf r cells out f) i) ≡ came (actionsOf tokens numbers cancelled number 8 (worldOf r₀ cells₀ out₀ f₀) p)) × (f .count + left ≤ f₀ .count + 8) × (f .acted ≡ f₀ .acted)
 
 abbrev μ-loop : tie.MeasureT-loop
-μ-loop code numbers cancelled r₀ cells₀ out₀ number p f₀ i₀ left₀ r cells out f i left = left
+μ-loop tokens numbers cancelled r₀ cells₀ out₀ number p f₀ i₀ left₀ r cells out f i left = left
 
 -- what is left to do, all of it, and the action of a turn
 abbrev rest : tie.At-loop Inv-loop μ-loop → Answer Did
-rest c = let a = c .before .args in actionsOf (now (a .code)) (now (a .numbers)) (now (a .cancelled)) (a .number) (c .loop .left) (worldOf (c .loop .r) (c .loop .cells) (c .loop .out) (c .loop .f)) (c .loop .i)
+rest c = let a = c .before .args in actionsOf (now (a .set)) (now (a .numbers)) (now (a .cancelled)) (a .number) (c .loop .left) (worldOf (c .loop .r) (c .loop .cells) (c .loop .out) (c .loop .f)) (c .loop .i)
 
 abbrev all : tie.At-loop Inv-loop μ-loop → Answer Did
-all c = let a = c .before .args in actionsOf (now (a .code)) (now (a .numbers)) (now (a .cancelled)) (a .number) 8 (worldOf (now (a .r)) (now (a .cells)) (now (a .out)) (a .flags)) (a .p)
+all c = let a = c .before .args in actionsOf (now (a .set)) (now (a .numbers)) (now (a .cancelled)) (a .number) 8 (worldOf (now (a .r)) (now (a .cells)) (now (a .out)) (a .flags)) (a .p)
 
 abbrev one : tie.At-loop Inv-loop μ-loop → Answer Did
-one c = let a = c .before .args in actionOf (now (a .code)) (now (a .numbers)) (now (a .cancelled)) (a .number) (worldOf (c .loop .r) (c .loop .cells) (c .loop .out) (c .loop .f)) (c .loop .i)
+one c = let a = c .before .args in actionOf (now (a .set)) (now (a .numbers)) (now (a .cancelled)) (a .number) (worldOf (c .loop .r) (c .loop .cells) (c .loop .out) (c .loop .f)) (c .loop .i)
 
 ends : (c : tie.At-loop Inv-loop μ-loop) (x : Done) (r cells : List ℤ) (out : List ℕ) → IsDone x r cells out (rest c) → IsDone x r cells out (all c)
 ends c x r cells out h = all-come x r cells out (rest c) (all c) (c .loop .inv .0) h

@@ -5,7 +5,7 @@ use native.Mathlib.Omega.{arith}
 use mathlib.Core.Path.{_≡_, sym, _∙_}
 use lib.ListN.{length}
 use Rattle.engine.proofs.SetLaws.{sound-count}
-use Rattle.engine.proofs.SoundLaws.{unsound-set, sound-as}
+use Rattle.engine.proofs.SoundTestLaws.{unsound-set, sound-as}
 use Rattle.engine.proofs.CallLaws.{reset-unsound, reset-sound}
 use Rattle.engine.proofs.calls.reset.Statement.{statement}
 use Rattle.engine.proofs.calls.reset.Tie as tie

@@ -3,7 +3,7 @@ use borrow.Author.Needs.{needs}
 use native.Mathlib.Omega.{arith}
 use Prim.Native.Nat.{_<_}
 use Rattle.engine.specs.Calls.{withLocked, lockedCall}
-use Rattle.engine.proofs.FindLaws.{found-below}
+use Rattle.engine.proofs.NamedLineLaws.{found-below}
 use Rattle.engine.proofs.CallLaws.{called-refused, called-done}
 use Rattle.engine.proofs.calls.set_lock.Statement.{statement}
 use Rattle.engine.proofs.calls.set_lock.Tie as tie

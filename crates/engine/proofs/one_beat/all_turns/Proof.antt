@@ -4,10 +4,10 @@ use borrow.Author.Tests.{not-true, not-false}
 use native.Mathlib.Omega.{arith}
 use mathlib.Core.Path.{_∙_}
 use denote.Ref.{now}
-use Rattle.tokens.specs.Reading.{Answer}
+use Rattle.tokens.specs.Descent.{Answer}
 use Rattle.engine.specs.Turn.{Turned, turnsFrom}
 use Rattle.engine.specs.Beat.{begun}
-use Rattle.engine.specs.TurnHeld.{IsTurned}
+use Rattle.engine.specs.TurnAnswers.{IsTurned}
 use Rattle.engine.proofs.TurnLaws.{turned-good, turned-stop, few-lines}
 use Rattle.engine.proofs.CellLaws.{cells-told}
 use Rattle.engine.proofs.BeatLaws.{refuses, answers, writes}

@@ -1,4 +1,4 @@
--- `sound::all_ranged` meets its contract: in the loop what holds from `i` on is what holds of all; SoundLaws has the turn.
+-- `sound::all_ranged` meets its contract: in the loop what holds from `i` on is what holds of all; SoundTestLaws has the turn.
 use borrow.Author.Needs.{needs}
 use borrow.Author.Tests.{not-true, not-false}
 use native.Mathlib.Omega.{arith}
@@ -9,7 +9,7 @@ use mir.Syntax.{w32}
 use Rattle.values.proofs.Signed.{back}
 use Rattle.values.specs.Value.{inRange}
 use Rattle.engine.specs.Sound.{allRanged}
-use Rattle.engine.proofs.SoundLaws.{ranged-not, ranged-on, ranged-none}
+use Rattle.engine.proofs.SoundTestLaws.{ranged-not, ranged-on, ranged-none}
 use Rattle.engine.proofs.sound.all_ranged.Statement.{statement}
 use Rattle.engine.proofs.sound.all_ranged.Tie as tie
 

@@ -1,4 +1,4 @@
--- `sound::all_zero` meets its contract: in the loop what holds from `i` on is what holds of all; SoundLaws has the turn.
+-- `sound::all_zero` meets its contract: in the loop what holds from `i` on is what holds of all; SoundTestLaws has the turn.
 use borrow.Author.Needs.{needs}
 use borrow.Author.Tests.{not-true, not-false}
 use native.Mathlib.Omega.{arith}
@@ -10,7 +10,7 @@ use Rattle.values.proofs.Signed.{back}
 use lib.IntN.{ℤ, pos}
 use Rattle.values.specs.Value.{equalTo}
 use Rattle.engine.specs.Sound.{allZero}
-use Rattle.engine.proofs.SoundLaws.{zero-not, zero-on, zero-none}
+use Rattle.engine.proofs.SoundTestLaws.{zero-not, zero-on, zero-none}
 use Rattle.engine.proofs.sound.all_zero.Statement.{statement}
 use Rattle.engine.proofs.sound.all_zero.Tie as tie
 

@@ -1,4 +1,4 @@
--- `sound::are_cells` meets its contract: in the loop what holds from `i` on is what holds of all; SoundLaws has the turn.
+-- `sound::are_cells` meets its contract: in the loop what holds from `i` on is what holds of all; SoundTestLaws has the turn.
 use borrow.Author.Needs.{needs}
 use borrow.Author.Tests.{not-true, not-false}
 use native.Mathlib.Omega.{arith}
@@ -8,7 +8,7 @@ use lib.ListN.{length, drop}
 use mir.Syntax.{w32}
 use Rattle.values.proofs.Signed.{back}
 use Rattle.engine.specs.Sound.{isCell, areCells}
-use Rattle.engine.proofs.SoundLaws.{cells-not, cells-on, cells-none}
+use Rattle.engine.proofs.SoundTestLaws.{cells-not, cells-on, cells-none}
 use Rattle.engine.proofs.sound.are_cells.Statement.{statement}
 use Rattle.engine.proofs.sound.are_cells.Tie as tie
 

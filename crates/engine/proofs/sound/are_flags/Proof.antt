@@ -1,11 +1,11 @@
--- `sound::are_flags` meets its contract: in the loop the flags from rank `k` on are those of all; SoundLaws has the turn.
+-- `sound::are_flags` meets its contract: in the loop the flags from rank `k` on are those of all; SoundTestLaws has the turn.
 use borrow.Author.Needs.{needs}
 use borrow.Author.Tests.{not-true, not-false}
 use native.Mathlib.Omega.{arith}
 use mathlib.Core.Path.{_≡_, refl, sym, _∙_}
 use Prim.Native.Nat.{_-_, _≤_}
 use Rattle.engine.specs.Sound.{areFlags}
-use Rattle.engine.proofs.SoundLaws.{flags-not, flags-on, flags-none}
+use Rattle.engine.proofs.SoundTestLaws.{flags-not, flags-on, flags-none}
 use Rattle.engine.proofs.sound.are_flags.Statement.{statement}
 use Rattle.engine.proofs.sound.are_flags.Tie as tie
 

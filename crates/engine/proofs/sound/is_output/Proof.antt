@@ -7,7 +7,7 @@ use mir.Syntax.{w32}
 use Rattle.values.proofs.Signed.{back}
 use Rattle.values.specs.Value.{outputOf, codeOf}
 use Rattle.values.specs.declared.arithmetic.Worked.{Worked}
-use Rattle.engine.proofs.SoundLaws.{output-alarm}
+use Rattle.engine.proofs.SoundTestLaws.{output-alarm}
 use Rattle.engine.proofs.sound.is_output.Statement.{statement}
 use Rattle.engine.proofs.sound.is_output.Tie as tie
 

@@ -2,7 +2,7 @@
 use borrow.Author.Needs.{needs}
 use borrow.Author.Tests.{not-true, not-false}
 use mathlib.Core.Path.{sym}
-use Rattle.engine.proofs.SoundLaws.{unsound-set, sound-as}
+use Rattle.engine.proofs.SoundTestLaws.{unsound-set, sound-as}
 use Rattle.engine.proofs.sound.is_sound.Statement.{statement}
 use Rattle.engine.proofs.sound.is_sound.Tie as tie
 

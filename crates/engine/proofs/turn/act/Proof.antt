@@ -6,7 +6,7 @@ use native.Mathlib.Omega.{arith}
 use denote.Ref.{now}
 use Rattle.engine.specs.Actions.{actionsOf}
 use Rattle.engine.specs.Turn.{doTurn, counted}
-use Rattle.engine.specs.ActionHeld.{worldOf}
+use Rattle.engine.specs.ActionAnswers.{worldOf}
 use Rattle.engine.proofs.ActionsLaws.{with-room}
 use Rattle.engine.proofs.TurnLaws.{done-turned}
 use Rattle.engine.proofs.turn.act.Statement.{statement}
@@ -29,7 +29,7 @@ act-spec =
       λ k es automatic e.
           rw (not-false (a .yes) (i .if1 .left))
           (done-turned (d .result) (o .0) (o .1 .0) (o .1 .1 .0)
-          (actionsOf (now (a .code)) (now (a .numbers)) (now (a .cancelled)) (a .l .number) 8 (counted (worldOf (now (a .r)) (now (a .cells)) (now (a .out)) (a .flags)) k) (a .l .actions))
+          (actionsOf (now (a .set)) (now (a .numbers)) (now (a .cancelled)) (a .l .number) 8 (counted (worldOf (now (a .r)) (now (a .cells)) (now (a .out)) (a .flags)) k) (a .l .actions))
           es (rw (with-room (a .flags .count) _ (omega arith), e) at (d .ensures .0))),
       (omega arith, omega (arith, d .ensures .1 .1)),
     )))

@@ -8,33 +8,33 @@ use native.Mathlib.Omega.{arith}
 use lib.IntN.{ℤ}
 use lib.ListN.{getD}
 use denote.Ref.{now}
-use Rattle.tokens.specs.Reading.{Answer, good}
+use Rattle.tokens.specs.Descent.{Answer, good}
 use Rattle.engine.specs.declared.action.Done.{Done}
 use Rattle.engine.specs.Set.{noLine}
 use Rattle.engine.specs.Turn.{Entry, Turned, turnOf, turnsFrom}
-use Rattle.engine.specs.ActionHeld.{worldOf}
-use Rattle.engine.specs.TurnHeld.{IsTurned}
+use Rattle.engine.specs.ActionAnswers.{worldOf}
+use Rattle.engine.specs.TurnAnswers.{IsTurned}
 use Rattle.engine.proofs.TurnLaws.{doubled, room, word-fits, next-bit, passed, turned-good, turned-stop, all-pass, turns-none, turns-stop, turns-on}
 use Rattle.engine.proofs.turn.all_lines.Statement.{statement}
 use Rattle.engine.proofs.turn.all_lines.Tie as tie
 
 abbrev Inv-loop : tie.InvT-loop
-Inv-loop code cancelled automatic r₀ cells₀ out₀ numbers items count f₀ bit₀ k₀ r cells out f bit k =
-    (passed (turnsFrom code numbers cancelled automatic items (count - k) k (worldOf r cells out f)) ≡ passed (turnsFrom code numbers cancelled automatic items count 0 (worldOf r₀ cells₀ out₀ f₀)))
+Inv-loop tokens cancelled automatic r₀ cells₀ out₀ numbers items count f₀ bit₀ k₀ r cells out f bit k =
+    (passed (turnsFrom tokens numbers cancelled automatic items (count - k) k (worldOf r cells out f)) ≡ passed (turnsFrom tokens numbers cancelled automatic items count 0 (worldOf r₀ cells₀ out₀ f₀)))
     × (k ≤ count) × (bit ≡ 2 ^ k) × (f .count ≤ 8 * k) × (f .acted < bit)
 
 abbrev μ-loop : tie.MeasureT-loop
-μ-loop code cancelled automatic r₀ cells₀ out₀ numbers items count f₀ bit₀ k₀ r cells out f bit k = count - k
+μ-loop tokens cancelled automatic r₀ cells₀ out₀ numbers items count f₀ bit₀ k₀ r cells out f bit k = count - k
 
 -- the turns left, all of them, and the turn of a line
 abbrev rest : tie.At-loop Inv-loop μ-loop → Answer Turned
-rest c = let a = c .before .before .before .args in turnsFrom (now (a .code)) (a .lines .numbers) (now (a .cancelled)) (a .automatic) (a .lines .items) (a .lines .count - c .loop .k) (c .loop .k) (worldOf (c .loop .r) (c .loop .cells) (c .loop .out) (c .loop .f))
+rest c = let a = c .before .before .before .args in turnsFrom (now (a .set)) (a .lines .numbers) (now (a .cancelled)) (a .automatic) (a .lines .items) (a .lines .count - c .loop .k) (c .loop .k) (worldOf (c .loop .r) (c .loop .cells) (c .loop .out) (c .loop .f))
 
 abbrev all : tie.At-loop Inv-loop μ-loop → Answer Turned
-all c = let a = c .before .before .before .args in turnsFrom (now (a .code)) (a .lines .numbers) (now (a .cancelled)) (a .automatic) (a .lines .items) (a .lines .count) 0 (worldOf (now (a .r)) (now (a .cells)) (now (a .out)) (a .flags))
+all c = let a = c .before .before .before .args in turnsFrom (now (a .set)) (a .lines .numbers) (now (a .cancelled)) (a .automatic) (a .lines .items) (a .lines .count) 0 (worldOf (now (a .r)) (now (a .cells)) (now (a .out)) (a .flags))
 
 abbrev one : tie.At-loop Inv-loop μ-loop → Answer Turned
-one c = let a = c .before .before .before .args in turnOf (now (a .code)) (a .lines .numbers) (now (a .cancelled)) (a .automatic) (getD (a .lines .items) (c .loop .k) noLine) (c .loop .k) (worldOf (c .loop .r) (c .loop .cells) (c .loop .out) (c .loop .f))
+one c = let a = c .before .before .before .args in turnOf (now (a .set)) (a .lines .numbers) (now (a .cancelled)) (a .automatic) (getD (a .lines .items) (c .loop .k) noLine) (c .loop .k) (worldOf (c .loop .r) (c .loop .cells) (c .loop .out) (c .loop .f))
 
 ends : (c : tie.At-loop Inv-loop μ-loop) (x : Done) (r cells : List ℤ) (out : List ℕ) → IsTurned x r cells out (rest c) → IsTurned x r cells out (all c)
 ends c x r cells out h = all-pass x r cells out (rest c) (all c) (c .loop .inv .0) h

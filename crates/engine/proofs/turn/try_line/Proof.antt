@@ -11,14 +11,14 @@ use denote.Ref.{now}
 use mir.Syntax.{w32}
 use Rattle.values.specs.Value.{equalTo}
 use Rattle.values.proofs.Signed.{back}
-use Rattle.tokens.specs.Reading.{good, stop}
+use Rattle.tokens.specs.Descent.{good, stop}
 use Rattle.working.specs.Operators.{isYes}
 use Rattle.working.specs.Working.{conditionValue}
-use Rattle.engine.specs.Action.{World, alarmOf, fromGot}
+use Rattle.engine.specs.Action.{World, alarmOf, fromValueOrAlarm}
 use Rattle.engine.specs.Turn.{worked}
 use Rattle.engine.specs.Keyword.{tries, acts, remembers}
-use Rattle.engine.specs.ActionHeld.{worldOf}
-use Rattle.engine.proofs.ActionHeldLaws.{got-good, got-stop}
+use Rattle.engine.specs.ActionAnswers.{worldOf}
+use Rattle.engine.proofs.ActionAnswerLaws.{value-good, value-stop}
 use Rattle.engine.proofs.TurnLaws.{room, untried, stops, tried-so}
 use Rattle.engine.proofs.turn.try_line.Statement.{statement}
 use Rattle.engine.proofs.turn.try_line.Tie as tie
@@ -35,11 +35,11 @@ tried : (c : tie.Else1) → let a = c .before .before .before .args in tries (a 
 tried c = sym (c .before .tries-now .ensures) ∙ not-false _ (c .if1 .left)
 
 -- what the condition gave
-gave : (c : tie.Else2) → let g = c .before .condition .result in let a = c .before .before .before .before .before .before .before .args in fromGot (conditionValue (now (a .code)) (now (a .r)) (now (a .cells)) (a .l .condition)) ≡ good (g .value, g .next)
-gave c = rw (← c .before .condition .ensures) (got-good (c .before .condition .result) (not-false _ (c .if2 .left)))
+gave : (c : tie.Else2) → let g = c .before .condition .result in let a = c .before .before .before .before .before .before .before .args in fromValueOrAlarm (conditionValue (now (a .set)) (now (a .r)) (now (a .cells)) (a .l .condition)) ≡ good (g .value, g .next)
+gave c = rw (← c .before .condition .ensures) (value-good (c .before .condition .result) (not-false _ (c .if2 .left)))
 
-failed : (c : tie.Then2) → let a = c .before .before .before .before .before .before .before .args in fromGot (conditionValue (now (a .code)) (now (a .r)) (now (a .cells)) (a .l .condition)) ≡ stop (alarmOf (c .before .condition .result .value))
-failed c = rw (← c .before .condition .ensures) (got-stop (c .before .condition .result) (not-true _ (c .if2 .taken)))
+failed : (c : tie.Then2) → let a = c .before .before .before .before .before .before .before .args in fromValueOrAlarm (conditionValue (now (a .set)) (now (a .r)) (now (a .cells)) (a .l .condition)) ≡ stop (alarmOf (c .before .condition .result .value))
+failed c = rw (← c .before .condition .ensures) (value-stop (c .before .condition .result) (not-true _ (c .if2 .taken)))
 
 yes : (c : tie.After-is-equal) → not (c .is-equal .result) ≡ isYes (c .before .before .before .condition .result .value)
 yes c = ap not (c .is-equal .ensures ∙ ap (λ (z : ℤ). equalTo z (pos 0)) (back w32 (record { sfits = c .before .struct-told2 .given .1 .0 .1 })))
@@ -57,7 +57,7 @@ try-line-spec =
     let n = m .before in
     let s = n .before .before .before in
     let a = s .args in
-    (λ automatic. rw (untried (now (a .code)) (now (a .numbers)) (now (a .cancelled)) automatic (a .l) (a .k) (world s) (not-tried n)) (rw (m .acts-now .ensures) at (c .act .ensures .0 (a .k) [] automatic (s .pre .1 .0))), c .act .ensures .1))
+    (λ automatic. rw (untried (now (a .set)) (now (a .numbers)) (now (a .cancelled)) automatic (a .l) (a .k) (world s) (not-tried n)) (rw (m .acts-now .ensures) at (c .act .ensures .0 (a .k) [] automatic (s .pre .1 .0))), c .act .ensures .1))
     (λ c κs. search needs)
     (λ c κs. search needs)
     (λ c κs. search needs)
@@ -66,7 +66,7 @@ try-line-spec =
     let n = i .before .before .before .before in
     let s = n .before .before .before in
     let a = s .args in
-    (λ automatic. rw (stops (now (a .code)) (now (a .numbers)) (now (a .cancelled)) automatic (a .l) (a .k) (world s) (tried n) (failed i), c .not-done .ensures) (refl, c .before .alarm-of .ensures ∙ ap alarmOf (back w32 (record { sfits = c .before .before .struct-told .given .1 .0 .1 }))), rw (c .not-done .ensures) (omega arith, omega arith)))
+    (λ automatic. rw (stops (now (a .set)) (now (a .numbers)) (now (a .cancelled)) automatic (a .l) (a .k) (world s) (tried n) (failed i), c .not-done .ensures) (refl, c .before .alarm-of .ensures ∙ ap alarmOf (back w32 (record { sfits = c .before .before .struct-told .given .1 .0 .1 }))), rw (c .not-done .ensures) (omega arith, omega arith)))
     (λ c κs. search needs)
     (λ c κs. search needs)
     (λ c. search needs)
@@ -83,4 +83,4 @@ try-line-spec =
     let y = yes q in
     let u = j .acts-now2 .ensures ∙ ap (acts (a .l .keyword) (getD (a .flags .memory) (a .k) false)) y in
     let v = m .remembers-now .ensures ∙ ap (remembers (a .l .keyword) (getD (a .flags .memory) (a .k) false)) y in
-    (λ automatic. rw (tried-so (now (a .code)) (now (a .numbers)) (now (a .cancelled)) automatic (a .l) (a .k) (world s) (tried n) (gave i)) (rw (u, v) at (c .act2 .ensures .0 (a .k) (worked (a .k) (isYes (i .before .condition .result .value)) ∷ []) automatic (s .pre .1 .0))), c .act2 .ensures .1)))
+    (λ automatic. rw (tried-so (now (a .set)) (now (a .numbers)) (now (a .cancelled)) automatic (a .l) (a .k) (world s) (tried n) (gave i)) (rw (u, v) at (c .act2 .ensures .0 (a .k) (worked (a .k) (isYes (i .before .condition .result .value)) ∷ []) automatic (s .pre .1 .0))), c .act2 .ensures .1)))

@@ -10,7 +10,7 @@ use Rattle.values.proofs.Signed.{back}
 use Rattle.tokens.specs.Index.{isInside}
 use Rattle.tokens.proofs.Indices.{last-inside}
 use Rattle.engine.specs.Write.{writeCell, writeInside, writeTo}
-use Rattle.engine.proofs.WriteHeldLaws.{celled-written}
+use Rattle.engine.proofs.WriteAnswerLaws.{celled-written}
 use Rattle.engine.proofs.write.write.Statement.{statement}
 use Rattle.engine.proofs.write.write.Tie as tie
 

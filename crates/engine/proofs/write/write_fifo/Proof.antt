@@ -5,10 +5,10 @@ use mathlib.Core.Path.{refl}
 use denote.Ref.{now}
 use mir.Syntax.{w32}
 use Rattle.values.proofs.Signed.{back}
-use Rattle.tokens.specs.Reading.{Answer}
+use Rattle.tokens.specs.Descent.{Answer}
 use Rattle.engine.specs.Write.{Changed, changeFifo, writeFifo}
-use Rattle.engine.specs.WriteHeld.{IsChanged}
-use Rattle.engine.proofs.WriteHeldLaws.{changed-good, changed-stop}
+use Rattle.engine.specs.WriteAnswers.{IsChanged}
+use Rattle.engine.proofs.WriteAnswerLaws.{changed-good, changed-stop}
 use Rattle.engine.proofs.write.write_fifo.Statement.{statement}
 use Rattle.engine.proofs.write.write_fifo.Tie as tie
 

@@ -9,9 +9,9 @@ use lib.ListN.{length}
 use denote.Ref.{now}
 use Rattle.tokens.specs.Token.{setSize}
 use Rattle.text.specs.Tokens.{Tokens}
-use Rattle.reader.specs.declared.put.Written.{Written}
-use Rattle.reader.specs.LineTokens.{tokensAt}
-use Rattle.reader.specs.LineTokensLaws.{good-fits}
+use Rattle.reader.specs.declared.line_tokens.Written.{Written}
+use Rattle.reader.specs.StoredTokens.{tokensAt}
+use Rattle.reader.specs.StoredTokensLaws.{good-fits}
 use Rattle.reader.proofs.DraftLaws.{added-many, added-bad, added-kept}
 use Rattle.reader.proofs.draft.add_line.Statement.{statement}
 use Rattle.reader.proofs.draft.add_line.Tie as tie

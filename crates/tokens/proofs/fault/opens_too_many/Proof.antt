@@ -14,10 +14,10 @@ use Rattle.tokens.proofs.fault.opens_too_many.Statement.{statement}
 use Rattle.tokens.proofs.fault.opens_too_many.Tie as tie
 
 abbrev Inv-loop : tie.InvT-loop
-Inv-loop code at open₀ i₀ «open» i = opensTooMany (drop i code) «open» ≡ opensTooMany (drop at code) 0
+Inv-loop tokens at open₀ i₀ «open» i = opensTooMany (drop i tokens) «open» ≡ opensTooMany (drop at tokens) 0
 
 abbrev μ-loop : tie.MeasureT-loop
-μ-loop code at open₀ i₀ «open» i = length code - i
+μ-loop tokens at open₀ i₀ «open» i = length tokens - i
 
 -- a bracket that is not ( is )
 closes : (t : ℕ) {o : Bool} → o ≡ isBracket t → o ≡ true → (t ≡ 12 → ⊥) → t ≡ 13

@@ -3,7 +3,7 @@ use borrow.Author.Needs.{needs}
 use mathlib.Core.Path.{sym, ap, _∙_}
 use native.Mathlib.Omega.{arith}
 use lib.ListN.{List·getD-eq-default}
-use Rattle.tokens.specs.Reading.{indexOf, indexAt}
+use Rattle.tokens.specs.Descent.{indexOf, indexAt}
 use Rattle.tokens.proofs.token.index_at.Statement.{statement}
 use Rattle.tokens.proofs.token.index_at.Tie as tie
 
@@ -13,7 +13,7 @@ index-at-spec =
     tie.close
     (tie.spec
     (λ c κs. search needs)
-    (λ c. c .index-of .ensures ∙ ap (indexOf _) (sym (List·getD-eq-default (c .before .before .before .args .code .now) 0 (omega arith))))
+    (λ c. c .index-of .ensures ∙ ap (indexOf _) (sym (List·getD-eq-default (c .before .before .before .args .set .now) 0 (omega arith))))
     (λ c. search needs)
     (λ c κs. search needs)
     (λ c κs. search needs)

@@ -2,7 +2,7 @@
 use borrow.Author.Needs.{needs}
 use borrow.Author.Tests.{le-leb, lt-leb}
 use native.Mathlib.Omega.{arith}
-use Rattle.tokens.specs.Reading.{indexOf}
+use Rattle.tokens.specs.Descent.{indexOf}
 use Rattle.tokens.proofs.token.index_of.Statement.{statement}
 use Rattle.tokens.proofs.token.index_of.Tie as tie
 

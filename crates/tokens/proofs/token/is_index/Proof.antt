@@ -1,7 +1,7 @@
 -- `token::is_index` meets its contract: each return by the tests that led to it.
 use borrow.Author.Needs.{needs}
 use borrow.Author.Tests.{le-leb, lt-leb}
-use Rattle.tokens.specs.Reading.{isIndex}
+use Rattle.tokens.specs.Descent.{isIndex}
 use Rattle.tokens.proofs.token.is_index.Statement.{statement}
 use Rattle.tokens.proofs.token.is_index.Tie as tie
 

@@ -5,7 +5,7 @@ use mathlib.Core.Path.{sym, ap, _∙_}
 use Prim.Native.Nat.{_+_}
 use native.Mathlib.Omega.{arith}
 use lib.ListN.{List·getD-eq-default}
-use Rattle.tokens.specs.Reading.{isIndex, isIndexed}
+use Rattle.tokens.specs.Descent.{isIndex, isIndexed}
 use Rattle.tokens.proofs.token.is_indexed.Statement.{statement}
 use Rattle.tokens.proofs.token.is_indexed.Tie as tie
 
@@ -14,7 +14,7 @@ unfolding isIndexed
 is-indexed-spec =
     tie.close
     (tie.spec
-    (λ c. rw (List·getD-eq-default (c .before .before .args .code .now) 0 {n = c .before .before .args .at + 1} (omega arith)))
+    (λ c. rw (List·getD-eq-default (c .before .before .args .set .now) 0 {n = c .before .before .args .at + 1} (omega arith)))
     (λ c. search needs)
     (λ c κs. search needs)
     (λ c. simp (ne-eqb _ _ (λ e. c .if2 .taken (c .before .token-at .ensures .0 ∙ e))))

@@ -12,4 +12,4 @@ token-at-spec =
     (λ c. search needs)
     (λ c. search needs)
     (λ c. search needs)
-    (λ c. (sym (List·getD-eq-default (c .before .args .code .now) 0 (c .if1 .left)), λ ne. absurd (ne refl))))
+    (λ c. (sym (List·getD-eq-default (c .before .args .set .now) 0 (c .if1 .left)), λ ne. absurd (ne refl))))

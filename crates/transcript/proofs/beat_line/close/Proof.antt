@@ -1,7 +1,7 @@
 -- `beat_line::close` meets its contract: each return by the tests that led to it.
 use borrow.Author.Needs.{needs}
 use borrow.Author.Tests.{eq-eqb, ne-eqb}
-use Rattle.transcript.specs.BeatLineReading.{closed}
+use Rattle.transcript.specs.HalfLine.{closed}
 use Rattle.transcript.proofs.beat_line.close.Statement.{statement}
 use Rattle.transcript.proofs.beat_line.close.Tie as tie
 

@@ -2,7 +2,7 @@
 use borrow.Author.Needs.{needs}
 use native.Mathlib.Omega.{arith}
 use Rattle.tokens.proofs.Between.{inside}
-use Rattle.transcript.specs.BeatLineReading.{digitByte}
+use Rattle.transcript.specs.HalfLine.{digitByte}
 use Rattle.transcript.proofs.beat_line.digit_byte.Statement.{statement}
 use Rattle.transcript.proofs.beat_line.digit_byte.Tie as tie
 

@@ -2,7 +2,7 @@
 use borrow.Author.Needs.{needs}
 use borrow.Author.Tests.{eq-eqb, ne-eqb}
 use mathlib.Core.Path.{sym, _∙_}
-use Rattle.transcript.specs.BeatLineReading.{fieldByte}
+use Rattle.transcript.specs.HalfLine.{fieldByte}
 use Rattle.transcript.proofs.beat_line.field_byte.Statement.{statement}
 use Rattle.transcript.proofs.beat_line.field_byte.Tie as tie
 

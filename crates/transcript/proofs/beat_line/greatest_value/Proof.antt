@@ -1,6 +1,6 @@
 -- `beat_line::greatest_value` meets its contract: each return by the tests that led to it.
 use borrow.Author.Tests.{eq-eqb, ne-eqb}
-use Rattle.transcript.specs.BeatLineReading.{greatest}
+use Rattle.transcript.specs.HalfLine.{greatest}
 use Rattle.transcript.proofs.beat_line.greatest_value.Statement.{statement}
 use Rattle.transcript.proofs.beat_line.greatest_value.Tie as tie
 

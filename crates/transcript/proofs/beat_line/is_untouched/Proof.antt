@@ -1,6 +1,6 @@
 -- `beat_line::is_untouched` meets its contract: each return by the tests that led to it.
 use borrow.Author.Tests.{eq-eqb, ne-eqb}
-use Rattle.transcript.specs.BeatLineReading.{isUntouched}
+use Rattle.transcript.specs.HalfLine.{isUntouched}
 use Rattle.transcript.proofs.beat_line.is_untouched.Statement.{statement}
 use Rattle.transcript.proofs.beat_line.is_untouched.Tie as tie
 

@@ -1,7 +1,7 @@
 -- `beat_line::minus_byte` meets its contract: each return by the tests that led to it.
 use borrow.Author.Needs.{needs}
 use borrow.Author.Tests.{eq-eqb, ne-eqb, le-leb, lt-leb}
-use Rattle.transcript.specs.BeatLineReading.{minusByte}
+use Rattle.transcript.specs.HalfLine.{minusByte}
 use Rattle.transcript.proofs.beat_line.minus_byte.Statement.{statement}
 use Rattle.transcript.proofs.beat_line.minus_byte.Tie as tie
 

@@ -1,7 +1,7 @@
 -- `beat_line::mode_byte` meets its contract: each return by the tests that led to it.
 use borrow.Author.Needs.{needs}
 use borrow.Author.Tests.{eq-eqb, ne-eqb}
-use Rattle.transcript.specs.BeatLineReading.{modeByte}
+use Rattle.transcript.specs.HalfLine.{modeByte}
 use Rattle.transcript.proofs.beat_line.mode_byte.Statement.{statement}
 use Rattle.transcript.proofs.beat_line.mode_byte.Tie as tie
 

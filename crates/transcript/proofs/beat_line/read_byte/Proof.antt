@@ -1,7 +1,7 @@
 -- `beat_line::read_byte` meets its contract: each return by the tests that led to it.
 use borrow.Author.Needs.{needs}
 use borrow.Author.Tests.{eq-eqb, ne-eqb, le-leb, lt-leb}
-use Rattle.transcript.specs.BeatLineReading.{readByte}
+use Rattle.transcript.specs.HalfLine.{readByte}
 use Rattle.transcript.proofs.beat_line.read_byte.Statement.{statement}
 use Rattle.transcript.proofs.beat_line.read_byte.Tie as tie
 

@@ -4,7 +4,7 @@ use native.Mathlib.Omega.{arith}
 use mathlib.Core.Path.{_≡_, refl, sym, _∙_}
 use Prim.Native.Nat.{_-_, _≤_}
 use lib.ListN.{length, drop}
-use Rattle.transcript.specs.BeatLineReading.{readOn}
+use Rattle.transcript.specs.HalfLine.{readOn}
 use Rattle.transcript.proofs.BeatLineLaws.{read-next, read-none}
 use Rattle.transcript.proofs.beat_line.read_bytes.Statement.{statement}
 use Rattle.transcript.proofs.beat_line.read_bytes.Tie as tie

@@ -1,7 +1,7 @@
 -- `beat_line::space_after` meets its contract: each return by the tests that led to it.
 use borrow.Author.Needs.{needs}
 use borrow.Author.Tests.{eq-eqb, ne-eqb, lt-ltb, le-ltb}
-use Rattle.transcript.specs.BeatLineReading.{spaceAfter}
+use Rattle.transcript.specs.HalfLine.{spaceAfter}
 use Rattle.transcript.proofs.beat_line.space_after.Statement.{statement}
 use Rattle.transcript.proofs.beat_line.space_after.Tie as tie
 

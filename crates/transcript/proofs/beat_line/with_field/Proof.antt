@@ -7,7 +7,7 @@ use mir.Syntax.{w32}
 use mir.ValLaws.{toZ-pos}
 use Rattle.values.proofs.Signed.{back}
 use Prim.Native.Nat.{_≤_, _<_}
-use Rattle.transcript.specs.BeatLineReading.{greatest, withField}
+use Rattle.transcript.specs.HalfLine.{greatest, withField}
 use Rattle.transcript.proofs.BeatLineLaws.{word-bound, negative-bound, positive-bound, with-number}
 use Rattle.transcript.proofs.beat_line.with_field.Statement.{statement}
 use Rattle.transcript.proofs.beat_line.with_field.Tie as tie

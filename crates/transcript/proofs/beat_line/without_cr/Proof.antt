@@ -1,7 +1,7 @@
 -- `beat_line::without_cr` meets its contract: each return by the tests that led to it.
 use borrow.Author.Needs.{needs}
 use borrow.Author.Tests.{eq-eqb, ne-eqb}
-use Rattle.transcript.specs.BeatLineReading.{withoutCR}
+use Rattle.transcript.specs.HalfLine.{withoutCR}
 use Rattle.transcript.proofs.beat_line.without_cr.Statement.{statement}
 use Rattle.transcript.proofs.beat_line.without_cr.Tie as tie
 

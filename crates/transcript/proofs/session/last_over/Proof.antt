@@ -2,7 +2,7 @@
 use borrow.Author.Needs.{needs}
 use native.Mathlib.Omega.{arith}
 use denote.Ref.{now}
-use Rattle.transcript.specs.SessionHeld.{machineOf}
+use Rattle.transcript.specs.SessionAnswers.{machineOf}
 use Rattle.transcript.specs.SessionRoomLaws.{beat-end-room}
 use Rattle.transcript.proofs.OutLaws.{put-both, reached}
 use Rattle.transcript.proofs.TestLaws.{put-as}
@@ -23,7 +23,7 @@ last-over-spec =
     let b = i .before .before .before .before in
     let f = b .beat-end .ensures t in
     let a = b .before .before .before .args in
-    let r = beat-end-room (machineOf t (now (a .set)) (a .session)) (a .reading) in
+    let r = beat-end-room (machineOf t (now (a .set)) (a .session)) (a .half) in
     put-as (last-beats _ _ (f .machine) (i .if1 .taken)) (put-both (f .output) (reached _ _ (p .put-end .ensures) (omega (arith, f .output .behind, r)))))
     (λ c. search needs)
     (λ c t.

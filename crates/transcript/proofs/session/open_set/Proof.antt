@@ -22,4 +22,4 @@ open-set-spec =
     (λ c m.
     let i = c .before in
     let l = i .before .load in
-    fed (opens m _ _ _ (l .ensures .0) (l .ensures .1) (i .if1 .left) (c .no-reading .ensures)) put-nothing))
+    fed (opens m _ _ _ (l .ensures .0) (l .ensures .1) (i .if1 .left) (c .no-half-line .ensures)) put-nothing))

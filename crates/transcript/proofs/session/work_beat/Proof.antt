@@ -1,6 +1,6 @@
 -- `session::work_beat` meets its contract: what the beat comes to, and END behind the last.
 use borrow.Author.Needs.{needs}
-use Rattle.transcript.specs.Told.{lentIn}
+use Rattle.transcript.specs.MaybeLent.{lentIn}
 use Rattle.transcript.proofs.StepLaws.{fed, end-near, beat-last, beat-more}
 use Rattle.transcript.proofs.OutLaws.{put-both, reached}
 use Rattle.transcript.proofs.session.work_beat.Statement.{statement}
@@ -20,12 +20,12 @@ work-beat-spec =
     let r = i .before .before in
     let b = r .before .before .before .before in
     let a = b .before .before .before .before in
-    let l = lentIn (a .args .told) in
-    fed (beat-last t _ _ l _ (a .pre .0) (a .pre .1) (b .tally-beat .ensures .0) (r .no-reading .ensures) (i .if1 .taken))
+    let l = lentIn (a .args .lent) in
+    fed (beat-last t _ _ l _ (a .pre .0) (a .pre .1) (b .tally-beat .ensures .0) (r .no-half-line .ensures) (i .if1 .taken))
     (put-both (b .tally-beat .ensures .1) (reached _ _ (e .put-end .ensures) (end-near t _ _ l _ (a .pre .0) (a .pre .1) (b .tally-beat .ensures .1)))))
     (λ c. search needs)
     (λ c t.
     let r = c .before .before in
     let b = r .before .before .before .before in
     let a = b .before .before .before .before in
-    fed (beat-more t _ _ (lentIn (a .args .told)) _ (a .pre .0) (a .pre .1) (b .tally-beat .ensures .0) (r .no-reading .ensures) (c .if1 .left)) (b .tally-beat .ensures .1)))
+    fed (beat-more t _ _ (lentIn (a .args .lent)) _ (a .pre .0) (a .pre .1) (b .tally-beat .ensures .0) (r .no-half-line .ensures) (c .if1 .left)) (b .tally-beat .ensures .1)))

@@ -6,7 +6,7 @@ use mathlib.Core.Path.{_≡_, sym, _∙_}
 use mathlib.Core.Bool.{true}
 use Prim.Native.Nat.{_+_}
 use denote.Ref.{now}
-use Rattle.transcript.specs.Told.{lentIn}
+use Rattle.transcript.specs.MaybeLent.{lentIn}
 use Rattle.transcript.specs.Output.{codeLine}
 use Rattle.transcript.proofs.OutLaws.{reached}
 use Rattle.transcript.specs.Totals.{isTaken}
@@ -29,7 +29,7 @@ tally-beat-spec =
     (λ c κs. search needs)
     (λ c.
     let b = c .before .before .before in
-    beat-passed _ _ (lentIn (b .before .before .before .before .before .before .args .told)) _ (b .beat .ensures .0) (sym (c .before .is-taken .ensures) ∙ not-true _ (c .if1 .taken)))
+    beat-passed _ _ (lentIn (b .before .before .before .before .before .before .args .lent)) _ (b .beat .ensures .0) (sym (c .before .is-taken .ensures) ∙ not-true _ (c .if1 .taken)))
     (λ c. let f = taken-parts _ _ _ (taken (c .before .before)) .2 in omega (arith, f .beats))
     (λ c κs. search needs)
     (λ c. search needs)
@@ -45,4 +45,4 @@ tally-beat-spec =
     let w = taken-parts _ _ _ (taken i) .1 in
     let code = reached (a .at) (codeLine (a .totals .beats + 1) (b .beat .result .code) (b .beat .result .orders)) (l .code-line .ensures .0) (omega (arith, w)) in
     let orders = reached _ _ (o .order-lines .ensures .0) (omega (arith, w, l .code-line .ensures .1)) in
-    beat-put (now (a .set)) (a .totals) (lentIn (a .told)) (a .at) (b .beat .ensures .0) (b .beat .ensures .1) (taken i) (c .count .ensures) code orders))
+    beat-put (now (a .set)) (a .totals) (lentIn (a .lent)) (a .at) (b .beat .ensures .0) (b .beat .ensures .1) (taken i) (c .count .ensures) code orders))

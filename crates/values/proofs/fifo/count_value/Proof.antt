@@ -7,7 +7,7 @@ use lib.IntN.{pos}
 use mir.Syntax.{w32}
 use mir.Val.{SFits, toZ}
 use mir.ValLaws.{toZ-pos}
-use Rattle.values.specs.declared.fifo.Seen.the-variants as S
+use Rattle.values.specs.declared.fifo.FifoValue.the-variants as S
 use Rattle.values.specs.Value.{unit}
 use Rattle.values.specs.Fifo.{countOf}
 use Rattle.values.proofs.Signed.{back}

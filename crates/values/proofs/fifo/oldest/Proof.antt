@@ -4,7 +4,7 @@ use borrow.Author.Tests.{eq-eqb, ne-eqb}
 use mathlib.Core.Path.{ap}
 use native.Mathlib.Omega.{arith}
 use mir.Syntax.{w32}
-use Rattle.values.specs.declared.fifo.Seen.the-variants as S
+use Rattle.values.specs.declared.fifo.FifoValue.the-variants as S
 use Rattle.values.specs.Fifo.{oldestOf}
 use Rattle.values.proofs.Signed.{back}
 use Rattle.values.proofs.Fit.{unfit, fit, bounds}

@@ -2,7 +2,7 @@
 use borrow.Author.Needs.{needs}
 use borrow.Author.Tests.{ne-eqb}
 use mathlib.Core.Path.{ap, _∙_}
-use Rattle.working.specs.Variables.{fromSeen, fifoValue}
+use Rattle.working.specs.Variables.{fromFifoValue, fifoValue}
 use Rattle.working.proofs.variables.fifo_value.Statement.{statement}
 use Rattle.working.proofs.variables.fifo_value.Tie as tie
 
@@ -13,16 +13,16 @@ fifo-value-spec =
     (tie.spec
     (λ c κs. search needs)
     (λ c κs. search needs)
-    (λ c. rw (c .before .before .if1 .taken) (c .from-seen .ensures ∙ ap fromSeen (c .before .oldest .ensures)))
+    (λ c. rw (c .before .before .if1 .taken) (c .from-fifo-value .ensures ∙ ap fromFifoValue (c .before .oldest .ensures)))
     (λ c κs. search needs)
     (λ c κs. search needs)
-    (λ c. rw (c .before .before .if2 .taken) (c .from-seen2 .ensures ∙ ap fromSeen (c .before .newest .ensures)))
+    (λ c. rw (c .before .before .if2 .taken) (c .from-fifo-value2 .ensures ∙ ap fromFifoValue (c .before .newest .ensures)))
     (λ c κs. search needs)
     (λ c κs. search needs)
-    (λ c. rw (c .before .before .if3 .taken) (c .from-seen3 .ensures ∙ ap fromSeen (c .before .total .ensures)))
+    (λ c. rw (c .before .before .if3 .taken) (c .from-fifo-value3 .ensures ∙ ap fromFifoValue (c .before .total .ensures)))
     (λ c κs. search needs)
     (λ c κs. search needs)
-    (λ c. rw (c .before .before .if4 .taken) (c .from-seen4 .ensures ∙ ap fromSeen (c .before .count-value .ensures)))
+    (λ c. rw (c .before .before .if4 .taken) (c .from-fifo-value4 .ensures ∙ ap fromFifoValue (c .before .count-value .ensures)))
     (λ c.
     let d = c .before .before in
     simp (fifoValue, ne-eqb _ _ (c .if4 .left), ne-eqb _ _ (c .before .if3 .left), ne-eqb _ _ (d .if2 .left), ne-eqb _ _ (d .before .if1 .left))))

@@ -1,0 +1,208 @@
+-- Laws on what the check sees as one number: what it says by the test of the code, and what was made into a number is seen again; its end and depth; what has no fault; faults alone; what the operators of each level join.
+use mathlib.Core.Path.{_≡_, refl, sym, ap, _∙_}
+use mathlib.Core.Bool.{Bool, true, false, cond, not, _||_}
+use Prim.Native.Nat.{ℕ, _+_, _/_, _%_, _<_, _≤_}
+use native.Mathlib.Omega.{arith}
+use lib.Dec.{eqb}
+use borrow.Author.Tests.{eqb-true, eq-eqb, ne-eqb}
+use Rattle.values.specs.Codes.{notInGrammar}
+use Rattle.tokens.specs.Token.{setSize, SAME, ATLEAST, PLUS, MINUS, TIMES, OVER, AND, XOR, isFactor, isTerm, isCompare, isLogic}
+use Rattle.tokens.specs.Descent.{Read, read, ends, then}
+use Rattle.tokens.specs.SingleFault.{lower, wantingFault}
+use Rattle.tokens.proofs.AnswerLaws as answers
+use Rattle.tokens.proofs.Between.{inside, outside}
+use Rattle.checking.specs.Fault.{Sight, joinSights, faultFor, lowest}
+use Rattle.checking.specs.SightNumber.{numberSeen, truthSeen, nextOf, truthOf, faultOf, depthOf, deeperOf, isFaultless, sightOf, seen, faulted, signedSight}
+use Rattle.checking.specs.Brackets.{SameEnd, Joined}
+
+-- the number w, whose next place is i
+module _ (w : ℕ) {i : ℕ} (e : i ≡ nextOf w) where
+  pub room : i < 8192
+  room = omega arith
+
+  pub seen-stop : i ≡ 0 → seen w ≡ ends notInGrammar
+  unfolding seen
+  seen-stop h = simp (seen, eq-eqb (nextOf w) 0 (sym e ∙ h))
+
+  pub seen-read : (i ≡ 0 → ⊥) → seen w ≡ read (sightOf w) i
+  unfolding seen
+  seen-read h = rw e (simp (seen, ne-eqb (nextOf w) 0 (λ z. h (e ∙ z))))
+
+  -- what ends the reading passes through a step
+  pub passes : (f : Sight → ℕ → Read Sight) → i ≡ 0 → seen w ≡ then (seen w) f
+  passes f h = answers.passes f (seen-stop h)
+
+  -- what is seen goes into a step
+  pub enters : (f : Sight → ℕ → Read Sight) {x : Read Sight} → (i ≡ 0 → ⊥) → x ≡ f (sightOf w) i → x ≡ then (seen w) f
+  enters f h k = answers.enters f (seen-read h) k
+
+-- not in the grammar
+pub seen-nothing : seen 0 ≡ ends notInGrammar
+unfolding seen
+seen-nothing = refl
+
+seen-as : (w p f : ℕ) {t : Bool} → p ≡ nextOf w → 0 < p → truthOf w ≡ t → faultOf w ≡ f → seen w ≡ read (record { truth = t; fault = f }) p
+seen-as w p f e l g h = rw (sym g, sym h) (seen-read w e (λ z. omega arith))
+
+-- x is made of the fault f, the depth d and the place p
+pub record Made (f d p x : ℕ) : Type 0 where
+  pub next : nextOf x ≡ p
+  pub fault : faultOf x ≡ f
+  pub depth : depthOf x ≡ d
+
+module _ {f d : ℕ} (p : ℕ) {x : ℕ} (b : f < 256) (c : d < 256) (m : p < 8192) where
+  pub number-made : x ≡ numberSeen f d p → Made f d p x
+  number-made e = record { next = omega arith; fault = omega arith; depth = omega arith }
+
+  pub truth-made : x ≡ truthSeen f d p → Made f d p x
+  truth-made e = record { next = omega arith; fault = omega arith; depth = omega arith }
+
+  -- f is g
+  module _ {g : ℕ} (l : 0 < p) where
+    pub seen-number : x ≡ numberSeen f d p → f ≡ g → seen x ≡ read (record { truth = false; fault = g }) p
+    seen-number e h = let k = number-made e in seen-as x p g (sym (k .next)) l (ne-eqb (x / 8192 % 2) 1 (λ z. omega arith)) (k .fault ∙ h)
+
+    pub seen-truth : x ≡ truthSeen f d p → f ≡ g → seen x ≡ read (record { truth = true; fault = g }) p
+    seen-truth e h = let k = truth-made e in seen-as x p g (sym (k .next)) l (eq-eqb (x / 8192 % 2) 1 (omega arith)) (k .fault ∙ h)
+
+-- one more is the next place; and one bracket more goes deeper
+module _ (w : ℕ) {i : ℕ} (e : i ≡ nextOf w) (l : i < setSize) where
+  pub seen-next : seen (w + 1) ≡ read (sightOf w) (i + 1)
+  seen-next =
+      let b : (w + 1) / 8192 ≡ w / 8192 = omega arith in
+      let c : (w + 1) / 16384 ≡ w / 16384 = omega arith in
+      seen-as (w + 1) (i + 1) (faultOf w) (omega arith) (omega arith) (ap (λ (n : ℕ). eqb (n % 2) 1) b) (ap (λ (n : ℕ). n % 256) c)
+
+  pub next-made : Made (faultOf w) (depthOf w) (i + 1) (w + 1)
+  next-made = record { next = omega arith; fault = omega arith; depth = omega arith }
+
+  pub seen-deeper : seen (w + 4194304 + 1) ≡ read (sightOf w) (i + 1)
+  seen-deeper =
+      let b : (w + 4194304 + 1) / 8192 % 2 ≡ w / 8192 % 2 = omega arith in
+      seen-as (w + 4194304 + 1) (i + 1) (faultOf w) (omega arith) (omega arith) (ap (λ (n : ℕ). eqb n 1) b) (omega arith)
+
+  pub deeper-made : depthOf w ≤ 8 → Made (faultOf w) (depthOf w + 1) (i + 1) (w + 4194304 + 1)
+  deeper-made h = record { next = omega arith; fault = omega arith; depth = omega arith }
+
+-- ---- what the numbers say of the brackets
+
+pub same-end : (w : ℕ) → SameEnd w w
+same-end w = record { next = refl; depth = refl }
+
+pub same-end-made : (w : ℕ) {f d p x : ℕ} → Made f d p x → p ≡ nextOf w → d ≡ depthOf w → SameEnd w x
+same-end-made w k e h = record { next = k .next ∙ e; depth = k .depth ∙ h }
+
+pub joined-nothing : (a b : ℕ) → nextOf b ≡ 0 → Joined a b b
+joined-nothing a b e = record { next = refl; first = λ g. absurd (g e); second = λ g. absurd (g e) }
+
+pub joined-made : (a b : ℕ) {f d p x : ℕ} → Made f d p x → p ≡ nextOf b → d ≡ deeperOf a b → Joined a b x
+joined-made a b k e h = record { next = k .next ∙ e; first = λ g. omega (arith, k .depth); second = λ g. omega (arith, k .depth) }
+
+-- ---- what was wanted, and no fault
+
+pub record Faultless (t : Bool) (w : ℕ) : Type 0 where
+  pub truth : truthOf w ≡ t
+  pub fault : faultOf w ≡ 0
+
+module _ (t : Bool) (w : ℕ) {o : Bool} (e : o ≡ isFaultless t w) (h : o ≡ true) where
+  pub faultless-seen : Faultless t w
+  faultless-seen = go t (eqb-true (w / 8192 % 512) (cond t 1 0) (sym e ∙ h))
+    where
+      go : (t : Bool) → w / 8192 % 512 ≡ cond t 1 0 → Faultless t w
+      go true f = record { truth = eq-eqb (w / 8192 % 2) 1 (omega arith); fault = omega arith }
+      go false f = record { truth = ne-eqb (w / 8192 % 2) 1 (λ z. omega arith); fault = omega arith }
+
+none-wanting : (t : Bool) → wantingFault t t ≡ 0
+unfolding wantingFault
+none-wanting true = refl
+none-wanting false = refl
+
+pub lowest-none : (t : Bool) (a b : ℕ) → Faultless t a → Faultless t b → 0 ≡ lowest t (sightOf a) (sightOf b)
+unfolding lower
+lowest-none t a b f g = sym (simp (f .truth, f .fault, g .truth, g .fault, none-wanting t))
+
+pub faultless-same : (t : Bool) (a : ℕ) → Faultless t a → seen a ≡ then (seen a) (signedSight t)
+unfolding seen lower
+faultless-same t a f = go (eqb (nextOf a) 0) refl
+  where
+    go : (b : Bool) → eqb (nextOf a) 0 ≡ b → seen a ≡ then (seen a) (signedSight t)
+    go true h = simp (seen, h)
+    go false h = simp (seen, h, f .truth, f .fault, none-wanting t)
+
+-- ---- faults alone
+
+module _ (w : ℕ) {i : ℕ} (e : i ≡ nextOf w) where
+  pub faulted-stop : i ≡ 0 → faulted w ≡ ends notInGrammar
+  unfolding faulted
+  faulted-stop h = simp (faulted, eq-eqb (nextOf w) 0 (sym e ∙ h))
+
+  pub faulted-read : (i ≡ 0 → ⊥) → faulted w ≡ read (faultOf w) i
+  unfolding faulted
+  faulted-read h = rw e (simp (faulted, ne-eqb (nextOf w) 0 (λ z. h (e ∙ z))))
+
+pub faulted-nothing : faulted 0 ≡ ends notInGrammar
+unfolding faulted
+faulted-nothing = refl
+
+pub faulted-made : {f d p x : ℕ} → Made f d p x → 0 < p → faulted x ≡ read f p
+faulted-made {p = p} {x = x} k l = faulted-read x (sym (k .next)) (λ z. omega arith) ∙ ap (λ (g : ℕ). read g p) (k .fault)
+
+faults : Read Sight → Read ℕ
+faults (read a q) = read (a .fault) q
+faults (ends k) = ends k
+
+faulted-faults : (w : ℕ) → faulted w ≡ faults (seen w)
+unfolding faulted seen faults
+faulted-faults w = go (eqb (nextOf w) 0) refl
+  where
+    go : (b : Bool) → eqb (nextOf w) 0 ≡ b → faulted w ≡ faults (seen w)
+    go true h = simp (faulted, seen, faults, h)
+    go false h = simp (faulted, seen, faults, h)
+
+faults-wanted : (t : Bool) (x : Read Sight) → faults (then x (signedSight t)) ≡ faultFor t x
+unfolding faults
+faults-wanted t (read a q) = refl
+faults-wanted t (ends k) = refl
+
+-- x is what a says where a yes/no or a number is wanted, and a says y
+pub faulted-wanted : (t : Bool) (a x : ℕ) (y : Read Sight) → seen a ≡ y → seen x ≡ then (seen a) (signedSight t) → faulted x ≡ faultFor t y
+faulted-wanted t a x y e f = faulted-faults x ∙ ap faults (f ∙ ap (λ (r : Read Sight). then r (signedSight t)) e) ∙ faults-wanted t y
+
+-- ---- what the operators join
+
+then-same : {f g : Sight → ℕ → Read Sight} (x : Read Sight) → ((y : Sight) (q : ℕ) → f y q ≡ g y q) → then x f ≡ then x g
+then-same (read y q) h = h y q
+then-same (ends k) h = refl
+
+-- an operator that is none of + - * / gives a yes/no
+apart : (o : ℕ) → (PLUS ≤ o → o ≤ OVER → ⊥) → not (isFactor o || isTerm o) ≡ true
+apart o h = ap not (ap (λ (f : Bool). f || isTerm o) (outside TIMES OVER o (λ x y. h (omega arith) y)) ∙ outside PLUS MINUS o (λ x y. h x (omega arith)))
+
+-- x is a, the operator o behind it, and r
+module _ (o : ℕ) (a : Sight) {x : Read Sight} (r : Read Sight) where
+  joins : (l t : Bool) → isLogic o ≡ l → not (isFactor o || isTerm o) ≡ t → x ≡ then r (λ y q. read (record { truth = t; fault = lowest l a y }) q) → x ≡ then r (λ y q. read (joinSights o a y) q)
+  unfolding joinSights
+  joins l t e f h = h ∙ then-same r (λ y q. rw (sym e, sym f) refl)
+
+  numbers : isFactor o || isTerm o ≡ true → PLUS ≤ o → o ≤ OVER → x ≡ then r (λ y q. read (record { truth = false; fault = lowest false a y }) q) → x ≡ then r (λ y q. read (joinSights o a y) q)
+  numbers e l m h = joins false false (outside AND XOR o (λ x y. omega arith)) (ap not e) h
+
+  pub joins-factor : isFactor o ≡ true → x ≡ then r (λ y q. read (record { truth = false; fault = lowest false a y }) q) → x ≡ then r (λ y q. read (joinSights o a y) q)
+  joins-factor e h = let i = inside TIMES OVER o e in numbers (ap (λ (f : Bool). f || isTerm o) e) (omega arith) (i .1) h
+
+  pub joins-term : isTerm o ≡ true → x ≡ then r (λ y q. read (record { truth = false; fault = lowest false a y }) q) → x ≡ then r (λ y q. read (joinSights o a y) q)
+  joins-term e h = let i = inside PLUS MINUS o e in numbers (ap (λ (f : Bool). isFactor o || f) e ∙ go (isFactor o)) (i .0) (omega arith) h
+    where
+      go : (f : Bool) → f || true ≡ true
+      go true = refl
+      go false = refl
+
+  pub joins-compared : isCompare o ≡ true → x ≡ then r (λ y q. read (record { truth = true; fault = lowest false a y }) q) → x ≡ then r (λ y q. read (joinSights o a y) q)
+  joins-compared e h =
+      let i = inside SAME ATLEAST o e in
+      joins false true (outside AND XOR o (λ x y. omega (arith, i .1))) (apart o (λ x y. omega (arith, i .1))) h
+
+  pub joins-row : isLogic o ≡ true → x ≡ then r (λ y q. read (record { truth = true; fault = lowest true a y }) q) → x ≡ then r (λ y q. read (joinSights o a y) q)
+  joins-row e h =
+      let i = inside AND XOR o e in
+      joins true true e (apart o (λ x y. omega (arith, i .0))) h

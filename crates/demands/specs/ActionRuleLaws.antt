@@ -1,0 +1,158 @@
+-- The actions of a line neither read the flags nor the memory: the same actions in a world with other flags do the same, and what they do to the locks is what they write
+-- down. Assumes nothing.
+use mathlib.Core.Path.{_≡_, refl, ap, _∙_}
+use mathlib.Core.Bool.{Bool, true, false}
+use mathlib.Core.List.{List, [], _∷_, _++_}
+use Prim.Native.Nat.{ℕ, zero, suc, _+_, _<_}
+use lib.Dec.{eqb, ltb}
+use lib.ListN.{getD, set}
+use borrow.Author.Tests.{ltb-true}
+use Rattle.values.specs.Choice.{either}
+use Rattle.tokens.specs.Token.{END, M, SETAL, LOCK, isVariable, isDrive, whole, maxLines}
+use Rattle.tokens.specs.Descent.{Answer, good, stop, _>>=_, indexAt}
+use Rattle.working.specs.Working.{rightValue}
+use Rattle.engine.specs.Set.{rankIn}
+use Rattle.engine.specs.Action.{World, Note, Did, fromValueOrAlarm, takenAt, assignmentOf, lockOf, commandOf, driveOf, actionOf}
+use Rattle.engine.specs.Actions.{actionsOf}
+use Rattle.engine.specs.Drive.{driveOrder}
+use Rattle.engine.specs.Write.{writeTo}
+use Rattle.soundness.specs.GoodAnswers.{Ok, is-ok, bind-ok}
+
+-- ---- answers
+
+-- one answer and then another: what is made of the first goes through to the last
+pub through : {A B C : Type 0} (g : A → Answer B) (m : Answer C) (f : C → Answer B) (e : C → Answer A) → ((c : C) → f c ≡ (e c >>= g)) → (m >>= f) ≡ (m >>= e >>= g)
+through g (good c) f e h = h c
+through g (stop k) f e h = refl
+
+pub choose : {A B : Type 0} (g : A → Answer B) (b : Bool) (x y : Answer B) (u v : Answer A) → x ≡ (u >>= g) → y ≡ (v >>= g) →
+    let p : Answer B = elim b [ true ↦ x | false ↦ y ] in let q : Answer A = elim b [ true ↦ u | false ↦ v ] in p ≡ (q >>= g)
+choose g true x y u v p q = p
+choose g false x y u v p q = q
+
+pub choose-by : {A B : Type 0} (g : A → Answer B) (b c : Bool) (x y : Answer B) (u v : Answer A) → b ≡ c → (c ≡ true → x ≡ (u >>= g)) → (c ≡ false → y ≡ (v >>= g)) →
+    let p : Answer B = elim b [ true ↦ x | false ↦ y ] in let q : Answer A = elim c [ true ↦ u | false ↦ v ] in p ≡ (q >>= g)
+choose-by g true true x y u v e p q = p refl
+choose-by g true false x y u v e p q = cc
+choose-by g false true x y u v e p q = cc
+choose-by g false false x y u v e p q = q refl
+
+-- ---- a world in other flags
+
+abbrev pub dress : List Bool → List Bool → World → World
+dress l m x = record { vars = x .vars; locked = l; memory = m; acted = x .acted; orders = x .orders }
+
+-- the locks after these locks and releases, left to right
+abbrev pub noteAll : List Note → List Bool → List Bool
+noteAll [] l = l
+noteAll (n ∷ ns) l = noteAll ns (set l (n .0) (n .1))
+
+pub note-append : (ms ns : List Note) (l : List Bool) → noteAll (ms ++ ns) l ≡ noteAll ns (noteAll ms l)
+note-append [] ns l = refl
+note-append (m ∷ ms) ns l = note-append ms ns (set l (m .0) (m .1))
+
+abbrev pub dressDid : List Bool → List Bool → Did → Answer Did
+dressDid l m d = good (record { world = dress (noteAll (d .notes) l) m (d .world); next = d .next; notes = d .notes })
+
+-- these locks and releases name lines that are not cancelled
+abbrev pub Live : List Bool → List Note → Type 0
+Live cs [] = Unit {0}
+Live cs (n ∷ ns) = (n .0 < maxLines) × (getD cs (n .0) false ≡ false) × Live cs ns
+
+live-append : (cs : List Bool) (ms ns : List Note) → Live cs ms → Live cs ns → Live cs (ms ++ ns)
+live-append cs [] ns p q = q
+live-append cs (m ∷ ms) ns p q = (p .0, p .1, live-append cs ms ns (p .2) q)
+
+module _ (s numbers : List ℕ) (cancelled : List Bool) (number : ℕ) where
+  module _ (l m : List Bool) (x : World) where
+    assignment-dress : (w p : ℕ) → assignmentOf s (dress l m x) w p ≡ (assignmentOf s x w p >>= dressDid l m)
+    unfolding assignmentOf
+    assignment-dress w p = through (dressDid l m) (takenAt s (x .vars) (p + 5)) _ _ (λ a. through (dressDid l m) (writeTo (a .vars) w (indexAt s w p) (a .value)) _ _ (λ v. refl))
+
+    drive-dress : (w p : ℕ) → driveOf s number (dress l m x) w p ≡ (driveOf s number x w p >>= dressDid l m)
+    unfolding driveOf
+    drive-dress w p = choose (dressDid l m) (ltb 255 (indexAt s w p)) _ _ _ _ refl (through (dressDid l m) (fromValueOrAlarm (rightValue s (x .vars .r) (x .vars .cells) (p + 5))) _ _ (λ a. through (dressDid l m) (driveOrder number w (indexAt s w p) (a .0)) _ _ (λ o. refl)))
+
+    lock-dress : (b : Bool) (k p : ℕ) → lockOf cancelled (dress l m x) b k p ≡ (lockOf cancelled x b k p >>= dressDid l m)
+    unfolding lockOf
+    lock-dress b k p = choose (dressDid l m) (ltb k maxLines) _ _ _ _ (choose (dressDid l m) (getD cancelled k false) _ _ _ _ refl refl) refl
+
+    command-dress : (w p : ℕ) → commandOf s numbers cancelled number (dress l m x) w p ≡ (commandOf s numbers cancelled number x w p >>= dressDid l m)
+    unfolding commandOf
+    command-dress w p = choose (dressDid l m) (eqb w M) _ _ _ _ refl (choose (dressDid l m) (eqb w SETAL) _ _ _ _ refl (lock-dress (eqb w LOCK) (rankIn numbers (whole (getD s (p + 2) 0)) 0) (p + 4)))
+
+    action-dress : (p : ℕ) → actionOf s numbers cancelled number (dress l m x) p ≡ (actionOf s numbers cancelled number x p >>= dressDid l m)
+    unfolding actionOf
+    action-dress p =
+        choose (dressDid l m) (eqb (getD s p 0) END) _ _ _ _ refl (choose (dressDid l m) (isVariable (getD s p 0)) _ _ _ _ (assignment-dress (getD s p 0) p)
+        (choose (dressDid l m) (isDrive (getD s p 0)) _ _ _ _ (drive-dress (getD s p 0) p) (command-dress (getD s p 0) p)))
+
+  -- the actions in other flags
+  pub actions-dress : (j : ℕ) (l m : List Bool) (x : World) (p : ℕ) → actionsOf s numbers cancelled number j (dress l m x) p ≡ (actionsOf s numbers cancelled number j x p >>= dressDid l m)
+  unfolding actionsOf
+  actions-dress zero l m x p = refl
+  actions-dress (suc j) l m x p = rw (action-dress l m x p) (go (actionOf s numbers cancelled number x p) (actions-dress j))
+    where
+      rest : Did → Answer Did
+      rest d = actionsOf s numbers cancelled number j (d .world) (d .next) >>= λ e. good (record { world = e .world; next = e .next; notes = d .notes ++ e .notes })
+
+      more : Did → Answer Did
+      more d = elim (eqb (getD s (d .next) 0) END) [ true ↦ good d | false ↦ rest d ]
+
+      go : (a : Answer Did) →
+          ((l m : List Bool) (x : World) (p : ℕ) → actionsOf s numbers cancelled number j (dress l m x) p ≡ (actionsOf s numbers cancelled number j x p >>= dressDid l m)) →
+          (a >>= dressDid l m >>= more) ≡ (a >>= more >>= dressDid l m)
+      go (good d) h = choose (dressDid l m) (eqb (getD s (d .next) 0) END) _ _ _ _ refl
+          (rw (h (noteAll (d .notes) l) m (d .world) (d .next)) (end (actionsOf s numbers cancelled number j (d .world) (d .next))))
+        where
+          end : (b : Answer Did) →
+              (b >>= dressDid (noteAll (d .notes) l) m >>= λ e. good (record { world = e .world; next = e .next; notes = d .notes ++ e .notes }))
+              ≡ (b >>= (λ e. good (record { world = e .world; next = e .next; notes = d .notes ++ e .notes })) >>= dressDid l m)
+          end (good e) = rw (note-append (d .notes) (e .notes) l)
+          end (stop k) = refl
+      go (stop k) h = refl
+
+  -- each lock and release that is written down names a line that is not cancelled, and no action writes the word of the lines that acted
+  abbrev pub Fair : World → Did → Type 0
+  Fair x d = Live cancelled (d .notes) × (d .world .acted ≡ x .acted)
+
+  action-fair : (x : World) (p : ℕ) → Ok (Fair x) (actionOf s numbers cancelled number x p)
+  unfolding actionOf assignmentOf driveOf commandOf lockOf
+  action-fair x p =
+      let k : ℕ = rankIn numbers (whole (getD s (p + 2) 0)) 0 in
+      either (Ok (Fair x)) (eqb (getD s p 0) END) (λ e. tt)
+      (λ e. either (Ok (Fair x)) (isVariable (getD s p 0))
+      (λ e. bind-ok (Fair x) (takenAt s (x .vars) (p + 5)) _ (λ a q. bind-ok (Fair x) (writeTo (a .vars) (getD s p 0) (indexAt s (getD s p 0) p) (a .value)) _ (λ v q. (tt, refl))))
+      (λ e. either (Ok (Fair x)) (isDrive (getD s p 0))
+      (λ e. either (Ok (Fair x)) (ltb 255 (indexAt s (getD s p 0) p)) (λ e. tt)
+      (λ e. bind-ok (Fair x) (fromValueOrAlarm (rightValue s (x .vars .r) (x .vars .cells) (p + 5))) _
+      (λ a q. bind-ok (Fair x) (driveOrder number (getD s p 0) (indexAt s (getD s p 0) p) (a .0)) _ (λ o q. (tt, refl)))))
+      (λ e. either (Ok (Fair x)) (eqb (getD s p 0) M) (λ e. (tt, refl))
+      (λ e. either (Ok (Fair x)) (eqb (getD s p 0) SETAL) (λ e. (tt, refl))
+      (λ e. either (Ok (Fair x)) (ltb k maxLines)
+      (λ e. either (Ok (Fair x)) (getD cancelled k false) (λ c. (tt, refl)) (λ c. ((ltb-true k maxLines e, c, tt), refl)))
+      (λ e. tt))))))
+
+  pub actions-fair : (j : ℕ) (x : World) (p : ℕ) → Ok (Fair x) (actionsOf s numbers cancelled number j x p)
+  unfolding actionsOf
+  actions-fair zero x p = tt
+  actions-fair (suc j) x p =
+      bind-ok (Fair x) (actionOf s numbers cancelled number x p) _
+      (λ d q. let h : Fair x d = is-ok (Fair x) (actionOf s numbers cancelled number x p) d q (action-fair x p) in
+      either (Ok (Fair x)) (eqb (getD s (d .next) 0) END) (λ e. h)
+      (λ e. bind-ok (Fair x) (actionsOf s numbers cancelled number j (d .world) (d .next)) _
+      (λ f g. let i : Fair (d .world) f = is-ok (Fair (d .world)) (actionsOf s numbers cancelled number j (d .world) (d .next)) f g (actions-fair j (d .world) (d .next)) in
+      (live-append cancelled (d .notes) (f .notes) (h .0) (i .0), i .1 ∙ h .1))))
+
+  -- what the actions do to the locks is what they write down, and they write no memory
+  abbrev pub Noted : World → Did → Type 0
+  Noted x d = (d .world .locked ≡ noteAll (d .notes) (x .locked)) × (d .world .memory ≡ x .memory)
+
+  pub actions-noted : (j : ℕ) (x : World) (p : ℕ) → Ok (Noted x) (actionsOf s numbers cancelled number j x p)
+  actions-noted j x p = go (actionsOf s numbers cancelled number j x p) (actions-dress j (x .locked) (x .memory) x p)
+    where
+      go : (a : Answer Did) → a ≡ (a >>= dressDid (x .locked) (x .memory)) → Ok (Noted x) a
+      go (good d) e =
+          let h : d ≡ record { world = dress (noteAll (d .notes) (x .locked)) (x .memory) (d .world); next = d .next; notes = d .notes } = cc in
+          (ap (λ y. y .world .locked) h, ap (λ y. y .world .memory) h)
+      go (stop c) e = tt

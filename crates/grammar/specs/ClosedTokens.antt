@@ -1,0 +1,140 @@
+-- The tokens of a line: none but the last is 0, and LOCK or UNLOCK is not the last before it; so they lie inside the list, and a place has one row of them. Assumes nothing.
+use mathlib.Core.Path.{_≡_, refl, sym, _∙_}
+use mathlib.Core.Bool.{true, false}
+use mathlib.Core.List.{List, [], _∷_, _++_, append-assoc}
+use Prim.Native.Nat.{ℕ, zero, suc, _+_, _≤_, _<_}
+use native.Mathlib.Omega.{arith}
+use lib.Dec.{leb}
+use lib.ListN.{length, length-append, List·getD-eq-default}
+use borrow.Author.Tests.{leb-true, leb-false}
+use Rattle.values.specs.Choice.{decide}
+use Rattle.tokens.specs.Token.{END, EQUALS, CLOSE, DO, LOCK, UNLOCK, wholeToken, AllReal, AND, ATLEAST, EVERY, FIFO4, ID, IDS, IN, MINUS, MOV, OVER, PLUS, POS, SAME, SETAL, TIMES, W, WHEN, X, XOR}
+use Rattle.tokens.specs.Descent.{token}
+use Rattle.grammar.specs.Tree.{Operand, number, variable, position, truth, bracket, minus, not, Product, product, Factors, noFactor, factor, Sum, sum, Terms, noTerm, term, Expression, single, compare, row, Sums, last, next, Action, assign, assignPosition, drive, code, call, Condition, always, under, Line, line, operandTokens, productTokens, factorsTokens, sumTokens, termsTokens, expressionTokens, sumsTokens, actionTokens, actionsTokens, conditionTokens, lineTokens}
+use Rattle.grammar.specs.Meaning.{Stands}
+use Rattle.grammar.specs.AgreementLaws.{bounds, stands-split, stands-place}
+
+-- no token of a row is 0, and behind a LOCK or UNLOCK the row goes on
+abbrev pub Closed : List ℕ → Type 0
+Closed [] = Unit {0}
+Closed (t ∷ l) = (0 < t) × (LOCK ≤ t → t ≤ UNLOCK → 0 < length l) × Closed l
+
+closed-join : (l m : List ℕ) → Closed l → Closed m → Closed (l ++ m)
+closed-join [] m h g = g
+closed-join (t ∷ l) m h g = (h .0, λ a b. let k = h .1 a b in let e = length-append l m in omega arith, closed-join l m (h .2) g)
+
+mutual
+  unfolding operandTokens
+
+  closed-operand : (x : Operand) → Closed (operandTokens x)
+  closed-operand (number n) = omega arith
+  closed-operand (variable w v i) = let b = bounds IN FIFO4 w v in omega arith
+  closed-operand (position x v) = let b = bounds X W x v in omega arith
+  closed-operand (truth true) = omega arith
+  closed-operand (truth false) = omega arith
+  closed-operand (bracket e) = (omega arith, omega arith, closed-join (expressionTokens e) (CLOSE ∷ []) (closed-expression e) (omega arith))
+  closed-operand (minus a) = (omega arith, omega arith, closed-operand a)
+  closed-operand (not a) = (omega arith, omega arith, closed-operand a)
+
+  closed-product : (x : Product) → Closed (productTokens x)
+  closed-product (product a r) = closed-join (operandTokens a) (factorsTokens r) (closed-operand a) (closed-factors r)
+
+  closed-factors : (r : Factors) → Closed (factorsTokens r)
+  closed-factors noFactor = tt
+  closed-factors (factor o v a r) = let b = bounds TIMES OVER o v in (omega arith, omega arith, closed-join (operandTokens a) (factorsTokens r) (closed-operand a) (closed-factors r))
+
+  closed-sum : (x : Sum) → Closed (sumTokens x)
+  closed-sum (sum a r) = closed-join (productTokens a) (termsTokens r) (closed-product a) (closed-terms r)
+
+  closed-terms : (r : Terms) → Closed (termsTokens r)
+  closed-terms noTerm = tt
+  closed-terms (term o v a r) = let b = bounds PLUS MINUS o v in (omega arith, omega arith, closed-join (productTokens a) (termsTokens r) (closed-product a) (closed-terms r))
+
+  closed-expression : (x : Expression) → Closed (expressionTokens x)
+  closed-expression (single a) = closed-sum a
+  closed-expression (compare o v a b) = let c = bounds SAME ATLEAST o v in closed-join (sumTokens a) (o ∷ sumTokens b) (closed-sum a) (omega arith, omega arith, closed-sum b)
+  closed-expression (row o v a r) = let b = bounds AND XOR o v in closed-join (sumTokens a) (sumsTokens o r) (closed-sum a) (closed-sums r o (omega arith) (omega arith))
+
+  closed-sums : (r : Sums) (o : ℕ) → 0 < o → o < LOCK → Closed (sumsTokens o r)
+  closed-sums (last a) o h g = (h, omega arith, closed-sum a)
+  closed-sums (next a r) o h g = (h, omega arith, closed-join (sumTokens a) (sumsTokens o r) (closed-sum a) (closed-sums r o h g))
+
+-- five tokens that are no LOCK or UNLOCK, and a right side behind them
+closed-right : (t u v w x : ℕ) (a : Sum) → (0 < t) × (t < LOCK) → (0 < u) × (u < LOCK) → (0 < v) × (LOCK ≤ v → UNLOCK < v) → (0 < w) × (w < LOCK) → (0 < x) × (x < LOCK) → Closed (t ∷ u ∷ v ∷ w ∷ x ∷ sumTokens a)
+closed-right t u v w x a h i j k m = (h .0, omega arith, (i .0, omega arith, (j .0, omega arith, (k .0, omega arith, (m .0, omega arith, closed-sum a)))))
+
+closed-action : (a : Action) → Closed (actionTokens a)
+unfolding actionTokens
+closed-action (assign w v i a) = let b = bounds IN FIFO4 w v in closed-right _ _ _ _ _ a (omega arith) (omega arith) (omega arith) (omega arith) (omega arith)
+closed-action (assignPosition x v a) = let b = bounds X W x v in closed-right _ _ _ _ _ a (omega arith) (omega arith) (omega arith) (omega arith) (omega arith)
+closed-action (drive w v x u a) =
+    let b = bounds POS MOV w v in let c = bounds X W x u in closed-right _ _ _ _ _ a (omega arith) (omega arith) (omega arith) (omega arith) (omega arith)
+closed-action (code n) = omega arith
+closed-action (call w v n) = let b = bounds SETAL UNLOCK w v in omega arith
+
+closed-actions : (r : List Action) (a : Action) → Closed (actionsTokens a r)
+unfolding actionsTokens
+closed-actions [] a = closed-action a
+closed-actions (b ∷ r) a = closed-join (actionTokens a) (actionsTokens b r) (closed-action a) (closed-actions r b)
+
+closed-condition : (c : Condition) → Closed (conditionTokens c)
+unfolding conditionTokens
+closed-condition always = tt
+closed-condition (under w v e) = let b = bounds WHEN EVERY w v in (omega arith, omega arith, closed-expression e)
+
+-- the tokens of a line but its end
+abbrev pub front : Line → List ℕ
+front (line w v n c a r) = w ∷ EQUALS ∷ wholeToken n ∷ conditionTokens c ++ (DO ∷ actionsTokens a r)
+
+pub front-end : (l : Line) → lineTokens l ≡ front l ++ (END ∷ [])
+unfolding lineTokens
+front-end (line w v n c a r) = rw (append-assoc (conditionTokens c) (DO ∷ actionsTokens a r) (END ∷ []))
+
+pub front-closed : (l : Line) → Closed (front l)
+front-closed (line w v n c a r) =
+    let b = bounds ID IDS w v in
+    (omega arith, omega arith, (omega arith, omega arith, (omega arith, omega arith, closed-join (conditionTokens c) (DO ∷ actionsTokens a r) (closed-condition c) (omega arith, omega arith, closed-actions r a))))
+
+-- none of its tokens is 0
+closed-real : (l : List ℕ) → Closed l → AllReal l
+closed-real [] h i n e = omega arith
+closed-real (t ∷ l) h zero n e = let z = h .0 in omega arith
+closed-real (t ∷ l) h (suc i) n e = closed-real l (h .2) i (omega arith) e
+
+-- a closed row and a row of real tokens that stand at one place, each up to a 0, are one
+pub same-row : (s l m : List ℕ) (p q r : ℕ) → Closed l → AllReal m → Stands s p (l ++ (END ∷ [])) q → Stands s p (m ++ (END ∷ [])) r → l ≡ m
+same-row s [] [] p q r f g h k = refl
+same-row s [] (t ∷ m) p q r f g h k = absurd (g 0 (omega arith) (sym (k .0) ∙ h .0))
+same-row s (t ∷ l) [] p q r f g h k = let x = h .0 in let y = k .0 in let z = f .0 in absurd (omega arith)
+same-row s (t ∷ l) (u ∷ m) p q r f g h k =
+    let x : t ≡ u = sym (h .0) ∙ k .0 in
+    let y = same-row s l m (p + 1) q r (f .2) (λ i n. g (suc i) (omega arith)) (h .1) (k .1) in
+    rw (x, y)
+
+module _ (s : List ℕ) where
+  -- the tokens of a line lie inside the list, but for its end
+  inside : (p t : ℕ) → token s p ≡ t → 0 < t → p < length s
+  inside p t h g =
+      decide _ (leb (length s) p)
+      (λ e. let l = leb-true (length s) p e in let z = List·getD-eq-default s 0 l in absurd (omega arith))
+      (λ e. leb-false (length s) p e)
+
+  closed-inside : (l : List ℕ) (p q : ℕ) → Closed l → p ≤ length s → Stands s p l q → q ≤ length s
+  closed-inside [] p q f g h = omega arith
+  closed-inside (t ∷ l) p q f g h = let i = inside p t (h .0) (f .0) in closed-inside l (p + 1) q (f .2) (omega arith) (h .1)
+
+  -- a line has at most one token more than the list
+  pub line-fits : (l : Line) (p q : ℕ) → Stands s p (lineTokens l) q → length (lineTokens l) ≤ suc (length s)
+  line-fits (line w v n c a r) p q h =
+      let l = line w v n c a r in
+      let b = bounds ID IDS w v in
+      let (e, f, g) = stands-split s (front l) (END ∷ []) p q (rw (front-end l) at h) in
+      let i = inside p w (f .0) (omega arith) in
+      let j = closed-inside (front l) p e (front-closed l) (omega arith) f in
+      let k = stands-place s (front l) p e f in
+      rw (front-end l) (rw (length-append (front l) (END ∷ [])) (omega arith))
+
+  -- two lines that are written at one place have the same tokens
+  pub line-unique : (l m : Line) (p q r : ℕ) → Stands s p (lineTokens l) q → Stands s p (lineTokens m) r → lineTokens l ≡ lineTokens m
+  line-unique l m p q r h g =
+      front-end l ∙ rw (same-row s (front l) (front m) p q r (front-closed l) (closed-real (front m) (front-closed m)) (rw (front-end l) at h) (rw (front-end m) at g)) (sym (front-end m))

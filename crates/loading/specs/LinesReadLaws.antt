@@ -1,0 +1,109 @@
+-- Laws of the lines that are read from a set in which some rows are laid: the set passes each check from 4 on. Nothing is assumed.
+use mathlib.Core.Path.{_≡_, refl, sym, _∙_}
+use mathlib.Core.Bool.{true}
+use mathlib.Core.List.{List, [], _∷_}
+use Prim.Native.Nat.{ℕ, zero, suc, _+_, _≤_, _<_}
+use native.Mathlib.Omega.{arith}
+use lib.Dec.{eqb}
+use lib.ListN.{length, getD, set, replicate, length-set, length-replicate}
+use lib.Seq.{getD-set-same, getD-set-other}
+use borrow.Author.Tests.{eq-eqb, lt-ltb, le-ltb}
+use Rattle.values.specs.Choice.{decide, chosen, refused}
+use Rattle.tokens.specs.Token.{setSize, maxLines}
+use Rattle.checking.specs.declared.check.Line.{Line}
+use Rattle.engine.specs.declared.set.Lines.{Lines}
+use Rattle.engine.specs.Set.{lineCount, lineOf, noLine, linesFrom, linesRead, rankIn, isKnown, allKnown, namedLines, soundLines}
+use Rattle.reader.specs.Row.{Row, noRow}
+use Rattle.loading.specs.PlacedLaws.{heldTokens, Laid}
+use Rattle.loading.specs.StoredLineLaws.{written, held, names-held}
+use Rattle.loading.specs.TakenLaws.{All, Fine, Named}
+use Rattle.loading.specs.ByNumberLaws.{Rises}
+
+module _ (s : List ℕ) where
+  -- ---- 4 to 11
+
+  -- from rank k on, the lines of a set are read without a fault, with the rows' numbers, which rise from above `last` on
+  abbrev ReadAs : List Row → ℕ → ℕ → Type 0
+  ReadAs [] k last = Unit {0}
+  ReadAs (r ∷ rs) k last =
+      (lineOf s k .fault ≡ 0) × (lineOf s k .number ≡ r .number) × (last < lineOf s k .number) × ReadAs rs (k + 1) (lineOf s k .number)
+
+  laid-read : (rs : List Row) (k n last : ℕ) → length s ≤ setSize → All Fine rs → All (λ r. length (r .tokens) < setSize) rs → Laid s rs k → Rises n rs → last ≡ n → ReadAs rs k last
+  laid-read [] k n last size f l p h e = tt
+  laid-read (r ∷ rs) k n last size f l p h e =
+      let w = written (r .tokens) (f .0 .real) (l .0) (f .0 .clean) in
+      let (a, b, c, x) = held (r .tokens) w (f .0 .real) (l .0) s (getD s (1 + k) 0) (getD s (1 + k) 0 + length (heldTokens r)) size (p .0) in
+      let d : lineOf s k .number ≡ r .number = c ∙ sym (w .number) ∙ sym (f .0 .number) in
+      let o = h .0 in
+      (b, d, omega arith, laid-read rs (k + 1) (r .number) (lineOf s k .number) size (f .1) (l .1) (p .1) (h .1) d)
+
+  -- what is read of them, into lists of 32 that hold ns so far
+  pub record ReadLines (rs : List Row) (k : ℕ) (ns : List ℕ) (l : Lines) : Type 0 where
+    pub sound : l .sound ≡ true
+    pub count : l .count ≡ k + length rs
+    pub size : length (l .numbers) ≡ length ns
+    pub number : (j : ℕ) → j < length rs → getD (l .numbers) (k + j) 0 ≡ getD rs j noRow .number
+    pub other : (i : ℕ) → (k ≤ i → i < k + length rs → ⊥) → getD (l .numbers) i 0 ≡ getD ns i 0
+
+  read-lines : (rs : List Row) (k last : ℕ) (ns : List ℕ) (ls : List Line) → k + length rs ≤ length ns → ReadAs rs k last → ReadLines rs k ns (linesFrom s (length rs) k last ns ls)
+  unfolding linesFrom
+  read-lines [] k last ns ls few h = record { sound = refl; count = omega arith; size = refl; number = λ j l. absurd (omega arith); other = λ i o. refl }
+  read-lines (r ∷ rs) k last ns ls few h =
+      let n = lineOf s k .number in
+      let i = read-lines rs (k + 1) n (set ns k n) (set ls k (lineOf s k)) (let z = length-set ns k n in omega arith) (h .3) in
+      let e : linesFrom s (suc (length rs)) k last ns ls ≡ linesFrom s (length rs) (k + 1) n (set ns k n) (set ls k (lineOf s k)) =
+      chosen _ _ _ (eq-eqb (lineOf s k .fault) 0 (h .0)) ∙ chosen _ _ _ (lt-ltb last n (h .2)) in
+      rw e (record {
+        sound = i .sound;
+        count = let c = i .count in omega arith;
+        size = i .size ∙ length-set ns k n;
+        number = λ j l. by-row (linesFrom s (length rs) (k + 1) n (set ns k n) (set ls k (lineOf s k)) .numbers) j l (i .other k (λ a b. omega arith)) (i .number);
+        other = λ j o. i .other j (λ a b. o (omega arith) (omega arith)) ∙ getD-set-other ns k j n 0 (λ z. o (omega arith) (omega arith));
+      })
+    where
+      by-row : (m : List ℕ) (j : ℕ) → j < suc (length rs) → getD m k 0 ≡ getD (set ns k (lineOf s k .number)) k 0 → ((j : ℕ) → j < length rs → getD m (k + 1 + j) 0 ≡ getD rs j noRow .number) →
+          getD m (k + j) 0 ≡ getD (r ∷ rs) j noRow .number
+      by-row m zero l a b = let z : k + 0 ≡ k = omega arith in rw z (a ∙ getD-set-same ns k (lineOf s k .number) 0 (omega arith) ∙ h .1)
+      by-row m (suc j) l a b = let z : k + suc j ≡ k + 1 + j = omega arith in rw z (b j (omega arith))
+
+  -- ---- 12
+
+  all-names : (rs : List Row) (k : ℕ) (ns ns′ : List ℕ) → All Fine rs → All (λ r. length (r .tokens) < setSize) rs → All (Named ns′) rs → Laid s rs k →
+      ((n : ℕ) → isKnown ns′ n ≡ true → isKnown ns n ≡ true) → allKnown s ns (length rs) k ≡ true
+  unfolding allKnown
+  all-names [] k ns ns′ f l a p g = refl
+  all-names (r ∷ rs) k ns ns′ f l a p g =
+      let w = written (r .tokens) (f .0 .real) (l .0) (f .0 .clean) in
+      let h = names-held (r .tokens) w (f .0 .real) (l .0) s ns ns′ (getD s (1 + k) 0) (getD s (1 + k) 0 + length (heldTokens r)) (p .0) g (a .0) in
+      chosen _ _ _ h ∙ all-names rs (k + 1) ns ns′ (f .1) (l .1) (a .1) (p .1) g
+
+  -- ---- the set
+
+  -- A SET IN WHICH ROWS ARE LAID is read as they are, and is sound: they have no fault, their numbers rise, and they name only numbers that the set has
+  pub rows-read : (rs : List Row) (ns′ : List ℕ) → lineCount s ≡ length rs → length s ≤ setSize → length rs ≤ maxLines → All Fine rs → All (λ r. length (r .tokens) < setSize) rs →
+      All (Named ns′) rs → Laid s rs 0 → Rises 0 rs →
+      ((l : Lines) → ReadLines rs 0 (replicate maxLines 0) l → (n : ℕ) → isKnown ns′ n ≡ true → isKnown (l .numbers) n ≡ true) → ReadLines rs 0 (replicate maxLines 0) (soundLines s)
+  unfolding soundLines namedLines linesRead
+  rows-read rs ns′ c size few f l a p h g =
+      let zeros = replicate {A = ℕ} maxLines 0 in
+      let r = read-lines rs 0 0 zeros (replicate maxLines noLine) (let z = length-replicate {A = ℕ} maxLines 0 in omega arith) (laid-read rs 0 0 0 size f l p h refl) in
+      let e : linesRead s ≡ linesFrom s (length rs) 0 0 zeros (replicate maxLines noLine) = refused _ _ _ (le-ltb maxLines (lineCount s) (omega arith)) ∙ rw c in
+      let r′ : ReadLines rs 0 zeros (linesRead s) = rw e r in
+      let m : linesRead s .count ≡ length rs = let z = r′ .count in omega arith in
+      let k : allKnown s (linesRead s .numbers) (linesRead s .count) 0 ≡ true = rw m (all-names rs 0 (linesRead s .numbers) ns′ f l a p (g (linesRead s) r′)) in
+      let x : soundLines s ≡ linesRead s = chosen _ _ _ k in
+      rw x r′
+
+-- ---- numbers that are known
+
+rank-first : (ns : List ℕ) (n k i : ℕ) → i < length ns → getD ns i 0 ≡ n → rankIn ns n k ≤ k + i
+unfolding rankIn
+rank-first [] n k i l e = absurd (omega arith)
+rank-first (x ∷ xs) n k zero l e = rw (rankIn, eq-eqb x n e) (omega arith)
+rank-first (x ∷ xs) n k (suc i) l e =
+    decide _ (eqb x n)
+    (λ t. rw (rankIn, t) (omega arith))
+    (λ t. let h = rank-first xs n (k + 1) i (omega arith) e in rw (rankIn, t) (omega arith))
+
+pub known-at : (ns : List ℕ) (n i : ℕ) → length ns ≡ maxLines → i < maxLines → getD ns i 0 ≡ n → isKnown ns n ≡ true
+known-at ns n i m l e = let h = rank-first ns n 0 i (omega arith) e in lt-ltb (rankIn ns n 0) maxLines (omega arith)

@@ -1,0 +1,225 @@
+-- What loading answers, and when: 0 exactly if the text is taken, 1 exactly if it is too long, 2 exactly if it has too many lines; the state in every case; and that one answer
+-- alone is allowed. Theorems; nothing is assumed.
+use mathlib.Core.Path.{_≡_, refl, ap, _∙_}
+use mathlib.Core.Bool.{true, false}
+use mathlib.Core.List.{List, [], _∷_, _++_}
+use mathlib.Core.Logic.{_↔_, _⊎_, inl, inr}
+use Prim.Native.Nat.{ℕ, zero, suc, _≤_, _<_}
+use native.Mathlib.Omega.{arith}
+use lib.Dec.{eqb, ltb}
+use lib.ListN.{length, length-append}
+use borrow.Author.Tests.{ltb-true, ltb-false, eqb-true, eqb-false}
+use Rattle.values.specs.Codes.{tooLong, tooManyLines, tooDeep, notInGrammar, notInSet}
+use Rattle.values.specs.Choice.{decide, chosen, refused as not-chosen}
+use Rattle.values.specs.Numbers.{clash}
+use Rattle.values.specs.Unique.{unique}
+use Rattle.checking.specs.declared.check.Line.{Line as Told}
+use Rattle.tokens.specs.Token.{END, setSize, maxLines, textSize}
+use Rattle.tokens.specs.SingleFault.{opensTooMany}
+use Rattle.checking.specs.Fault.{lineAt}
+use Rattle.grammar.specs.TreeFault.{lineFault, Proper}
+use Rattle.grammar.specs.TreeFaultLaws.{line-proper}
+use Rattle.grammar.specs.AgreementLine.{line-found, line-fault}
+use Rattle.engine.specs.Set.{isKnown, emptySet}
+use Rattle.engine.specs.State.{powerOn}
+use Rattle.text.specs.Byte.{run}
+use Rattle.text.specs.Tokens.{Tokens, tokensOf}
+use Rattle.text.specs.Lines.{Numbered, tokenLines, numbered, bodies, split, withoutComment, isBlank}
+use Rattle.reader.specs.declared.load_text.Loaded.{Loaded}
+use Rattle.reader.specs.Row.{Row, byNumber, setOf, numbersOf}
+use Rattle.reader.specs.StoredTokens.{ended}
+use Rattle.reader.specs.Load.{Outcome, taken, refused, numberIn, tokensFault, faultBelow, rowOf, rowsFrom, firstUnknown, named, outcome, loadAnswer, loadSet}
+use Rattle.reader.specs.RisingLaws.{next-row}
+use Rattle.reader.specs.RoomLaws.{roomOf, text-room}
+
+-- ---- what an outcome comes to
+
+-- a text that is taken: 0 and 0, and the set of its lines by rising number
+pub taken-answer : (t : List ℕ) (rs : List Row) → outcome t ≡ taken rs → (loadAnswer t .code ≡ 0) × (loadAnswer t .line ≡ 0) × (loadSet t ≡ setOf (byNumber rs))
+unfolding loadAnswer loadSet
+taken-answer t rs h = (rw (h, loadAnswer), rw (h, loadAnswer), rw (h, loadSet))
+
+-- a text that is refused: the code and the line that refuse it, and the empty set
+pub refused-answer : (t : List ℕ) (c k : ℕ) → outcome t ≡ refused c k → (loadAnswer t .code ≡ c) × (loadAnswer t .line ≡ k) × (loadSet t ≡ emptySet)
+unfolding loadAnswer loadSet
+refused-answer t c k h = (rw (h, loadAnswer), rw (h, loadAnswer), rw (h, loadSet))
+
+pub refused-empty : (t : List ℕ) (c k : ℕ) → outcome t ≡ refused c k → loadSet t ≡ emptySet
+refused-empty t c k h = refused-answer t c k h .2
+
+-- every text is taken or refused
+pub by-outcome : (P : Type 0) (t : List ℕ) → ((rs : List Row) → outcome t ≡ taken rs → P) → ((c k : ℕ) → outcome t ≡ refused c k → P) → P
+by-outcome P t f g = go (outcome t) refl
+  where
+    go : (o : Outcome) → outcome t ≡ o → P
+    go (taken rs) e = f rs e
+    go (refused c k) e = g c k e
+
+-- AFTER EVERY LOAD THE STATE IS THAT OF POWER-ON
+pub load-power-on : (t : List ℕ) → loadAnswer t .state ≡ powerOn
+unfolding loadAnswer
+load-power-on t = go (outcome t)
+  where
+    go : (o : Outcome) →
+        let l : Loaded = elim o [ taken rs ↦ record { code = 0; line = 0; state = powerOn } | refused c k ↦ record { code = c; line = k; state = powerOn } ] in
+        l .state ≡ powerOn
+    go (taken rs) = refl
+    go (refused c k) = refl
+
+-- A TEXT WITHOUT A BYTE IS TAKEN, with no line
+pub empty-taken : outcome [] ≡ taken []
+unfolding outcome named rowsFrom firstUnknown tokenLines numbered bodies split withoutComment isBlank run
+empty-taken = refl
+
+-- any two results that the promise of loading allows are equal
+pub load-unique : (t : List ℕ) (x y : Loaded) (s u : List ℕ) → x ≡ loadAnswer t → s ≡ loadSet t → y ≡ loadAnswer t → u ≡ loadSet t → (x ≡ y) × (s ≡ u)
+load-unique t x y s u p q r w = (unique p r, unique q w)
+
+-- ---- the codes of a refusal
+
+-- 0, or one of the codes from low to high
+abbrev NoneOr : ℕ → ℕ → ℕ → Type 0
+NoneOr low high c = (c ≡ 0) ⊎ ((low ≤ c) × (c ≤ high))
+
+-- the check of a line tells no fault, or one of 4 to 10
+fault-range : (s : List ℕ) → length s ≤ setSize → NoneOr 4 10 (lineAt s 0 .fault)
+unfolding lineAt
+fault-range s size =
+    decide _ (eqb (lineAt s 0 .fault) tooDeep) (λ a. let e = eqb-true (lineAt s 0 .fault) tooDeep a in inr (omega arith)) λ a.
+    decide _ (eqb (lineAt s 0 .fault) notInGrammar) (λ b. let e = eqb-true (lineAt s 0 .fault) notInGrammar b in inr (omega arith)) λ b.
+    let no4 = eqb-false (lineAt s 0 .fault) tooDeep a in
+    let (l, q, h) = line-found s 0 no4 (eqb-false (lineAt s 0 .fault) notInGrammar b) in
+    let o : opensTooMany s 0 ≡ false = decide _ (opensTooMany s 0) (λ x. absurd (no4 (ap (λ (z : Told). z .fault) (chosen _ _ _ x)))) (λ x. x) in
+    proper (lineFault l) (line-fault s size l 0 q o h) (line-proper l)
+  where
+    proper : (n : ℕ) → lineAt s 0 .fault ≡ n → Proper n → NoneOr 4 10 (lineAt s 0 .fault)
+    proper n e (inl z) = inl (e ∙ z)
+    proper n e (inr z) = inr (omega (arith, z))
+
+-- so a line has no fault, or one of 3 to 11
+below-range : (rs : List Row) (ts : Tokens) → length (ts .list) < setSize → NoneOr 3 11 (faultBelow rs ts)
+unfolding faultBelow tokensFault
+below-range rs ts short =
+    decide _ (ts .good)
+    (λ g. let n = length-append (ts .list) (END ∷ []) in by-fault (lineAt (ended (ts .list)) 0 .fault) refl g (fault-range (ended (ts .list)) (omega arith)))
+    (λ g. rw (g, faultBelow) (inr (omega arith)))
+  where
+    by-fault : (k : ℕ) → lineAt (ended (ts .list)) 0 .fault ≡ k → ts .good ≡ true → NoneOr 4 10 (lineAt (ended (ts .list)) 0 .fault) →
+        NoneOr 3 11 (faultBelow rs ts)
+    by-fault zero e g r =
+        decide _ (isKnown (numbersOf rs) (numberIn (ts .list)))
+        (λ u. rw (g, e, u, faultBelow, tokensFault) (inr (omega arith)))
+        (λ u. rw (g, e, u, faultBelow, tokensFault) (inl refl))
+    by-fault (suc k) e g (inl z) = absurd (omega arith)
+    by-fault (suc k) e g (inr z) = rw (g, e, faultBelow, tokensFault) (inr (omega (arith, z)))
+
+-- and so has the first faulty line of a text
+rows-code : (ls : List Numbered) (rs : List Row) (c k : ℕ) → roomOf ls ≤ setSize → rowsFrom rs ls ≡ refused c k → (3 ≤ c) × (c ≤ 11)
+unfolding rowsFrom roomOf
+rows-code [] rs c k room h = clash (cc)
+rows-code (l ∷ ls) rs c k room h =
+    next-row _ rs l ls (refused c k) h
+    (λ f g. rows-code ls (rs ++ (rowOf l ∷ [])) c k (omega arith) g)
+    (λ i f g. let e : suc i ≡ c = cc in by-range i f e (below-range rs (tokensOf (l .body)) (omega arith)))
+  where
+    by-range : (i : ℕ) → faultBelow rs (tokensOf (l .body)) ≡ suc i → suc i ≡ c →
+        NoneOr 3 11 (faultBelow rs (tokensOf (l .body))) → (3 ≤ c) × (c ≤ 11)
+    by-range i f e (inl z) = absurd (omega arith)
+    by-range i f e (inr z) = omega (arith, z)
+
+-- which of its five ways loading goes
+module _ (P : Type 0) (t : List ℕ) where
+  pub by-load :
+      (textSize < length t → outcome t ≡ refused tooLong 0 → P) →
+      (length t ≤ textSize → maxLines < length (tokenLines t) → outcome t ≡ refused tooManyLines 0 → P) →
+      (length t ≤ textSize → length (tokenLines t) ≤ maxLines → (c k : ℕ) → 3 ≤ c → c ≤ 11 → rowsFrom [] (tokenLines t) ≡ refused c k → outcome t ≡ refused c k → P) →
+      (length t ≤ textSize → length (tokenLines t) ≤ maxLines → (rs : List Row) (k : ℕ) → rowsFrom [] (tokenLines t) ≡ taken rs → firstUnknown (numbersOf rs) rs ≡ suc k → outcome t ≡ refused notInSet (suc k) → P) →
+      (length t ≤ textSize → length (tokenLines t) ≤ maxLines → (rs : List Row) → outcome t ≡ taken rs → P) → P
+  unfolding outcome named
+  by-load long many faulty unknown all =
+      decide P (ltb textSize (length t)) (λ a. long (ltb-true textSize (length t) a) (chosen _ _ _ a)) λ a.
+      decide P (ltb maxLines (length (tokenLines t))) (λ b. many (ltb-false textSize (length t) a) (ltb-true maxLines (length (tokenLines t)) b) (not-chosen _ _ _ a ∙ chosen _ _ _ b)) λ b.
+      let l = ltb-false textSize (length t) a in
+      let f = ltb-false maxLines (length (tokenLines t)) b in
+      let e : outcome t ≡ named (rowsFrom [] (tokenLines t)) = not-chosen _ _ _ a ∙ not-chosen _ _ _ b in
+      let r = text-room t in
+      by-rows (rowsFrom [] (tokenLines t)) refl (faulty l f) (unknown l f) (all l f) (λ c k h. rows-code (tokenLines t) [] c k (omega arith) h) e
+    where
+      by-rows : (o : Outcome) → rowsFrom [] (tokenLines t) ≡ o → ((c k : ℕ) → 3 ≤ c → c ≤ 11 → rowsFrom [] (tokenLines t) ≡ refused c k → outcome t ≡ refused c k → P) →
+          ((rs : List Row) (k : ℕ) → rowsFrom [] (tokenLines t) ≡ taken rs → firstUnknown (numbersOf rs) rs ≡ suc k → outcome t ≡ refused notInSet (suc k) → P) →
+          ((rs : List Row) → outcome t ≡ taken rs → P) → ((c k : ℕ) → rowsFrom [] (tokenLines t) ≡ refused c k → (3 ≤ c) × (c ≤ 11)) → outcome t ≡ named (rowsFrom [] (tokenLines t)) → P
+      by-rows (taken rs) e faulty unknown all code h = by-first (firstUnknown (numbersOf rs) rs) refl
+        where
+          by-first : (k : ℕ) → firstUnknown (numbersOf rs) rs ≡ k → P
+          by-first zero u = all rs (h ∙ rw (e, u, named))
+          by-first (suc k) u = unknown rs k e u (h ∙ rw (e, u, named))
+      by-rows (refused c k) e faulty unknown all code h = let (a, b) = code c k e in faulty c k a b e (h ∙ rw (e, named))
+
+-- ---- what each code says
+
+module _ (t : List ℕ) where
+  -- there is no code above 12
+  pub code-last : loadAnswer t .code ≤ 12
+  code-last =
+      by-load _ t
+      (λ _ h. rw (refused-answer t tooLong 0 h .0) (omega arith))
+      (λ _ _ h. rw (refused-answer t tooManyLines 0 h .0) (omega arith))
+      (λ _ _ c k a b _ h. rw (refused-answer t c k h .0) (omega arith))
+      (λ _ _ rs k _ _ h. rw (refused-answer t notInSet (suc k) h .0) (omega arith))
+      (λ _ _ rs h. rw (taken-answer t rs h .0) (omega arith))
+
+  -- codes 0, 1 and 2 come with line 0
+  pub code-line : loadAnswer t .code ≤ 2 → loadAnswer t .line ≡ 0
+  code-line e =
+      by-load _ t
+      (λ _ h. refused-answer t tooLong 0 h .1)
+      (λ _ _ h. refused-answer t tooManyLines 0 h .1)
+      (λ _ _ c k a b _ h. let z = refused-answer t c k h .0 in absurd (omega arith))
+      (λ _ _ rs k _ _ h. let z = refused-answer t notInSet (suc k) h .0 in absurd (omega arith))
+      (λ _ _ rs h. taken-answer t rs h .1)
+
+  -- CODE 0: the text is taken
+  pub code-0 : (loadAnswer t .code ≡ 0) ↔ ((rs : List Row) × (outcome t ≡ taken rs))
+  code-0 = (
+    (λ e. by-load _ t
+        (λ _ h. let z = refused-answer t tooLong 0 h .0 in absurd (omega arith))
+        (λ _ _ h. let z = refused-answer t tooManyLines 0 h .0 in absurd (omega arith))
+        (λ _ _ c k a b _ h. let z = refused-answer t c k h .0 in absurd (omega arith))
+        (λ _ _ rs k _ _ h. let z = refused-answer t notInSet (suc k) h .0 in absurd (omega arith))
+        (λ _ _ rs h. (rs, h))),
+    (λ x. taken-answer t (x .0) (x .1) .0),
+  )
+
+  -- CODE 1: the text is above 4,096 bytes
+  pub code-1 : (loadAnswer t .code ≡ 1) ↔ (textSize < length t)
+  code-1 = (
+    (λ e. by-load _ t
+        (λ l h. l)
+        (λ _ _ h. let z = refused-answer t tooManyLines 0 h .0 in absurd (omega arith))
+        (λ _ _ c k a b _ h. let z = refused-answer t c k h .0 in absurd (omega arith))
+        (λ _ _ rs k _ _ h. let z = refused-answer t notInSet (suc k) h .0 in absurd (omega arith))
+        (λ _ _ rs h. let z = taken-answer t rs h .0 in absurd (omega arith))),
+    (λ l. by-load _ t
+        (λ _ h. refused-answer t tooLong 0 h .0)
+        (λ m _ h. absurd (omega arith))
+        (λ m _ c k a b _ h. absurd (omega arith))
+        (λ m _ rs k _ _ h. absurd (omega arith))
+        (λ m _ rs h. absurd (omega arith))),
+  )
+
+  -- CODE 2: it is not, and has more than 32 lines with tokens
+  pub code-2 : (loadAnswer t .code ≡ 2) ↔ ((length t ≤ textSize) × (maxLines < length (tokenLines t)))
+  code-2 = (
+    (λ e. by-load _ t
+        (λ _ h. let z = refused-answer t tooLong 0 h .0 in absurd (omega arith))
+        (λ l m h. (l, m))
+        (λ _ _ c k a b _ h. let z = refused-answer t c k h .0 in absurd (omega arith))
+        (λ _ _ rs k _ _ h. let z = refused-answer t notInSet (suc k) h .0 in absurd (omega arith))
+        (λ _ _ rs h. let z = taken-answer t rs h .0 in absurd (omega arith))),
+    (λ x. by-load _ t
+        (λ m h. absurd (omega (arith, x)))
+        (λ l m h. refused-answer t tooManyLines 0 h .0)
+        (λ l m c k a b _ h. absurd (omega (arith, x)))
+        (λ l m rs k _ _ h. absurd (omega (arith, x)))
+        (λ l m rs h. absurd (omega (arith, x)))),
+  )

@@ -1,0 +1,79 @@
+-- LOADING GIVES A SOUND SET, whatever the text; so from a load on no call answers 22. Theorems; nothing is assumed.
+use mathlib.Core.Path.{_≡_, ap, _∙_}
+use mathlib.Core.Bool.{true}
+use mathlib.Core.List.{List, [], _∷_}
+use Prim.Native.Nat.{ℕ, _≤_}
+use native.Mathlib.Omega.{arith}
+use lib.ListN.{length}
+use Rattle.tokens.specs.Token.{setSize}
+use Rattle.engine.specs.declared.state.State.{State}
+use Rattle.engine.specs.Set.{soundLines}
+use Rattle.soundness.specs.SetSoundLaws.{empty-sound}
+use Rattle.engine.specs.State.{powerOn}
+use Rattle.engine.specs.Sound.{isSound}
+use Rattle.soundness.specs.GoodAnswers.{Not22}
+use Rattle.soundness.specs.CellSoundLaws.{power-on}
+use Rattle.soundness.specs.Call.{Call, doBeat, doLock, doUnlock, doCancel, doReset, codeAfter, afterAll}
+use Rattle.soundness.specs.SoundLaws.{Whole, call-keeps, call-not22, power-on-whole, always-sound, never-22}
+use Rattle.demands.specs.Run.{Now, Reply, step, runFrom, run}
+use Rattle.reader.specs.Row.{byNumber}
+use Rattle.reader.specs.Load.{loadAnswer, loadSet}
+use Rattle.loading.specs.LoadAnswers.{taken-answer, refused-empty, by-outcome, load-power-on}
+use Rattle.loading.specs.PlacedLaws.{set-length, empty-length}
+use Rattle.loading.specs.LoadedLaws.{taken-read}
+
+-- ---- the set
+
+-- the lines of a set that was loaded are sound: at most 32, numbers distinct and rising, and each passes every loading check from 4 on
+pub load-lines-sound : (t : List ℕ) → soundLines (loadSet t) .sound ≡ true
+load-lines-sound t =
+    by-outcome _ t
+    (λ rs h. rw (taken-answer t rs h .2) (taken-read t rs h .sound))
+    (λ c k h. rw (refused-empty t c k h) empty-sound)
+
+-- EVERY TEXT gives a set that is sound with the state of power-on: one that is refused gives the empty set
+pub load-sound : (t : List ℕ) → isSound (loadSet t) powerOn ≡ true
+load-sound t = power-on (loadSet t) (load-lines-sound t)
+
+-- a loaded set fills its array
+pub load-size : (t : List ℕ) → length (loadSet t) ≡ setSize
+load-size t =
+    by-outcome _ t
+    (λ rs h. ap length (taken-answer t rs h .2) ∙ set-length (byNumber rs))
+    (λ c k h. ap length (refused-empty t c k h) ∙ empty-length)
+
+-- ---- from a load on
+
+-- every state that any calls reach is sound
+pub load-always-sound : (t : List ℕ) (cs : List Call) → isSound (loadSet t) (afterAll (loadSet t) (loadAnswer t .state) cs) ≡ true
+load-always-sound t cs = let n = load-size t in rw (load-power-on t) (always-sound (loadSet t) cs (omega arith) (load-lines-sound t))
+
+-- NO CALL ANSWERS 22, after any calls
+pub load-never-22 : (t : List ℕ) (cs : List Call) (c : Call) → Not22 (codeAfter (loadSet t) (afterAll (loadSet t) (loadAnswer t .state) cs) c)
+load-never-22 t cs c = let n = load-size t in rw (load-power-on t) (never-22 (loadSet t) cs c (omega arith) (load-lines-sound t))
+
+-- ---- the same of the run that demand 3 speaks of
+
+-- no reply of some is a 22
+abbrev pub NoneIs22 : List (Call × Reply) → Type 0
+NoneIs22 [] = Unit {0}
+NoneIs22 (x ∷ xs) = Not22 (x .1 .code) × NoneIs22 xs
+
+module _ (s : List ℕ) (size : length s ≤ setSize) where
+  -- a call of a run keeps the state sound, and adds no 22
+  step-keeps : (c : Call) (n : Now State) → Whole s (n .kept) → NoneIs22 (n .told) → Whole s (step s c n .kept) × NoneIs22 (step s c n .told)
+  unfolding step
+  step-keeps (doBeat m word lent b) n w h = (call-keeps s (n .kept) (doBeat m word lent b) size w, (call-not22 s (n .kept) (doBeat m word lent b) size w, h))
+  step-keeps (doLock k) n w h = (call-keeps s (n .kept) (doLock k) size w, (call-not22 s (n .kept) (doLock k) size w, h))
+  step-keeps (doUnlock k) n w h = (call-keeps s (n .kept) (doUnlock k) size w, (call-not22 s (n .kept) (doUnlock k) size w, h))
+  step-keeps (doCancel k) n w h = (call-keeps s (n .kept) (doCancel k) size w, (call-not22 s (n .kept) (doCancel k) size w, h))
+  step-keeps doReset n w h = (call-keeps s (n .kept) doReset size w, (call-not22 s (n .kept) doReset size w, h))
+
+  run-keeps : (cs : List Call) (n : Now State) → Whole s (n .kept) → NoneIs22 (n .told) → NoneIs22 (runFrom s cs n .told)
+  unfolding runFrom
+  run-keeps [] n w h = h
+  run-keeps (c ∷ cs) n w h = let (a, b) = step-keeps c n w h in run-keeps cs (step s c n) a b
+
+-- IN EVERY RUN OVER A LOADED SET no reply is a 22
+pub load-run-never-22 : (t : List ℕ) (cs : List Call) → NoneIs22 (run (loadSet t) cs .told)
+load-run-never-22 t cs = let n = load-size t in run-keeps (loadSet t) (omega arith) cs _ (power-on-whole (loadSet t) (load-lines-sound t)) tt

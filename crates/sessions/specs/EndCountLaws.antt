@@ -1,0 +1,355 @@
+-- END's three numbers are the counts over what was printed before it: the C lines, those of them with a code, and the O lines. Assumes nothing.
+use mathlib.Core.Path.{_≡_, refl, sym, ap, _∙_}
+use mathlib.Core.Bool.{Bool, true, false, not, _&&_, and-false}
+use mathlib.Core.List.{List, [], _∷_, _++_, append-assoc}
+use mathlib.Core.Logic.{_⊎_, inl, inr}
+use mathlib.Core.Option.{none, some}
+use Prim.Native.Nat.{ℕ, zero, suc, _+_, _*_, _-_, _/_, _%_, _≤_, _<_}
+use native.Mathlib.Omega.{arith}
+use lib.Dec.{eqb, ltb}
+use lib.ListN.{length, getD, drop, length-append}
+use borrow.Author.Tests.{eqb-true, eq-eqb, ne-eqb}
+use Rattle.values.specs.Choice.{decide, either}
+use Rattle.values.specs.Numbers.{clash}
+use Rattle.engine.specs.declared.one_beat.Beaten.{Beaten}
+use Rattle.text.specs.Byte.{bytes, LF, SPACE}
+use Rattle.text.specs.Word.{sameBytes}
+use Rattle.text.specs.Lines.{before, split, textLines}
+use Rattle.reader.specs.Load.{loadAnswer, loadSet}
+use Rattle.transcript.specs.Input.{inputOf}
+use Rattle.transcript.specs.BeatLine.{Lent, fields, lineLent}
+use Rattle.transcript.specs.Output.{digitsUp, decimal, signedText, fourOf, codeLine, orderLine, orderLines, errorLine, endLine}
+use Rattle.transcript.specs.declared.totals.Totals.{Totals}
+use Rattle.transcript.specs.Totals.{maxBeats, noTotals, ended, oneIf}
+use Rattle.transcript.specs.Tally.{counted, answerOf, bufferOf, beatText}
+use Rattle.transcript.specs.Synrun.{beatsText, synrun}
+use Rattle.transcript.specs.SessionRoomLaws.{byLent}
+use Rattle.sessions.specs.SessionLaws.{beats-over, beats-some, loaded-zero}
+
+-- ---- counting
+
+-- how many of some lines are of a kind
+abbrev one : Bool → ℕ
+one true = 1
+one false = 0
+
+unfoldable pub count : (List ℕ → Bool) → List (List ℕ) → ℕ
+count p [] = 0
+count p (l ∷ ls) = one (p l) + count p ls
+
+-- a field of a line, counted from 0
+abbrev pub fieldOf : List ℕ → ℕ → List ℕ
+fieldOf l k = getD (fields l) k []
+
+-- a line that begins with the field C: a beat; with the field O: an order
+abbrev pub isBeat : List ℕ → Bool
+isBeat l = sameBytes (fieldOf l 0) (bytes "C")
+
+abbrev pub isOrder : List ℕ → Bool
+isOrder l = sameBytes (fieldOf l 0) (bytes "O")
+
+-- a beat whose code, the field behind its number, is not 0
+abbrev pub isCoded : List ℕ → Bool
+isCoded l = isBeat l && not (sameBytes (fieldOf l 2) (bytes "0"))
+
+-- so many lines of a kind in what was printed
+abbrev pub linesIn : (List ℕ → Bool) → List ℕ → ℕ
+linesIn p t = count p (textLines t)
+
+-- ---- bytes that end neither a field nor a line
+
+-- each at least n
+abbrev Above : ℕ → List ℕ → Type 0
+Above n [] = Unit {0}
+Above n (b ∷ bs) = (n ≤ b) × Above n bs
+
+above-append : (n : ℕ) (a b : List ℕ) → Above n a → Above n b → Above n (a ++ b)
+above-append n [] b h g = g
+above-append n (x ∷ xs) b h g = (h .0, above-append n xs b (h .1) g)
+
+above-less : (n k : ℕ) (a : List ℕ) → k ≤ n → Above n a → Above k a
+above-less n k [] l h = tt
+above-less n k (x ∷ xs) l h = let u = h .0 in (omega arith, above-less n k xs l (h .1))
+
+digits-above : (k n : ℕ) → Above 33 (digitsUp k n)
+unfolding digitsUp
+digits-above zero n = tt
+digits-above (suc k) n = either (Above 33) (ltb n 10) (λ e. (omega arith, tt)) (λ e. above-append 33 (digitsUp k (n / 10)) ((48 + n % 10) ∷ []) (digits-above k (n / 10)) (omega arith, tt))
+
+decimal-above : (n : ℕ) → Above 33 (decimal n)
+decimal-above n = digits-above 10 n
+
+signed-above : (n : ℕ) → Above 33 (signedText n)
+unfolding signedText
+signed-above n = either (Above 33) (ltb n 2147483648) (λ e. decimal-above n) (λ e. (omega arith, decimal-above (4294967296 - n)))
+
+-- a part, the byte that ends it and the rest
+part-first : (e n : ℕ) (l rest : List ℕ) → e < n → Above n l → split e (l ++ (e ∷ rest)) ≡ l ∷ split e rest
+unfolding split
+part-first e n [] rest g h = rw (split, eq-eqb e e refl)
+part-first e n (b ∷ bs) rest g h =
+    let u = h .0 in
+    either (λ (y : List (List ℕ)). y ≡ (b ∷ bs) ∷ split e rest) (eqb b e) (λ q. absurd (omega (arith, eqb-true b e q))) (λ q. ap (before b) (part-first e n bs rest g (h .1)))
+
+-- a field, a space and the rest of the line
+field-first : (f rest : List ℕ) → Above 33 f → fields (f ++ (SPACE ∷ rest)) ≡ f ∷ fields rest
+field-first f rest h = part-first SPACE 33 f rest (omega arith) h
+
+count-first : (p : List ℕ → Bool) (l rest : List ℕ) → Above 11 l → linesIn p (l ++ (LF ∷ rest)) ≡ one (p l) + linesIn p rest
+unfolding count
+count-first p l rest h = rw (part-first LF 11 l rest (omega arith) h)
+
+-- ---- a C line
+
+-- fields one space apart, without the line's end
+abbrev spacedFrom : List ℕ → List ℕ → List ℕ
+spacedFrom f rest = f ++ (SPACE ∷ rest)
+
+spaced-above : (f rest : List ℕ) → Above 33 f → Above 11 rest → Above 11 (spacedFrom f rest)
+spaced-above f rest h g = above-append 11 f (SPACE ∷ rest) (above-less 33 11 f (omega arith) h) (omega arith, g)
+
+abbrev codeBody : ℕ → ℕ → ℕ → List ℕ
+codeBody beat code orders = spacedFrom (bytes "C") (spacedFrom (decimal beat) (spacedFrom (decimal code) (decimal orders)))
+
+code-above : (beat code orders : ℕ) → Above 11 (codeBody beat code orders)
+code-above beat code orders =
+    spaced-above (bytes "C") (spacedFrom (decimal beat) (spacedFrom (decimal code) (decimal orders))) (omega arith, tt)
+    (spaced-above (decimal beat) (spacedFrom (decimal code) (decimal orders)) (decimal-above beat)
+    (spaced-above (decimal code) (decimal orders) (decimal-above code) (above-less 33 11 (decimal orders) (omega arith) (decimal-above orders))))
+
+code-line : (beat code orders : ℕ) (rest : List ℕ) → codeLine beat code orders ++ rest ≡ codeBody beat code orders ++ (LF ∷ rest)
+unfolding codeLine
+code-line beat code orders rest = simp append-assoc
+
+code-fields : (beat code orders : ℕ) → fields (codeBody beat code orders) ≡ bytes "C" ∷ decimal beat ∷ decimal code ∷ fields (decimal orders)
+code-fields beat code orders =
+    field-first (bytes "C") (spacedFrom (decimal beat) (spacedFrom (decimal code) (decimal orders))) (omega arith, tt)
+    ∙ ap (λ (y : List (List ℕ)). bytes "C" ∷ y) (field-first (decimal beat) (spacedFrom (decimal code) (decimal orders)) (decimal-above beat))
+    ∙ ap (λ (y : List (List ℕ)). bytes "C" ∷ decimal beat ∷ y) (field-first (decimal code) (decimal orders) (decimal-above code))
+
+-- a number is written 0 exactly if it is 0
+long-same : (a : List ℕ) (x : ℕ) → 1 ≤ length a → sameBytes (a ++ (x ∷ [])) (bytes "0") ≡ false
+long-same [] x h = absurd (omega arith)
+long-same (b ∷ []) x h = and-false (eqb b 48)
+long-same (b ∷ c ∷ cs) x h = and-false (eqb b 48)
+
+digits-some : (k n : ℕ) → 1 ≤ length (digitsUp (suc k) n)
+unfolding digitsUp
+digits-some k n = either (λ (y : List ℕ). 1 ≤ length y) (ltb n 10) (λ e. omega arith) (λ e. simp length-append (omega arith))
+
+zero-written : (n : ℕ) → one (not (sameBytes (decimal n) (bytes "0"))) ≡ oneIf n
+unfolding digitsUp
+zero-written zero = refl
+zero-written (suc n) =
+    either (λ (y : List ℕ). one (not (sameBytes y (bytes "0"))) ≡ 1) (ltb (suc n) 10)
+    (λ e. rw (ne-eqb (48 + suc n) 48 (λ q. omega arith)))
+    (λ e. rw (long-same (digitsUp 9 (suc n / 10)) (48 + suc n % 10) (digits-some 8 (suc n / 10))))
+
+module _ (beat code orders : ℕ) where
+  code-is-beat : one (isBeat (codeBody beat code orders)) ≡ 1
+  code-is-beat = rw (code-fields beat code orders)
+
+  code-is-coded : one (isCoded (codeBody beat code orders)) ≡ oneIf code
+  code-is-coded = rw (code-fields beat code orders) (zero-written code)
+
+  code-no-order : one (isOrder (codeBody beat code orders)) ≡ 0
+  code-no-order = rw (code-fields beat code orders)
+
+-- ---- an O line
+
+abbrev orderBody : List ℕ → List ℕ
+orderBody o = spacedFrom (bytes "O") (spacedFrom (decimal (getD o 1 0)) (spacedFrom (decimal (getD o 0 0)) (spacedFrom (decimal (getD o 2 0)) (signedText (fourOf (drop 4 o))))))
+
+order-above : (o : List ℕ) → Above 11 (orderBody o)
+order-above o =
+    let v = signedText (fourOf (drop 4 o)) in
+    let c = spacedFrom (decimal (getD o 2 0)) v in
+    let b = spacedFrom (decimal (getD o 0 0)) c in
+    let a = spacedFrom (decimal (getD o 1 0)) b in
+    spaced-above (bytes "O") a (omega arith, tt) (spaced-above (decimal (getD o 1 0)) b (decimal-above (getD o 1 0)) (spaced-above (decimal (getD o 0 0)) c (decimal-above (getD o 0 0))
+    (spaced-above (decimal (getD o 2 0)) v (decimal-above (getD o 2 0)) (above-less 33 11 v (omega arith) (signed-above (fourOf (drop 4 o)))))))
+
+order-line : (o rest : List ℕ) → orderLine o ++ rest ≡ orderBody o ++ (LF ∷ rest)
+unfolding orderLine
+order-line o rest = simp append-assoc
+
+-- a line of a kind that goes by its first field
+order-first : (o : List ℕ) → fieldOf (orderBody o) 0 ≡ bytes "O"
+order-first o =
+    ap (λ (y : List (List ℕ)). getD y 0 [])
+    (field-first (bytes "O") (spacedFrom (decimal (getD o 1 0)) (spacedFrom (decimal (getD o 0 0)) (spacedFrom (decimal (getD o 2 0)) (signedText (fourOf (drop 4 o)))))) (omega arith, tt))
+
+module _ (o : List ℕ) where
+  order-no-beat : one (isBeat (orderBody o)) ≡ 0
+  order-no-beat = rw (order-first o)
+
+  order-no-code : one (isCoded (orderBody o)) ≡ 0
+  order-no-code = rw (order-first o)
+
+  order-is-order : one (isOrder (orderBody o)) ≡ 1
+  order-is-order = rw (order-first o)
+
+-- ---- what a beat adds
+
+-- n lines of orders add n times what one of them does
+orders-add : (p : List ℕ → Bool) (x : ℕ) → ((o : List ℕ) → one (p (orderBody o)) ≡ x) → (n : ℕ) (b rest : List ℕ) → linesIn p (orderLines n b ++ rest) ≡ n * x + linesIn p rest
+unfolding orderLines
+orders-add p x h zero b rest = omega arith
+orders-add p x h (suc n) b rest =
+    let u = orders-add p x h n (drop 8 b) rest in
+    let v = h b in
+    let c = count-first p (orderBody b) (orderLines n (drop 8 b) ++ rest) (order-above b) in
+    let os = orderLines n (drop 8 b) in
+    let e : orderLine b ++ os ++ rest ≡ orderBody b ++ (LF ∷ (os ++ rest)) = append-assoc (orderLine b) os rest ∙ order-line b (os ++ rest) in
+    rw e (omega arith)
+
+-- a C line and its O lines add what each does
+beat-adds : (p : List ℕ → Bool) (x y : ℕ) (s : List ℕ) (n : Totals) (l : Lent) (rest : List ℕ) → one (p (codeBody (n .beats + 1) (answerOf s n l .code) (answerOf s n l .orders))) ≡ y →
+    ((o : List ℕ) → one (p (orderBody o)) ≡ x) → linesIn p (beatText s n l ++ rest) ≡ y + (answerOf s n l .orders * x + linesIn p rest)
+unfolding beatText
+beat-adds p x y s n l rest g h =
+    let a = answerOf s n l in
+    let body = codeBody (n .beats + 1) (a .code) (a .orders) in
+    let os = orderLines (a .orders) (bufferOf s n l) in
+    let head = codeLine (n .beats + 1) (a .code) (a .orders) in
+    let e : head ++ os ++ rest ≡ body ++ (LF ∷ (os ++ rest)) = append-assoc head os rest ∙ code-line (n .beats + 1) (a .code) (a .orders) (os ++ rest) in
+    let c = count-first p body (os ++ rest) (code-above (n .beats + 1) (a .code) (a .orders)) in
+    let d = orders-add p x h (a .orders) (bufferOf s n l) rest in
+    rw e (c ∙ omega arith)
+
+module _ (s : List ℕ) (n : Totals) (l : Lent) (rest : List ℕ) where
+  abbrev answer : Beaten
+  answer = answerOf s n l
+
+  beats-one : linesIn isBeat (beatText s n l ++ rest) ≡ 1 + linesIn isBeat rest
+  beats-one = let e = beat-adds isBeat 0 1 s n l rest (code-is-beat (n .beats + 1) (answer .code) (answer .orders)) order-no-beat in omega arith
+
+  coded-one : linesIn isCoded (beatText s n l ++ rest) ≡ oneIf (answer .code) + linesIn isCoded rest
+  coded-one = let e = beat-adds isCoded 0 (oneIf (answer .code)) s n l rest (code-is-coded (n .beats + 1) (answer .code) (answer .orders)) order-no-code in omega arith
+
+  orders-all : linesIn isOrder (beatText s n l ++ rest) ≡ answer .orders + linesIn isOrder rest
+  orders-all = let e = beat-adds isOrder 1 0 s n l rest (code-no-order (n .beats + 1) (answer .code) (answer .orders)) order-is-order in omega arith
+
+-- ---- what stands at the end
+
+-- END with what was counted before and in what was shown
+abbrev endFrom : Totals → List ℕ → List ℕ
+endFrom n shown = endLine (n .beats + linesIn isBeat shown) (n .coded + linesIn isCoded shown) (n .orders + linesIn isOrder shown)
+
+-- E with the number of the line behind those of the beats
+abbrev errorFrom : Totals → List ℕ → List ℕ
+errorFrom n shown = errorLine (n .beats + linesIn isBeat shown + 1)
+
+nothing-counted : (n : Totals) → (n .beats + linesIn isBeat [] ≡ n .beats) × (n .coded + linesIn isCoded [] ≡ n .coded) × (n .orders + linesIn isOrder [] ≡ n .orders)
+unfolding count split
+nothing-counted n = (omega arith, omega arith, omega arith)
+
+end-now : (n : Totals) → ended n ≡ endFrom n []
+end-now n = let e = nothing-counted n in rw (e .0, e .1, e .2)
+
+error-now : (n : Totals) → errorLine (n .beats + 1) ≡ errorFrom n []
+error-now n = let e = nothing-counted n in rw (e .0)
+
+module _ (s : List ℕ) (n : Totals) (x : Lent) (shown : List ℕ) where
+  abbrev then : Totals
+  then = counted n (answerOf s n x)
+
+  end-later : endFrom then shown ≡ endFrom n (beatText s n x ++ shown)
+  end-later =
+      let b = beats-one s n x shown in
+      let c = coded-one s n x shown in
+      let o = orders-all s n x shown in
+      let p : then .beats + linesIn isBeat shown ≡ n .beats + linesIn isBeat (beatText s n x ++ shown) = omega arith in
+      let q : then .coded + linesIn isCoded shown ≡ n .coded + linesIn isCoded (beatText s n x ++ shown) = omega arith in
+      let r : then .orders + linesIn isOrder shown ≡ n .orders + linesIn isOrder (beatText s n x ++ shown) = omega arith in
+      λ i. endLine (p i) (q i) (r i)
+
+  error-later : errorFrom then shown ≡ errorFrom n (beatText s n x ++ shown)
+  error-later =
+      let b = beats-one s n x shown in
+      let p : then .beats + linesIn isBeat shown + 1 ≡ n .beats + linesIn isBeat (beatText s n x ++ shown) + 1 = omega arith in
+      ap errorLine p
+
+  -- a beat before what follows
+  later : (text : List ℕ) (last : Totals → List ℕ → List ℕ) → last then shown ≡ last n (beatText s n x ++ shown) → text ≡ shown ++ last then shown →
+      beatText s n x ++ text ≡ (beatText s n x ++ shown) ++ last n (beatText s n x ++ shown)
+  later text last e h =
+      ap (λ (y : List ℕ). beatText s n x ++ y) h ∙ sym (append-assoc (beatText s n x) shown (last then shown)) ∙ ap (λ (y : List ℕ). beatText s n x ++ shown ++ y) e
+
+-- each of some beat lines is well-formed
+unfoldable pub wellFormed : List (List ℕ) → Bool
+wellFormed [] = true
+wellFormed (l ∷ ls) = elim (lineLent l) [ none ↦ false | some x ↦ wellFormed ls ]
+
+well-first : (l : List ℕ) (ls : List (List ℕ)) → wellFormed (l ∷ ls) ≡ true → (x : Lent) × (lineLent l ≡ some x) × (wellFormed ls ≡ true)
+unfolding wellFormed
+well-first l ls = byLent (λ (y : Bool). y ≡ true → (x : Lent) × (lineLent l ≡ some x) × (wellFormed ls ≡ true)) (lineLent l) (λ e h. clash (cc)) (λ x e h. (x, e, h))
+
+end-counted : (ls : List (List ℕ)) (s : List ℕ) (n : Totals) → wellFormed ls ≡ true → (shown : List ℕ) × (beatsText s n ls ≡ shown ++ endFrom n shown)
+unfolding beatsText
+end-counted [] s n h = ([], end-now n)
+end-counted (l ∷ ls) s n h =
+    decide ((shown : List ℕ) × (beatsText s n (l ∷ ls) ≡ shown ++ endFrom n shown)) (eqb (n .beats) maxBeats)
+    (λ e. ([], beats-over s n (l ∷ ls) e ∙ end-now n))
+    (λ e. let w = well-first l ls h in
+    let x = w .0 in
+    let r = end-counted ls s (counted n (answerOf s n x)) (w .2) in
+    (beatText s n x ++ r .0, beats-some s n l ls x e (w .1) ∙ later s n x (r .0) (beatsText s (counted n (answerOf s n x)) ls) endFrom (end-later s n x (r .0)) (r .1)))
+
+-- END or E, whatever the lines
+abbrev Last : Totals → List ℕ → Type 0
+Last n text = (shown : List ℕ) × ((text ≡ shown ++ endFrom n shown) ⊎ (text ≡ shown ++ errorFrom n shown))
+
+last-later : (s : List ℕ) (n : Totals) (x : Lent) (text : List ℕ) → Last (counted n (answerOf s n x)) text → Last n (beatText s n x ++ text)
+last-later s n x text r = (beatText s n x ++ r .0, by-end (r .1))
+  where
+    by-end : (text ≡ r .0 ++ endFrom (counted n (answerOf s n x)) (r .0)) ⊎ (text ≡ r .0 ++ errorFrom (counted n (answerOf s n x)) (r .0)) →
+        (beatText s n x ++ text ≡ (beatText s n x ++ r .0) ++ endFrom n (beatText s n x ++ r .0)) ⊎ (beatText s n x ++ text ≡ (beatText s n x ++ r .0) ++ errorFrom n (beatText s n x ++ r .0))
+    by-end (inl e) = inl (later s n x (r .0) text endFrom (end-later s n x (r .0)) e)
+    by-end (inr e) = inr (later s n x (r .0) text errorFrom (error-later s n x (r .0)) e)
+
+last-counted : (ls : List (List ℕ)) (s : List ℕ) (n : Totals) → Last n (beatsText s n ls)
+unfolding beatsText
+last-counted [] s n = ([], inl (end-now n))
+last-counted (l ∷ ls) s n =
+    either (Last n) (eqb (n .beats) maxBeats) (λ e. ([], inl (end-now n)))
+    (λ e. byLent (Last n) (lineLent l) (λ u. ([], inr (error-now n))) (λ x u. last-later s n x (beatsText s (counted n (answerOf s n x)) ls) (last-counted ls s (counted n (answerOf s n x)))))
+
+-- ---- all that is printed
+
+from-none : (shown : List ℕ) → endFrom noTotals shown ≡ endLine (linesIn isBeat shown) (linesIn isCoded shown) (linesIn isOrder shown)
+from-none shown =
+    let p : 0 + linesIn isBeat shown ≡ linesIn isBeat shown = omega arith in
+    let q : 0 + linesIn isCoded shown ≡ linesIn isCoded shown = omega arith in
+    let r : 0 + linesIn isOrder shown ≡ linesIn isOrder shown = omega arith in
+    λ i. endLine (p i) (q i) (r i)
+
+error-none : (shown : List ℕ) → errorFrom noTotals shown ≡ errorLine (linesIn isBeat shown + 1)
+error-none shown = let p : 0 + linesIn isBeat shown + 1 ≡ linesIn isBeat shown + 1 = omega arith in ap errorLine p
+
+-- where the text is taken and every beat line is well-formed, the last line is END with the numbers of the C lines, of those with a code and of the O lines before it
+pub end-counts : (t : List ℕ) → loadAnswer (inputOf t .text) .code ≡ 0 → wellFormed (inputOf t .beats) ≡ true →
+    (shown : List ℕ) × (synrun t ≡ shown ++ endLine (linesIn isBeat shown) (linesIn isCoded shown) (linesIn isOrder shown))
+unfolding synrun
+end-counts t h g =
+    let i = inputOf t in
+    let r = end-counted (i .beats) (loadSet (i .text)) noTotals g in
+    (r .0, loaded-zero i h ∙ r .1 ∙ ap (λ (y : List ℕ). r .0 ++ y) (from-none (r .0)))
+
+-- where the text is taken, whatever the beat lines, it is that, or E with one more than the C lines before it
+pub last-counts : (t : List ℕ) → loadAnswer (inputOf t .text) .code ≡ 0 →
+    (shown : List ℕ)
+    × ((synrun t ≡ shown ++ endLine (linesIn isBeat shown) (linesIn isCoded shown) (linesIn isOrder shown)) ⊎ (synrun t ≡ shown ++ errorLine (linesIn isBeat shown + 1)))
+unfolding synrun
+last-counts t h = (r .0, by-end (r .1))
+  where
+    text : List ℕ
+    text = beatsText (loadSet (inputOf t .text)) noTotals (inputOf t .beats)
+
+    r : Last noTotals text
+    r = last-counted (inputOf t .beats) (loadSet (inputOf t .text)) noTotals
+
+    by-end : (text ≡ r .0 ++ endFrom noTotals (r .0)) ⊎ (text ≡ r .0 ++ errorFrom noTotals (r .0)) →
+        (synrun t ≡ r .0 ++ endLine (linesIn isBeat (r .0)) (linesIn isCoded (r .0)) (linesIn isOrder (r .0))) ⊎ (synrun t ≡ r .0 ++ errorLine (linesIn isBeat (r .0) + 1))
+    by-end (inl e) = inl (loaded-zero (inputOf t) h ∙ e ∙ ap (λ (y : List ℕ). r .0 ++ y) (from-none (r .0)))
+    by-end (inr e) = inr (loaded-zero (inputOf t) h ∙ e ∙ ap (λ (y : List ℕ). r .0 ++ y) (error-none (r .0)))

@@ -1,0 +1,32 @@
+-- How much of a piece a step takes, and how much it writes. Assumes nothing.
+use mathlib.Core.Path.{_≡_, ap, _∙_}
+use mathlib.Core.List.{List}
+use Prim.Native.Nat.{ℕ, _-_, _≤_}
+use native.Mathlib.Omega.{arith}
+use lib.ListN.{length, take, drop, length-drop}
+use lib.Seq.{length-take-le}
+use Rattle.transcript.specs.declared.session.Stepped.{Stepped}
+use Rattle.transcript.specs.Machine.{Machine, worked, finishedText, outSize}
+use Rattle.transcript.specs.SessionAnswers.{IsWork}
+use Rattle.transcript.specs.SessionRoomLaws.{finished-text-room}
+use Rattle.text.specs.PutAt.{putAt}
+use Rattle.text.specs.PutLaws.{put-length}
+use Rattle.transcript.specs.BeatTakenLaws.{worked-room, taken-within, taken-some}
+
+-- what is left of a piece behind k bytes
+pub left-length : (k : ℕ) (t : List ℕ) → length (take (length t - k) (drop k t)) ≡ length t - k
+left-length k t = let d = length-drop k t in length-take-le (length t - k) (drop k t) (omega arith)
+
+module _ (m : Machine) (t : List ℕ) {text lines buffer exit : List ℕ} {x : Stepped} (w : IsWork (worked m t) text lines buffer x exit) where
+  pub written-room : length buffer ≡ outSize → x .written ≤ length exit
+  written-room n = let r = worked-room m t in let e = w .written in let l = ap length (w .output) ∙ put-length (worked m t .output) buffer 0 in omega arith
+
+  pub no-more : x .taken ≤ length t
+  no-more = let r = taken-within m t in let e = w .taken in omega arith
+
+  pub some : 1 ≤ length t → 1 ≤ x .taken
+  some h = let r = taken-some m t h in let e = w .taken in omega arith
+
+-- what the end of input prints fits too
+pub end-room : (m : Machine) (buffer : List ℕ) {n : ℕ} {exit : List ℕ} → n ≡ length (finishedText m) → exit ≡ putAt buffer 0 (finishedText m) → length buffer ≡ outSize → n ≤ length exit
+end-room m buffer {n} {exit} e o b = let r = finished-text-room m in let l = ap length o ∙ put-length (finishedText m) buffer 0 in omega arith
