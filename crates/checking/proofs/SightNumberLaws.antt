@@ -6,11 +6,11 @@ use native.Mathlib.Omega.{arith}
 use lib.Dec.{eqb}
 use borrow.Author.Tests.{eqb-true, eq-eqb, ne-eqb}
 use Rattle.values.specs.Codes.{notInGrammar}
-use Rattle.tokens.specs.Token.{setSize, SAME, ATLEAST, PLUS, MINUS, TIMES, OVER, AND, XOR, isFactor, isTerm, isCompare, isLogic}
+use Rattle.tokens.specs.Token.{setSize, SAME, ATLEAST, PLUS, MINUS, TIMES, OVER, AND, XOR, isFactor, isTerm, isArithmetic, isCompare, isLogic}
 use Rattle.tokens.specs.Descent.{Read, read, ends, then}
 use Rattle.tokens.specs.SingleFault.{lower, wantingFault}
 use Rattle.tokens.proofs.AnswerLaws as answers
-use Rattle.tokens.proofs.Between.{inside, outside}
+use Rattle.tokens.proofs.Between.{inside, outside, is-inside, arithmetic-range}
 use Rattle.checking.specs.Fault.{Sight, joinSights, faultFor, lowest}
 use Rattle.checking.specs.SightNumber.{numberSeen, truthSeen, nextOf, truthOf, faultOf, depthOf, deeperOf, isFaultless, sightOf, seen, faulted, signedSight}
 use Rattle.checking.specs.Brackets.{SameEnd, Joined}
@@ -175,27 +175,23 @@ then-same (read y q) h = h y q
 then-same (ends k) h = refl
 
 -- an operator that is none of + - * / gives a yes/no
-apart : (o : ℕ) → (PLUS ≤ o → o ≤ OVER → ⊥) → not (isFactor o || isTerm o) ≡ true
-apart o h = ap not (ap (λ (f : Bool). f || isTerm o) (outside TIMES OVER o (λ x y. h (omega arith) y)) ∙ outside PLUS MINUS o (λ x y. h x (omega arith)))
+apart : (o : ℕ) → (PLUS ≤ o → o ≤ OVER → ⊥) → not (isArithmetic o) ≡ true
+apart o h = ap not (sym (arithmetic-range o) ∙ outside PLUS OVER o h)
 
 -- x is a, the operator o behind it, and r
 module _ (o : ℕ) (a : Sight) {x : Read Sight} (r : Read Sight) where
-  joins : (l t : Bool) → isLogic o ≡ l → not (isFactor o || isTerm o) ≡ t → x ≡ then r (λ y q. read (record { truth = t; fault = lowest l a y }) q) → x ≡ then r (λ y q. read (joinSights o a y) q)
+  joins : (l t : Bool) → isLogic o ≡ l → not (isArithmetic o) ≡ t → x ≡ then r (λ y q. read (record { truth = t; fault = lowest l a y }) q) → x ≡ then r (λ y q. read (joinSights o a y) q)
   unfolding joinSights
   joins l t e f h = h ∙ then-same r (λ y q. rw (sym e, sym f) refl)
 
-  numbers : isFactor o || isTerm o ≡ true → PLUS ≤ o → o ≤ OVER → x ≡ then r (λ y q. read (record { truth = false; fault = lowest false a y }) q) → x ≡ then r (λ y q. read (joinSights o a y) q)
-  numbers e l m h = joins false false (outside AND XOR o (λ x y. omega arith)) (ap not e) h
+  numbers : PLUS ≤ o → o ≤ OVER → x ≡ then r (λ y q. read (record { truth = false; fault = lowest false a y }) q) → x ≡ then r (λ y q. read (joinSights o a y) q)
+  numbers l m h = joins false false (outside AND XOR o (λ x y. omega arith)) (ap not (sym (arithmetic-range o) ∙ is-inside PLUS OVER o l m)) h
 
   pub joins-factor : isFactor o ≡ true → x ≡ then r (λ y q. read (record { truth = false; fault = lowest false a y }) q) → x ≡ then r (λ y q. read (joinSights o a y) q)
-  joins-factor e h = let i = inside TIMES OVER o e in numbers (ap (λ (f : Bool). f || isTerm o) e) (omega arith) (i .1) h
+  joins-factor e = let i = inside TIMES OVER o e in numbers (omega arith) (i .1)
 
   pub joins-term : isTerm o ≡ true → x ≡ then r (λ y q. read (record { truth = false; fault = lowest false a y }) q) → x ≡ then r (λ y q. read (joinSights o a y) q)
-  joins-term e h = let i = inside PLUS MINUS o e in numbers (ap (λ (f : Bool). isFactor o || f) e ∙ go (isFactor o)) (i .0) (omega arith) h
-    where
-      go : (f : Bool) → f || true ≡ true
-      go true = refl
-      go false = refl
+  joins-term e = let i = inside PLUS MINUS o e in numbers (i .0) (omega arith)
 
   pub joins-compared : isCompare o ≡ true → x ≡ then r (λ y q. read (record { truth = true; fault = lowest false a y }) q) → x ≡ then r (λ y q. read (joinSights o a y) q)
   joins-compared e h =

@@ -57,5 +57,5 @@ parts-spec =
     let n = f .before .before in
     let d = n .before .before in
     parts-good _ _ _ _ _ (d .before .args .a) (n .next-of .ensures) (f .before .if2 .left) (f .fault-of .ensures) (w .before .before .before .if3 .left)
-    (c .before .before .number-of .ensures ∙ ap numberOf (w .whole-of .ensures ∙ ap whole (w .before .token-at .ensures .0))) (ap (λ (w : ℕ). eqb w IDS) (c .token-at2 .ensures .0)) ∙
+    (c .before .before .number-of .ensures ∙ ap numberOf (w .whole-of .ensures ∙ ap whole (w .before .token-at .ensures))) (ap (λ (w : ℕ). eqb w IDS) (c .token-at2 .ensures)) ∙
     not-deep d (n .before .if1 .left)))

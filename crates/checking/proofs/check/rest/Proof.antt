@@ -44,7 +44,7 @@ rest-spec =
     let t = w .before in
     let h = t .before .before in
     let a = h .before .args in
-    c .body .ensures ∙ ap (judged (a .set .now) (a .at)) (ap (bodyFrom (a .set .now) (a .at) 0 0) (faulted-made (head h) (omega arith)) ∙ rest-always _ _ _ _ (t .token-at .ensures .0) (w .is-keyword .ensures) (c .before .if1 .taken)))
+    c .body .ensures ∙ ap (judged (a .set .now) (a .at)) (ap (bodyFrom (a .set .now) (a .at) 0 0) (faulted-made (head h) (omega arith)) ∙ rest-always _ _ _ _ (t .token-at .ensures) (w .is-keyword .ensures) (c .before .if1 .taken)))
     (λ c. omega arith)
     (λ c κs. search needs)
     (λ c κs. search needs)
@@ -57,7 +57,7 @@ rest-spec =
     let t = w .before in
     let h = t .before .before in
     let a = h .before .args in
-    let word = counts-token _ (a .at + 3) (a .at + 4) (t .token-at .ensures .0) (other-high WHEN EVERY _ (omega arith) (w .is-keyword .ensures) (not-false _ (e .before .if1 .left))) (omega arith) in
+    let word = counts-token _ (a .at + 3) (a .at + 4) (t .token-at .ensures) (other-high WHEN EVERY _ (omega arith) (w .is-keyword .ensures) (not-false _ (e .before .if1 .left))) (omega arith) in
     let condition = same-end-on _ (x .as-wanted .ensures .1) .goes _ (e .expression .ensures .1) in
     (h .before .pre .0, joined-next _ (sym (head h .next)) (λ z. omega arith) (counted-behind _ (a .at + 3) (a .at + 4) word condition) (c .join-faults .ensures .1) .goes _ (head-counted h)))
     (λ c.
@@ -72,4 +72,4 @@ rest-spec =
     ap (judged (a .set .now) (a .at)) (ap (bodyFrom (a .set .now) (a .at) (t .token-at .result) (a .at + 4)) (j .join-faults .ensures .0 ∙
     ap (λ (r : Read ℕ). then r (λ g q. read (lower (faultOf (h .number-seen .result)) g) q)) (faulted-wanted true _ _ (expressionAt (a .set .now) sight 4130 (a .at + 4)) (e .expression .ensures .0) (x .as-wanted .ensures .0)) ∙
     ap (λ (f : ℕ). then (faultFor true (expressionAt (a .set .now) sight 4130 (a .at + 4))) (λ g q. read (lower f g) q)) (head h .fault)) ∙
-    rest-keyword _ _ _ _ (t .token-at .ensures .0) (w .is-keyword .ensures) (e .before .if1 .left))))
+    rest-keyword _ _ _ _ (t .token-at .ensures) (w .is-keyword .ensures) (e .before .if1 .left))))

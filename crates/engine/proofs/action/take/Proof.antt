@@ -32,7 +32,7 @@ removal c = let a = c .before .before .before .before .before .before .before .a
 changes : (c : tie.After-take-oldest) → IsChanged (c .take-oldest .result) (c .take-oldest .last .0) (c .take-oldest .last .1 .0) (removal c)
 changes c =
     let a = c .before .before .before .before .before .before .before .args in
-    rw (c .before .token-at .ensures .0, oldest-taken (now (a .r)) (now (a .cells)) (getD (now (a .set)) (a .p) 0) (removal-fifo _ _ (removes (c .before .before .before .before .before)))) at (c .take-oldest .ensures)
+    rw (c .before .token-at .ensures, oldest-taken (now (a .r)) (now (a .cells)) (getD (now (a .set)) (a .p) 0) (removal-fifo _ _ (removes (c .before .before .before .before .before)))) at (c .take-oldest .ensures)
 
 pub take-spec : {M : Type 1} → statement M
 unfolding takenAt

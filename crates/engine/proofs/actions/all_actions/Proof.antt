@@ -75,7 +75,7 @@ all-actions-spec =
     let t = s .before .before .before .before .before in
     let e = acted s in (
       ends (t .before) (d .result) (l .0) (l .1 .0) (l .1 .1 .0)
-          (rw (acts-end _ _ _ _ _ _ _ (e .1) (t .before .loop .left) (t .loop-test .taken) (sym (c .before .token-at .ensures .0) ∙ c .if2 .taken)) (not-false _ (s .if1 .left), (refl, refl))),
+          (rw (acts-end _ _ _ _ _ _ _ (e .1) (t .before .loop .left) (t .loop-test .taken) (sym (c .before .token-at .ensures) ∙ c .if2 .taken)) (not-false _ (s .if1 .left), (refl, refl))),
       (omega arith, d .ensures .1 .1 ∙ t .before .loop .inv .2),
     ))
     (λ c. search needs)
@@ -83,7 +83,7 @@ all-actions-spec =
     (λ c.
     let s = c .before .before .before .before in
     let t = s .before .before .before .before .before in
-    (acts-on _ _ _ _ _ _ _ (acted s .1) (t .before .loop .left) (t .loop-test .taken) (λ z. c .before .if2 .left (c .before .before .token-at .ensures .0 ∙ z)) ∙ t .before .loop .inv .0, omega arith, s .before .action .ensures .1 .1 ∙ t .before .loop .inv .2))
+    (acts-on _ _ _ _ _ _ _ (acted s .1) (t .before .loop .left) (t .loop-test .taken) (λ z. c .before .if2 .left (c .before .before .token-at .ensures ∙ z)) ∙ t .before .loop .inv .0, omega arith, s .before .action .ensures .1 .1 ∙ t .before .loop .inv .2))
     (λ c κs. search needs)
     (λ c.
     let b = c .before .before in
