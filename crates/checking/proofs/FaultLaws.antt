@@ -8,7 +8,7 @@ use lib.Dec.{eqb}
 use lib.ListN.{getD, drop}
 use borrow.Author.Tests.{not-true, not-false, eq-eqb, ne-eqb}
 use Rattle.values.specs.Codes.{tooDeep, notInGrammar}
-use Rattle.checking.specs.declared.check.Line.{Line}
+use Rattle.checking.specs.declared.line.Line.{Line}
 use Rattle.tokens.specs.Token.{setSize, FIFO1, FIFO4, END, EQUALS, OPEN, CLOSE, IDS, DO, M, isArithmetic, isFifo, isCall, isKeyword, isWhole, whole}
 use Rattle.tokens.specs.Descent.{Read, read, ends, then, isIndexed, indexAt, expressionAt}
 use Rattle.checking.specs.Fault.{sight, faultFor, isRemoval, assignmentAt, commandAt, actionAt, countFault, actionsAt, numberOf, faultyLine, judged, lineParts, bodyAt, restAt}

@@ -5,7 +5,7 @@ use Prim.Native.Nat.{ℕ, zero, suc, _+_}
 use lib.Dec.{eqb, leb}
 use lib.ListN.{drop}
 use Rattle.values.specs.Codes.{tooDeep, notInGrammar, tooManyActions}
-use Rattle.checking.specs.declared.check.Line.{Line}
+use Rattle.checking.specs.declared.line.Line.{Line}
 use Rattle.tokens.specs.Token.{setSize, END, EQUALS, OPEN, CLOSE, IDS, DO, M, isVariable, isFifo, isDrive, isCall, isKeyword, isId, isArithmetic, isLogic, isWhole, whole, maxActions}
 use Rattle.tokens.specs.Descent.{token, good, Read, read, ends, then, Meaning, isIndexed, indexAt, sumAt, expressionAt}
 use Rattle.tokens.specs.SingleFault.{callFault, codeFault, idFault, lower, numberFault, opensTooMany, readFault, unless, wantingFault, writeFault}

@@ -2,11 +2,11 @@
 //
 // No public call asks anything of its caller.
 mod action;
-mod check;
 mod expression;
+mod line;
 mod sight;
 mod sight_number;
 
 pub use action::is_removal;
-pub use check::Line;
-pub use check::line_at;
+pub use line::Line;
+pub use line::line_at;

@@ -7,7 +7,7 @@ use lib.Dec.{eqb, ltb}
 use lib.ListN.{getD, set, replicate}
 use Rattle.tokens.specs.Token.{END, LOCK, UNLOCK, between, whole, maxLines, setSize}
 use Rattle.checking.specs.Fault.{lineAt, faultyLine}
-use Rattle.checking.specs.declared.check.Line.{Line}
+use Rattle.checking.specs.declared.line.Line.{Line}
 use Rattle.engine.specs.declared.set.Lines.{Lines}
 
 abbrev pub lineCount : List ℕ → ℕ

@@ -10,7 +10,7 @@ use lib.ListN.{length, drop}
 use borrow.Author.Tests.{le-leb, lt-leb, eq-eqb, eqb-true, eqb-false}
 use Rattle.values.specs.Codes.{tooDeep, notInGrammar}
 use Rattle.values.specs.Choice.{told-so, both, decide, choice, chosen, refused}
-use Rattle.checking.specs.declared.check.Line.{Line as Told}
+use Rattle.checking.specs.declared.line.Line.{Line as Told}
 use Rattle.tokens.specs.Token.{setSize, END, EQUALS, LEFT, RIGHT, DO, IM, isVariable, hasAxis, isFifo, isDrive, isCall, isKeyword, isId, isWhole, whole, CLOSE, FIFO1, FIFO4, IN, M, MOV, OPEN, POS}
 use Rattle.grammar.specs.Tree.{variable, product, noFactor, Sum, sum, noTerm, Action, assign, assignPosition, drive, code, call, Condition, always, under, Line, line, sumTokens, actionTokens, actionsTokens, conditionTokens, lineTokens}
 use Rattle.tokens.specs.Descent.{token, Read, read, ends, isIndexed, indexAt, sumAt, expressionAt}

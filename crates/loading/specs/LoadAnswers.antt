@@ -13,7 +13,7 @@ use Rattle.values.specs.Codes.{tooLong, tooManyLines, tooDeep, notInGrammar, no
 use Rattle.values.specs.Choice.{decide, chosen, refused as not-chosen}
 use Rattle.values.specs.Numbers.{clash}
 use Rattle.values.specs.Unique.{unique}
-use Rattle.checking.specs.declared.check.Line.{Line as Told}
+use Rattle.checking.specs.declared.line.Line.{Line as Told}
 use Rattle.tokens.specs.Token.{END, setSize, maxLines, textSize}
 use Rattle.tokens.specs.SingleFault.{opensTooMany}
 use Rattle.checking.specs.Fault.{lineAt}

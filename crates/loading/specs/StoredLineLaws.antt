@@ -12,7 +12,7 @@ use Rattle.values.specs.Choice.{decide, chosen}
 use Rattle.values.specs.Numbers.{clash}
 use Rattle.tokens.specs.Token.{END, OPEN, CLOSE, NUMBER, LOCK, UNLOCK, isNumber, whole, setSize, AllReal}
 use Rattle.grammar.specs.Tree.{Line, line, lineTokens}
-use Rattle.checking.specs.declared.check.Line.{Line as Told}
+use Rattle.checking.specs.declared.line.Line.{Line as Told}
 use Rattle.grammar.specs.Meaning.{Stands}
 use Rattle.tokens.specs.SingleFault.{bracketsOpen, opensTooMany}
 use Rattle.checking.specs.Fault.{lineAt}

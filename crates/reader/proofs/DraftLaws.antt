@@ -8,7 +8,7 @@ use borrow.Author.Tests.{lt-ltb, le-ltb, ltb-true}
 use lib.Dec.{ltb}
 use lib.ListN.{length, set}
 use Rattle.values.specs.Codes.{tooManyLines, makesNoToken, usedAbove}
-use Rattle.checking.specs.declared.check.Line.{Line}
+use Rattle.checking.specs.declared.line.Line.{Line}
 use Rattle.checking.specs.Fault.{lineAt}
 use Rattle.engine.specs.Set.{rankIn, isKnown}
 use Rattle.text.specs.Tokens.{Tokens}

@@ -12,7 +12,7 @@ use lib.Seq.{drop-cons}
 use borrow.Author.Tests.{eqb-true, eqb-false, ne-eqb, eq-eqb}
 use Rattle.values.specs.Codes.{tooDeep, notInGrammar}
 use Rattle.values.specs.Choice.{told-so, decide, chosen, refused, eitherBoth}
-use Rattle.checking.specs.declared.check.Line.{Line as Told}
+use Rattle.checking.specs.declared.line.Line.{Line as Told}
 use Rattle.tokens.specs.Token.{END, OPEN, CLOSE, LOCK, UNLOCK, whole, setSize, AllReal}
 use Rattle.grammar.specs.Tree.{Line, line, lineTokens}
 use Rattle.grammar.specs.Meaning.{Stands}

@@ -13,7 +13,7 @@ use lib.Seq.{getD-take, getD-drop}
 use borrow.Author.Tests.{eqb-true, ltb-true}
 use Rattle.values.specs.Choice.{either, ifNot}
 use Rattle.values.specs.Numbers.{clash}
-use Rattle.checking.specs.declared.check.Line.{Line}
+use Rattle.checking.specs.declared.line.Line.{Line}
 use Rattle.values.specs.FifoLaws.{same-each}
 use Rattle.engine.specs.declared.state.State.{State}
 use Rattle.engine.specs.declared.calls.Called.{Called}

@@ -13,7 +13,7 @@ use Rattle.tokens.specs.Token.{END, M, SETAL, LOCK, isVariable, isDrive, whole,
 use Rattle.tokens.specs.Descent.{Answer, good, stop, indexAt}
 use Rattle.working.specs.Operators.{isYes}
 use Rattle.working.specs.Working.{rightValue, conditionValue}
-use Rattle.checking.specs.declared.check.Line.{Line}
+use Rattle.checking.specs.declared.line.Line.{Line}
 use Rattle.engine.specs.declared.state.State.{State}
 use Rattle.engine.specs.Set.{rankIn, noLine, soundLines}
 use Rattle.soundness.specs.GoodAnswers.{Ok, bind-ok, ok-then}

@@ -1,4 +1,4 @@
--- `check::line_at` meets its contract: each return by the tests that led to it.
+-- `line::line_at` meets its contract: each return by the tests that led to it.
 use borrow.Author.Needs.{needs}
 use native.Mathlib.Omega.{arith}
 use borrow.Author.Tests.{not-true, not-false, eq-eqb, ne-eqb}
@@ -10,8 +10,8 @@ use Rattle.tokens.specs.Token.{ID, IDS, EQUALS, isId, isWhole}
 use Rattle.checking.specs.Fault.{lineAt}
 use Rattle.tokens.proofs.Between.{tested, no-end, lies-inside}
 use Rattle.checking.proofs.BracketCountLaws.{counts-head}
-use Rattle.checking.proofs.check.line_at.Statement.{statement}
-use Rattle.checking.proofs.check.line_at.Tie as tie
+use Rattle.checking.proofs.line.line_at.Statement.{statement}
+use Rattle.checking.proofs.line.line_at.Tie as tie
 
 -- behind the first test an id stands at the line's start, which lies inside the code
 module _ (c : tie.Else1) where

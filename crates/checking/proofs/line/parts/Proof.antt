@@ -1,4 +1,4 @@
--- `check::parts` meets its contract: each return by the tests that led to it.
+-- `line::parts` meets its contract: each return by the tests that led to it.
 use borrow.Author.Needs.{needs}
 use native.Mathlib.Omega.{arith}
 use mathlib.Core.Path.{_≡_, sym, ap, _∙_}
@@ -7,12 +7,12 @@ use Prim.Native.Nat.{ℕ}
 use lib.Dec.{eqb}
 use Rattle.values.specs.Codes.{tooDeep}
 use Rattle.tokens.specs.Token.{whole, IDS}
-use Rattle.checking.specs.declared.check.Line.{Line}
+use Rattle.checking.specs.declared.line.Line.{Line}
 use Rattle.checking.specs.Fault.{numberOf, faultyLine, judged, lineParts}
 use Rattle.checking.specs.SightNumber.{faulted}
 use Rattle.checking.proofs.FaultLaws.{parts-end, parts-faulty, parts-good, judged-deep, judged-not}
-use Rattle.checking.proofs.check.parts.Statement.{statement}
-use Rattle.checking.proofs.check.parts.Tie as tie
+use Rattle.checking.proofs.line.parts.Statement.{statement}
+use Rattle.checking.proofs.line.parts.Tie as tie
 
 -- what 5 to 10 tell of the line is told where its brackets are not too many
 module _ (c : tie.After-is-too-deep) where

@@ -1,10 +1,10 @@
--- `check::is_too_deep` meets its contract: what was read tells the whole count, unless it is too deep or nothing.
+-- `line::is_too_deep` meets its contract: what was read tells the whole count, unless it is too deep or nothing.
 use borrow.Author.Needs.{needs}
 use mathlib.Core.Path.{_∙_}
 use native.Mathlib.Omega.{arith}
 use Rattle.checking.proofs.BracketCountLaws.{counted-whole}
-use Rattle.checking.proofs.check.is_too_deep.Statement.{statement}
-use Rattle.checking.proofs.check.is_too_deep.Tie as tie
+use Rattle.checking.proofs.line.is_too_deep.Statement.{statement}
+use Rattle.checking.proofs.line.is_too_deep.Tie as tie
 
 pub is-too-deep-spec : {M : Type 1} → statement M
 is-too-deep-spec =

@@ -1,9 +1,9 @@
--- `check::number_of` meets its contract: each return by the tests that led to it.
+-- `line::number_of` meets its contract: each return by the tests that led to it.
 use borrow.Author.Needs.{needs}
 use borrow.Author.Tests.{le-leb, lt-leb}
 use Rattle.checking.specs.Fault.{numberOf}
-use Rattle.checking.proofs.check.number_of.Statement.{statement}
-use Rattle.checking.proofs.check.number_of.Tie as tie
+use Rattle.checking.proofs.line.number_of.Statement.{statement}
+use Rattle.checking.proofs.line.number_of.Tie as tie
 
 pub number-of-spec : {M : Type 1} → statement M
 unfolding numberOf

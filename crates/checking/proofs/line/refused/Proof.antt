@@ -1,11 +1,11 @@
--- `check::refused` meets its contract: 4 comes before 5.
+-- `line::refused` meets its contract: 4 comes before 5.
 use borrow.Author.Needs.{needs}
 use mathlib.Core.Path.{_∙_}
 use Rattle.values.specs.Codes.{notInGrammar}
 use Rattle.checking.specs.Fault.{faultyLine}
 use Rattle.checking.proofs.FaultLaws.{judged-deep, judged-not}
-use Rattle.checking.proofs.check.refused.Statement.{statement}
-use Rattle.checking.proofs.check.refused.Tie as tie
+use Rattle.checking.proofs.line.refused.Statement.{statement}
+use Rattle.checking.proofs.line.refused.Tie as tie
 
 pub refused-spec : {M : Type 1} → statement M
 refused-spec =

@@ -1,4 +1,4 @@
--- `check::body` meets its contract: each return by the tests that led to it.
+-- `line::body` meets its contract: each return by the tests that led to it.
 use borrow.Author.Needs.{needs}
 use native.Mathlib.Omega.{arith}
 use mathlib.Core.Path.{sym, ap, _∙_}
@@ -10,8 +10,8 @@ use Rattle.checking.proofs.FaultLaws.{body-none, body-does}
 use Rattle.checking.proofs.SightNumberLaws.{Made, faulted-stop, faulted-read, next-made}
 use Rattle.checking.proofs.BracketCountLaws.{other-above, next-on}
 use Rattle.tokens.proofs.Between.{lies-inside}
-use Rattle.checking.proofs.check.body.Statement.{statement}
-use Rattle.checking.proofs.check.body.Tie as tie
+use Rattle.checking.proofs.line.body.Statement.{statement}
+use Rattle.checking.proofs.line.body.Tie as tie
 
 -- what the number of all before the actions says: the place behind DO
 begun : (c : tie.Else2) → let n = c .before .before .before .before in Made (faultOf (n .before .args .a)) (depthOf (n .before .args .a)) (n .next-of .result + 1) (n .before .args .a + 1)

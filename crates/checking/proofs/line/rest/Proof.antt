@@ -1,4 +1,4 @@
--- `check::rest` meets its contract: each return by the tests that led to it.
+-- `line::rest` meets its contract: each return by the tests that led to it.
 use borrow.Author.Needs.{needs}
 use native.Mathlib.Omega.{arith}
 use mathlib.Core.Path.{sym, ap, _∙_}
@@ -14,8 +14,8 @@ use Rattle.checking.specs.SightNumber.{faultOf, bodyFrom}
 use Rattle.checking.proofs.FaultLaws.{rest-always, rest-keyword}
 use Rattle.checking.proofs.SightNumberLaws.{Made, number-made, faulted-made, faulted-wanted}
 use Rattle.checking.proofs.BracketCountLaws.{other-high, counts-token, counted-to, counted-behind, same-end-on, joined-next}
-use Rattle.checking.proofs.check.rest.Statement.{statement}
-use Rattle.checking.proofs.check.rest.Tie as tie
+use Rattle.checking.proofs.line.rest.Statement.{statement}
+use Rattle.checking.proofs.line.rest.Tie as tie
 
 -- what the number of the head says
 head : (h : tie.After-number-seen) → Made (h .before .args .fault) 0 (h .before .args .at + 3) (h .number-seen .result)
