@@ -57,8 +57,8 @@ module _ (o : ℕ) (a b : ℤ) where
 module _ (o : ℕ) (a : ℤ) (w : ℕ) {v : ℤ} {i : ℕ} (e : i ≡ nextOf w) (ne : i ≡ 0 → ⊥) (g : v ≡ valueOf w) where
   -- f works them: r says what it gave
   pub join-worked : (f : ℤ → ℤ → Worked) {x : Worked} {r : Read ℤ} → SFits w32 a → SFits w32 v → x ≡ f (toZ w32 (ofZ w32 a)) (toZ w32 (ofZ w32 v)) → ((0 < i) × (i < room) → r ≡ upTo (fromWorked x) i) → joinValues o a v ≡ fromWorked (f a v) → r ≡ then (said w) (λ z q. upTo (joinValues o a z) q)
-  join-worked f ha hv h s j = pair.enters w e g (λ z q. upTo (joinValues o a z) q) ne (pair.gives i (s (omega (arith, ne), pair.room w e)) (h ∙ both f ha hv) j)
+  join-worked f ha hv h s j = pair.enters w e g (λ z q. upTo (joinValues o a z) q) ne (pair.gives i (s (omega (arith, ne), pair.in-room w e)) (h ∙ both f ha hv) j)
 
   -- they give the yes/no u: y is its pair
   pub join-told : {u z : ℤ} {y : ℕ} → y ≡ pairOf (toZ w32 (ofZ w32 z)) i → SFits w32 z → z ≡ u → joinValues o a v ≡ good u → said y ≡ then (said w) (λ z q. upTo (joinValues o a z) q)
-  join-told p hz h j = pair.enters w e g (λ z q. upTo (joinValues o a z) q) ne (pair.pairs i p hz h (omega (arith, ne)) (pair.room w e) ∙ ap (λ (x : Answer ℤ). upTo x i) (sym j))
+  join-told p hz h j = pair.enters w e g (λ z q. upTo (joinValues o a z) q) ne (pair.pairs i p hz h (omega (arith, ne)) (pair.in-room w e) ∙ ap (λ (x : Answer ℤ). upTo x i) (sym j))

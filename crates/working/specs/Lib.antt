@@ -1,6 +1,4 @@
--- Variables: where each variable lies and what it reads. Definitions only.
--- Operators what each operator makes of two values, Pair how the walk hands a value on. Definitions only.
--- Working: what a line's expressions are worth. Definitions only.
+-- What the promises mean: where the variables lie and what they read, what the operators make of two values, what a line's expressions are worth. Definitions only.
 pub mod Variables
 pub mod Pair
 pub mod Operators

@@ -56,7 +56,8 @@ pub const COUNT_AT: usize = 88;
 pub const TIMERS: usize = 8;
 // Where the first FIFO's run of R starts.
 pub const RUNS: usize = 100;
-// Document 01's code for what no sound set or state has.
+
+// The first cell of a variable.
 fn cell_start(w: u32) -> usize
     ensures { λ r. ⌜ r ≡ cellStart w ⌝ }
 {

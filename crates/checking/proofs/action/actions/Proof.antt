@@ -10,7 +10,7 @@ use Rattle.checking.specs.Fault.{actionsAt}
 use Rattle.checking.specs.SightNumber.{nextOf, faultOf, faulted}
 use Rattle.checking.specs.Brackets.{InGrammar, Onward}
 use Rattle.checking.proofs.FaultLaws.{acts-none, Round, round-stops, round-ends, round-goes}
-use Rattle.checking.proofs.SightNumberLaws.{room, faulted-nothing, number-made, faulted-read, faulted-made}
+use Rattle.checking.proofs.SightNumberLaws.{in-room, faulted-nothing, number-made, faulted-read, faulted-made}
 use Rattle.checking.proofs.BracketCountLaws.{onward-same, onward-then, onward-nothing, counted-none, joined-next}
 use Rattle.checking.proofs.action.actions.Statement.{statement}
 use Rattle.checking.proofs.action.actions.Tie as tie
@@ -72,7 +72,7 @@ actions-spec =
     let o = t .before .before in
     let m = o .before in
     let x = m .before .join-faults .result in
-    let k = number-made {d = 0} _ (omega arith) (omega arith) (room _ (m .next-of2 .ensures)) (r .number-seen .ensures) in (
+    let k = number-made {d = 0} _ (omega arith) (omega arith) (in-room _ (m .next-of2 .ensures)) (r .number-seen .ensures) in (
       c .join-faults2 .ensures .0 ∙
           ap (λ (y : Read ℕ). then y (λ g q. read (lower (faultOf x) g) q)) (faulted-made k (omega (arith, o .if1 .left)) ∙ ap (λ (f : ℕ). read f (m .next-of2 .result)) (q .count-fault .ensures)) ∙
           round-ends (round m) (o .if1 .left) (sym (t .token-at .ensures) ∙ q .before .if2 .taken),

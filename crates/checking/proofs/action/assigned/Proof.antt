@@ -3,6 +3,7 @@ use borrow.Author.Needs.{needs}
 use native.Mathlib.Omega.{arith}
 use mathlib.Core.Path.{refl, sym, _∙_}
 use Prim.Native.Nat.{_+_, _<_}
+use Rattle.tokens.specs.Token.{room}
 use Rattle.tokens.specs.Descent.{sumAt}
 use Rattle.checking.specs.Fault.{assignedAt}
 use Rattle.checking.proofs.FaultLaws.{removal-tokens}
@@ -23,7 +24,7 @@ assigned-spec =
     let r = c .before .before in
     let a = r .before .args in
     let h = sym (r .is-removal .ensures) ∙ c .before .if1 .taken in
-    let m : a .at + 4 < 8192 = omega (arith, r .before .pre) in
+    let m : a .at + 4 < room = omega (arith, r .before .pre) in
     let k = number-made {f = 0} {d = 0} _ (omega arith) (omega arith) m (c .number-seen .ensures) in
     let t = removal-tokens _ _ h in (
       simp (assignedAt, h) (faulted-made k (omega arith)),

@@ -3,7 +3,7 @@ use borrow.Author.Needs.{needs}
 use native.Mathlib.Omega.{arith}
 use mathlib.Core.Path.{_≡_, refl, sym, ap, _∙_}
 use Prim.Native.Nat.{ℕ, _+_, _<_}
-use Rattle.tokens.specs.Token.{IN, IM, POS, MOV}
+use Rattle.tokens.specs.Token.{setSize, room, IN, IM, POS, MOV}
 use Rattle.tokens.specs.Descent.{Read, read, then, indexAt, sumAt}
 use Rattle.tokens.specs.SingleFault.{lower, writeFault}
 use Rattle.checking.specs.Fault.{assignedAt, assignmentAt}
@@ -31,10 +31,10 @@ assignment-spec =
     let v = i .before .before .before in
     let a = v .before .args in
     let e : n .before .write-fault .result ≡ writeFault (a .w) (indexAt (a .set .now) (a .w) (a .at)) = n .before .write-fault .ensures ∙ ap (writeFault (a .w)) (i .index-at .ensures) in
-    let m : a .at < 8192 = omega (arith, v .before .pre) in
+    let m : a .at < room = omega (arith, v .before .pre) in
     let k = number-made {d = 0} (a .at) (omega arith) (omega arith) m (n .number-seen .ensures) .fault ∙ e in (
       simp (assignmentAt, sym (v .is-variable .ensures) ∙ i .before .before .if1 .taken)
-          (c .join-faults .ensures .0 ∙ ap (λ (x : Read ℕ). then x (λ g q. read (lower (faultOf (n .number-seen .result)) g) q)) (c .before .assigned .ensures .0) ∙ ap (λ (f : ℕ). then (assignedAt (a .set .now) 4130 (a .at + 5)) (λ g q. read (lower f g) q)) k),
+          (c .join-faults .ensures .0 ∙ ap (λ (x : Read ℕ). then x (λ g q. read (lower (faultOf (n .number-seen .result)) g) q)) (c .before .assigned .ensures .0) ∙ ap (λ (f : ℕ). then (assignedAt (a .set .now) setSize (a .at + 5)) (λ g q. read (lower f g) q)) k),
       (λ g. other-high IN IM _ (omega arith) (v .is-variable .ensures) (i .before .before .if1 .taken), joined-counted _ _ (c .before .assigned .ensures .1) (c .join-faults .ensures .1)),
     ))
     (λ c κs. search needs)

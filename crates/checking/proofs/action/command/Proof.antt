@@ -6,7 +6,8 @@ use mathlib.Core.Path.{_≡_, refl, sym, ap, _∙_}
 use mathlib.Core.Bool.{true}
 use Prim.Native.Nat.{ℕ, _+_, _<_}
 use lib.ListN.{getD}
-use Rattle.tokens.specs.Token.{SETAL, UNLOCK, isWhole, whole}
+use Rattle.values.specs.Codes.{notInGrammar}
+use Rattle.tokens.specs.Token.{room, SETAL, UNLOCK, isWhole, whole}
 use Rattle.tokens.specs.Descent.{ends, read}
 use Rattle.checking.specs.Fault.{commandAt}
 use Rattle.checking.specs.SightNumber.{faulted}
@@ -24,7 +25,7 @@ numbered : (c : tie.Else1) → let a = c .before .before .before .before .args i
 numbered c = tested isWhole (c .before .before .token-at .ensures) (c .before .is-whole .ensures) (not-false _ (c .if1 .left))
 
 -- what is no command
-none : (a : tie.Start) → ends 5 ≡ commandAt (a .args .set .now) (a .args .keyword) (a .args .w) (a .args .at) → (faulted 0 ≡ commandAt (a .args .set .now) (a .args .keyword) (a .args .w) (a .args .at)) × ((InGrammar 0 → NoBracket (a .args .w)) × Counted (a .args .set .now) (a .args .at + 1) 0)
+none : (a : tie.Start) → ends notInGrammar ≡ commandAt (a .args .set .now) (a .args .keyword) (a .args .w) (a .args .at) → (faulted 0 ≡ commandAt (a .args .set .now) (a .args .keyword) (a .args .w) (a .args .at)) × ((InGrammar 0 → NoBracket (a .args .w)) × Counted (a .args .set .now) (a .args .at + 1) 0)
 none a e = (faulted-nothing ∙ e, (λ g. absurd (g refl), counted-nothing _ _ refl))
 
 pub command-spec : {M : Type 1} → statement M
@@ -52,7 +53,7 @@ command-spec =
     let r = s .before .before in
     let a = r .before .before .before .before .args in
     let n : f .code-fault .result ≡ codeFault (a .keyword) (whole (getD (a .set .now) (a .at + 2) 0)) = f .code-fault .ensures ∙ ap (codeFault (a .keyword)) (f .before .whole-of .ensures ∙ ap (λ (t : ℕ). whole t) (r .before .before .token-at .ensures)) in
-    let m : a .at + 3 < 8192 = omega (arith, r .before .before .before .before .pre) in
+    let m : a .at + 3 < room = omega (arith, r .before .before .before .before .pre) in
     let k = number-made {d = 0} _ (omega arith) (omega arith) m (c .number-seen .ensures) in
     let q = sym (s .token-at2 .ensures) ∙ g .if3 .left in (
       faulted-made k (omega arith) ∙ ap (λ (f : ℕ). read f (a .at + 3)) n ∙ a-code _ _ _ _ (numbered r) (g .before .if2 .taken) q,
@@ -91,7 +92,7 @@ command-spec =
     let r = s .before .before in
     let a = r .before .before .before .before .args in
     let n : l .call-fault .result ≡ callFault (a .w) (whole (getD (a .set .now) (a .at + 2) 0)) = l .call-fault .ensures ∙ ap (callFault (a .w)) (l .before .whole-of2 .ensures ∙ ap (λ (t : ℕ). whole t) (r .before .before .token-at .ensures)) in
-    let m : a .at + 4 < 8192 = omega (arith, r .before .before .before .before .pre) in
+    let m : a .at + 4 < room = omega (arith, r .before .before .before .before .pre) in
     let k = number-made {d = 1} _ (omega arith) (omega arith) m (c .number-seen2 .ensures) in
     let b = sym (s .token-at2 .ensures) ∙ o .if5 .left in
     let e = sym (t .token-at3 .ensures) ∙ i .if6 .left in

@@ -7,7 +7,7 @@ use mathlib.Core.Bool.{true, false}
 use Prim.Native.Nat.{_+_, _*_, _<_}
 use native.Mathlib.Omega.{arith}
 use Rattle.values.specs.Choice.{both}
-use Rattle.tokens.specs.Token.{AND, XOR, SAME, ATLEAST, PLUS, MINUS, TIMES, OVER, IN, IM, isFactor, isTerm}
+use Rattle.tokens.specs.Token.{room, AND, XOR, SAME, ATLEAST, PLUS, MINUS, TIMES, OVER, IN, IM, isFactor, isTerm}
 use Rattle.tokens.specs.Descent.{then, isRow, more, readClose, readProduct, readSum, readExpression, readOperand, sumAt, expressionAt}
 use Rattle.checking.specs.Fault.{sight}
 use Rattle.checking.specs.SightNumber.{sightOf, seen, signedSight}
@@ -179,7 +179,7 @@ unfolding sight sumAt expressionAt
     (λ c κs. search needs)
     (λ c.
     let d = c .before .before .before in
-    let m : d .before .before .before .args .at + 1 < 8192 = omega (arith, lies-inside (d .before .before .before .args .set .now) (d .before .before .before .args .at) (d .token-at .ensures) (λ z. omega arith)) in (
+    let m : d .before .before .before .args .at + 1 < room = omega (arith, lies-inside (d .before .before .before .args .set .now) (d .before .before .before .args .at) (d .token-at .ensures) (λ z. omega arith)) in (
       seen-number {d = 0} _ (omega arith) (omega arith) m (omega arith) (c .number-seen .ensures) (c .before .number-fault .ensures) ∙
           number-arm _ _ _ _ _ (d .before .before .if1 .left) (d .token-at .ensures) (c .before .before .if2 .taken),
       counted-token _ _ (d .token-at .ensures) (λ g. other-above _ (omega (arith, c .before .before .if2 .taken))) (counted-none _ _ _ (number-made {d = 0} _ (omega arith) (omega arith) m (c .number-seen .ensures) .next)),

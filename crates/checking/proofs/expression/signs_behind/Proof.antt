@@ -3,6 +3,7 @@ use borrow.Author.Needs.{needs}
 use native.Mathlib.Omega.{arith}
 use mathlib.Core.Path.{_≡_, refl, sym, _∙_}
 use Prim.Native.Nat.{_+_, _-_, _<_, _≤_}
+use Rattle.tokens.specs.Token.{setSize}
 use Rattle.checking.specs.SightNumber.{signsBehind}
 use Rattle.checking.proofs.SignLaws.{behind-none, behind-one, behind-spent}
 use Rattle.tokens.proofs.Between.{lies-inside}
@@ -10,7 +11,7 @@ use Rattle.checking.proofs.expression.signs_behind.Statement.{statement
 use Rattle.checking.proofs.expression.signs_behind.Tie as tie
 
 abbrev Inv-loop : tie.InvT-loop
-Inv-loop tokens at most n₀ n = (n + signsBehind tokens (most - n) (at + n) ≡ signsBehind tokens most at) × ((n ≤ most) × (at + n < 4130))
+Inv-loop tokens at most n₀ n = (n + signsBehind tokens (most - n) (at + n) ≡ signsBehind tokens most at) × ((n ≤ most) × (at + n < setSize))
 
 abbrev μ-loop : tie.MeasureT-loop
 μ-loop tokens at most n₀ n = most - n

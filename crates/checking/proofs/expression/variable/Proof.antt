@@ -4,6 +4,7 @@ use borrow.Author.Tests.{not-true, not-false}
 use mathlib.Core.Path.{refl, sym, ap, _∙_}
 use Prim.Native.Nat.{ℕ, _+_, _<_}
 use native.Mathlib.Omega.{arith}
+use Rattle.tokens.specs.Token.{room}
 use Rattle.tokens.specs.SingleFault.{readFault}
 use Rattle.checking.specs.Fault.{sight}
 use Rattle.tokens.proofs.Arms.{indexed, indexed-not}
@@ -26,7 +27,7 @@ variable-spec =
     (λ c.
     let d = c .before .before .before .before in
     let a = d .before .before .before .args in
-    let m : a .at + 4 < 8192 = omega (arith, d .before .before .before .pre) in
+    let m : a .at + 4 < room = omega (arith, d .before .before .before .pre) in
     let h = sym (d .before .is-indexed .ensures) ∙ not-false _ (d .if1 .left) in (
       seen-number {d = 0} _ (omega arith) (omega arith) m (omega arith) (c .number-seen .ensures) (c .before .read-fault .ensures ∙ ap (λ (i : ℕ). readFault (a .w) i) (c .before .before .index-at .ensures)) ∙ sym (indexed _ _ _ _ h),
       counted-behind _ _ (a .at + 4) (counts-index _ _ _ h) (counted-none _ _ _ (number-made {d = 0} _ (omega arith) (omega arith) m (c .number-seen .ensures) .next)),

@@ -6,7 +6,7 @@ use mathlib.Core.Path.{_≡_, sym, _∙_}
 use mathlib.Core.Bool.{true}
 use Prim.Native.Nat.{_+_, _<_}
 use lib.ListN.{getD}
-use Rattle.tokens.specs.Token.{ID, IDS, EQUALS, isId, isWhole}
+use Rattle.tokens.specs.Token.{setSize, ID, IDS, EQUALS, isId, isWhole}
 use Rattle.checking.specs.Fault.{lineAt}
 use Rattle.tokens.proofs.Between.{tested, no-end, lies-inside}
 use Rattle.checking.proofs.BracketCountLaws.{counts-head}
@@ -18,7 +18,7 @@ module _ (c : tie.Else1) where
   named : let a = c .before .before .before .before .args in isId (getD (a .set .now) (a .at) 0) ≡ true
   named = tested isId (c .before .before .token-at .ensures) (c .before .is-id .ensures) (not-false _ (c .if1 .left))
 
-  starts : c .before .before .before .before .args .at < 4130
+  starts : c .before .before .before .before .args .at < setSize
   starts = let d = c .before .before in omega (arith, lies-inside (d .before .before .args .set .now) (d .before .before .args .at) (d .token-at .ensures) (no-end ID IDS (d .token-at .result) (omega arith) (c .before .is-id .ensures) (not-false _ (c .if1 .left))))
 
 -- behind the others = and a number

@@ -4,7 +4,7 @@ use native.Mathlib.Omega.{arith}
 use mathlib.Core.Path.{sym, ap, _∙_}
 use mathlib.Core.Bool.{true}
 use Prim.Native.Nat.{ℕ, _+_, _<_}
-use Rattle.tokens.specs.Token.{WHEN, EVERY}
+use Rattle.tokens.specs.Token.{setSize, room, WHEN, EVERY}
 use borrow.Author.Tests.{not-false}
 use Rattle.tokens.specs.Descent.{Read, read, then, expressionAt}
 use Rattle.tokens.specs.SingleFault.{lower}
@@ -20,7 +20,7 @@ use Rattle.checking.proofs.line.rest.Tie as tie
 -- what the number of the head says
 head : (h : tie.After-number-seen) → Made (h .before .args .fault) 0 (h .before .args .at + 3) (h .number-seen .result)
 head h =
-    let m : h .before .args .at + 3 < 8192 = omega (arith, h .before .pre .0) in
+    let m : h .before .args .at + 3 < room = omega (arith, h .before .pre .0) in
     number-made {d = 0} _ (omega arith) (omega arith) m (h .number-seen .ensures)
 
 -- and that it was read from the line's start
@@ -70,6 +70,6 @@ rest-spec =
     let a = h .before .args in
     c .body2 .ensures ∙
     ap (judged (a .set .now) (a .at)) (ap (bodyFrom (a .set .now) (a .at) (t .token-at .result) (a .at + 4)) (j .join-faults .ensures .0 ∙
-    ap (λ (r : Read ℕ). then r (λ g q. read (lower (faultOf (h .number-seen .result)) g) q)) (faulted-wanted true _ _ (expressionAt (a .set .now) sight 4130 (a .at + 4)) (e .expression .ensures .0) (x .as-wanted .ensures .0)) ∙
-    ap (λ (f : ℕ). then (faultFor true (expressionAt (a .set .now) sight 4130 (a .at + 4))) (λ g q. read (lower f g) q)) (head h .fault)) ∙
+    ap (λ (r : Read ℕ). then r (λ g q. read (lower (faultOf (h .number-seen .result)) g) q)) (faulted-wanted true _ _ (expressionAt (a .set .now) sight setSize (a .at + 4)) (e .expression .ensures .0) (x .as-wanted .ensures .0)) ∙
+    ap (λ (f : ℕ). then (faultFor true (expressionAt (a .set .now) sight setSize (a .at + 4))) (λ g q. read (lower f g) q)) (head h .fault)) ∙
     rest-keyword _ _ _ _ (t .token-at .ensures) (w .is-keyword .ensures) (e .before .if1 .left))))

@@ -6,7 +6,7 @@ use native.Mathlib.Omega.{arith}
 use Rattle.tokens.specs.Descent.{read}
 use Rattle.tokens.specs.SingleFault.{lower, wantingFault}
 use Rattle.checking.specs.SightNumber.{truthOf, faultOf, signedSight}
-use Rattle.checking.proofs.SightNumberLaws.{room, passes, enters, number-made, truth-made, seen-number, seen-truth, same-end, same-end-made, faultless-seen, faultless-same}
+use Rattle.checking.proofs.SightNumberLaws.{in-room, passes, enters, number-made, truth-made, seen-number, seen-truth, same-end, same-end-made, faultless-seen, faultless-same}
 use Rattle.checking.proofs.sight.as_wanted.Statement.{statement}
 use Rattle.checking.proofs.sight.as_wanted.Tie as tie
 
@@ -34,7 +34,7 @@ as-wanted-spec =
     let l = d .before .before in
     let f = l .before .before .before .before in
     let n = f .before in
-    let m = room _ (n .next-of .ensures) in (
+    let m = in-room _ (n .next-of .ensures) in (
       enters _ (n .next-of .ensures) (signedSight (n .before .before .before .args .wanted)) (f .if2 .left)
           (seen-truth _ (omega arith) (omega arith) m (omega (arith, f .if2 .left)) (c .truth-seen .ensures) (low l) ∙
           ap (λ (t : Bool). read (record { truth = t; fault = lower (wantingFault (n .before .before .before .args .wanted) (truthOf (n .before .before .before .args .a))) (faultOf (n .before .before .before .args .a)) }) (n .next-of .result)) (sym (d .before .if3 .taken))),
@@ -47,7 +47,7 @@ as-wanted-spec =
     let l = d .before .before in
     let f = l .before .before .before .before in
     let n = f .before in
-    let m = room _ (n .next-of .ensures) in (
+    let m = in-room _ (n .next-of .ensures) in (
       enters _ (n .next-of .ensures) (signedSight (n .before .before .before .args .wanted)) (f .if2 .left)
           (seen-number _ (omega arith) (omega arith) m (omega (arith, f .if2 .left)) (c .number-seen .ensures) (low l) ∙
           ap (λ (t : Bool). read (record { truth = t; fault = lower (wantingFault (n .before .before .before .args .wanted) (truthOf (n .before .before .before .args .a))) (faultOf (n .before .before .before .args .a)) }) (n .next-of .result)) (sym (d .before .if3 .left))),

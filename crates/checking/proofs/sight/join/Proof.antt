@@ -7,7 +7,7 @@ use native.Mathlib.Omega.{arith}
 use Rattle.tokens.specs.Descent.{Read, read}
 use Rattle.checking.specs.Fault.{Sight, lowest}
 use Rattle.checking.specs.SightNumber.{sightOf}
-use Rattle.checking.proofs.SightNumberLaws.{room, passes, enters, number-made, truth-made, seen-number, seen-truth, joined-nothing, joined-made}
+use Rattle.checking.proofs.SightNumberLaws.{in-room, passes, enters, number-made, truth-made, seen-number, seen-truth, joined-nothing, joined-made}
 use Rattle.checking.proofs.sight.join.Statement.{statement}
 use Rattle.checking.proofs.sight.join.Tie as tie
 
@@ -30,7 +30,7 @@ join-spec =
     let l = d .before .before in
     let n = l .before .before in
     let a = n .before .args in
-    let m = room _ (n .next-of .ensures) in (
+    let m = in-room _ (n .next-of .ensures) in (
       enters _ (n .next-of .ensures) (after (n .before)) (l .before .if1 .left)
           (seen-truth _ (omega arith) (omega arith) m (omega (arith, l .before .if1 .left)) (c .truth-seen .ensures) (l .lowest-of .ensures) ∙
           ap (λ (t : Bool). read (record { truth = t; fault = lowest (a .wanted) (sightOf (a .a)) (sightOf (a .b)) }) (n .next-of .result)) (sym (d .before .if2 .taken))),
@@ -43,7 +43,7 @@ join-spec =
     let l = d .before .before in
     let n = l .before .before in
     let a = n .before .args in
-    let m = room _ (n .next-of .ensures) in (
+    let m = in-room _ (n .next-of .ensures) in (
       enters _ (n .next-of .ensures) (after (n .before)) (l .before .if1 .left)
           (seen-number _ (omega arith) (omega arith) m (omega (arith, l .before .if1 .left)) (c .number-seen .ensures) (l .lowest-of .ensures) ∙
           ap (λ (t : Bool). read (record { truth = t; fault = lowest (a .wanted) (sightOf (a .a)) (sightOf (a .b)) }) (n .next-of .result)) (sym (d .before .if2 .left))),
