@@ -13,7 +13,7 @@ use Rattle.engine.specs.declared.named_line.Found.{Found}
 use Rattle.engine.specs.Set.{rankIn, soundLines}
 use Rattle.engine.specs.Sound.{isSound}
 use Rattle.engine.specs.NamedLine.{foundAt, found}
-use Rattle.engine.proofs.SetLaws.{sound-count}
+use Rattle.engine.specs.SetCountLaws.{sound-count}
 
 abbrev refused : ℕ → Found
 refused k = record { code = k; rank = 0 }

@@ -52,10 +52,6 @@ changed op xs n v = cond (eqb op 0) (appended xs n v) (cond (eqb op 1) (removed 
 unfoldable pub changeFifo : List ℤ → List ℤ → ℕ → ℕ → ℤ → Answer Changed
 changeFifo r c op w v = moved r c w (changed op (run r w) (countAt c w) v) (changeAnswer op (run r w) (countAt c w) v)
 
--- the oldest value of the FIFO with the word w is removed; no other word names a FIFO
-unfoldable pub takeOldest : List ℤ → List ℤ → ℕ → Answer Changed
-takeOldest r c w = elim (isFifo w) [ true ↦ changeFifo r c 1 w (pos 0) | false ↦ stop unsound ]
-
 abbrev pub withChanged : Vars → Changed → Vars
 withChanged x a = record { r = a .r; cells = a .cells; runs = x .runs }
 

@@ -24,9 +24,9 @@ use Rattle.working.specs.Working.{conditionValue}
 use Rattle.engine.specs.declared.state.State.{State}
 use Rattle.engine.specs.declared.calls.Called.{Called}
 use Rattle.engine.specs.Set.{lineOf, soundLines}
-use Rattle.engine.specs.State.{stateCells, powerOn}
+use Rattle.engine.specs.State.{timerCells, stateCells, powerOn}
 use Rattle.engine.specs.Cells.{inputCount, inputCell, inputCells, beatCells}
-use Rattle.engine.specs.Timers.{timerCells, grownCells}
+use Rattle.engine.specs.Timers.{grownCells}
 use Rattle.engine.specs.Sound.{isSound}
 use Rattle.engine.specs.Action.{World, Did, fromValueOrAlarm}
 use Rattle.engine.specs.Actions.{actionsOf}
@@ -34,8 +34,7 @@ use Rattle.engine.specs.Turn.{Entry, Turned, remembered, counted, takesTurn, do
 use Rattle.engine.specs.Keyword.{tries, remembers}
 use Rattle.engine.specs.Beat.{bufferSize, areInputs, begun, ended, beatOf, answered, beatAnswer}
 use Rattle.engine.specs.Calls.{lockCall, unlockCall, cancelCall}
-use Rattle.engine.proofs.CellLaws.{length-inputs}
-use Rattle.engine.proofs.BeatLaws.{inputs-length}
+use Rattle.engine.specs.InputLaws.{length-inputs, inputs-length}
 use Rattle.soundness.specs.Call.{Call, doBeat, doLock, doUnlock, doCancel, doReset, after, codeAfter, afterAll}
 use Rattle.soundness.specs.GoodAnswers.{Not22, Holds, holds-then}
 use Rattle.soundness.specs.SetSoundLaws.{lines-lined, lines-known}

@@ -1,4 +1,4 @@
--- Laws that several proofs cite.
-pub mod VariableCells
+-- Laws that several proofs cite: CountLaws on a cell as a count, Joins on the operators, Pairs on what the walk hands on.
+mod CountLaws
 mod Joins
 mod Pairs
