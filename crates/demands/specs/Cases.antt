@@ -19,7 +19,7 @@ use Rattle.engine.specs.Set.{linesFrom, linesRead, rankIn, namesKnown, allKnown
 use Rattle.engine.specs.State.{powerOn}
 use Rattle.engine.specs.Timers.{grownCells}
 use Rattle.engine.specs.Cells.{inputCells, beatCells}
-use Rattle.engine.specs.Sound.{allRanged, isCell, areCells, allZero, isFifoSound, isFlag, areFlags, stateSound, isSound}
+use Rattle.engine.specs.Sound.{allRanged, isCell, areCells, allZero, isFifoSound, areFifos, isFlag, areFlags, stateSound, isSound}
 use Rattle.engine.specs.Write.{writeCell, writeInside, writeTo}
 use Rattle.engine.specs.Action.{lockOf, takenAt, assignmentOf, commandOf, actionOf}
 use Rattle.engine.specs.Actions.{actionsOf}
@@ -66,5 +66,5 @@ runs :
     × (words (beat 1 ∷ beat 0 ∷ doReset ∷ beat 0 ∷ beat 1 ∷ doLock 1 ∷ doCancel 3 ∷ beat 1 ∷ doReset ∷ beat 1 ∷ []) ≡ (0, 0) ∷ (0, 0) ∷ (0, 0) ∷ (0, 0) ∷ (40, 0) ∷ (0, 4) ∷ (0, 0) ∷ (0, 0) ∷ (0, 4) ∷ (0, 7) ∷ [])
     × (words (beat 3 ∷ beat 0 ∷ doUnlock 1 ∷ beat 1 ∷ beat 0 ∷ beat 1 ∷ []) ≡ (0, 5) ∷ (0, 4) ∷ (0, 4) ∷ (0, 0) ∷ (0, 4) ∷ (0, 15) ∷ [])
     × (words (doBeat false 1 (replicate 14 (pos 0)) (replicate 2048 0) ∷ doBeat true 1 (replicate 14 (pos 0)) [] ∷ beat 1 ∷ []) ≡ (0, 7) ∷ (20, 0) ∷ (0, 4) ∷ [])
-unfolding inRange valued lessThan equalTo wholeUnits outputOf grownTimer isIndex indexOf isIndexed indexAt joined more readProduct readSum readRest readExpression readVariable operandFrom readOperand sumAt expressionAt isInside cellOf variableValue lower opensTooMany wantingFault numberFault readFault joinSights sight isWritable writeFault codeFault idFault callFault countFault numberOf isRemoval assignedAt assignmentAt commandAt actionAt actionsAt lineParts bodyAt restAt lineAt joinTruths joinValues valueOver conditionValue rightValue linesFrom linesRead rankIn namesKnown allKnown namedLines soundLines powerOn grownCells inputCells beatCells allRanged isCell areCells allZero isFifoSound isFlag areFlags stateSound isSound writeCell writeInside writeTo lockOf takenAt assignmentOf commandOf actionOf actionsOf tries acts remembers takesTurn doTurn tryTurn turnOf turnsFrom areInputs begun ended beatOf beatAnswer beatBuffer foundAt found called lockedCall lockCall unlockCall cancelCall resetCancelled zeroed resetState resetCall step runFrom
+unfolding inRange valued lessThan equalTo wholeUnits outputOf grownTimer isIndex indexOf isIndexed indexAt joined more readProduct readSum readRest readExpression readVariable operandFrom readOperand sumAt expressionAt isInside cellOf variableValue lower opensTooMany wantingFault numberFault readFault joinSights sight isWritable writeFault codeFault idFault callFault countFault numberOf isRemoval assignedAt assignmentAt commandAt actionAt actionsAt lineParts bodyAt restAt lineAt joinTruths joinValues valueOver conditionValue rightValue linesFrom linesRead rankIn namesKnown allKnown namedLines soundLines powerOn grownCells inputCells beatCells allRanged isCell areCells allZero isFifoSound areFifos isFlag areFlags stateSound isSound writeCell writeInside writeTo lockOf takenAt assignmentOf commandOf actionOf actionsOf tries acts remembers takesTurn doTurn tryTurn turnOf turnsFrom areInputs begun ended beatOf beatAnswer beatBuffer foundAt found called lockedCall lockCall unlockCall cancelCall resetCancelled zeroed resetState resetCall step runFrom
 runs = (refl, refl, refl, refl, refl)

@@ -24,7 +24,7 @@ use Rattle.engine.specs.Turn.{Entry, beatIn, locks, cancels, resets, Turned}
 use Rattle.engine.specs.Beat.{bufferSize, areInputs, begun, ended, beatOf, answered, buffered, beatAnswer, beatBuffer}
 use Rattle.engine.specs.NamedLine.{foundAt, found}
 use Rattle.engine.specs.Calls.{withLocked, withCancelled, called, lockedCall, lockCall, unlockCall, cancelCall, resetState, resetCall}
-use Rattle.engine.proofs.SetLaws.{sound-count}
+use Rattle.engine.specs.SetCountLaws.{sound-count}
 use Rattle.demands.specs.History.{History, after, isCancelled, isLocked}
 use Rattle.soundness.specs.Call.{Call, doBeat, doLock, doUnlock, doCancel, doReset}
 use Rattle.demands.specs.Run.{Now, coded, entriesOf, rankOf, hosted, beaten, step, runFrom, run, byRank, cancelledBy, lockedBy, remembersBy, memoryBy, variablesOf, stateBy, begunBy, endedBy, turnsByRule, beatByRule, codeByRule, hostedByRule, beatenByRule, cleared, resetByRule, stepByRule, runByRuleFrom, runByRule}
