@@ -1,0 +1,86 @@
+//! Writes the history of a session beside the interpreter's flags, and holds both against each other at each turn.
+
+use crate::beat::{Mode, Turn};
+use crate::history::{Entry, History};
+use crate::slip::Slip;
+use crate::tree::Line;
+
+/// Off, as it is by default, it writes nothing.
+#[derive(Clone, Default)]
+pub struct Witness {
+    slip: Option<Slip>,
+    /// None when off, and from damage to a line's flags or the set on, of which no history tells, until the next load.
+    pub history: Option<History>,
+    /// The first turn that the rule and the flags decide otherwise.
+    pub difference: Option<String>,
+    /// The length of the history before the beat under way, and that beat's place among the beats.
+    before: usize,
+    beats: usize,
+}
+
+impl Witness {
+    pub fn watching(slip: Slip) -> Witness {
+        Witness { slip: Some(slip), ..Witness::default() }
+    }
+
+    /// A load begins a new history.
+    pub fn load(&mut self) {
+        self.history = self.slip.map(History::new);
+    }
+
+    pub fn damage(&mut self) {
+        self.history = None;
+    }
+
+    pub fn write(&mut self, entry: Entry) {
+        if let Some(history) = &mut self.history {
+            history.write(entry);
+        }
+    }
+
+    /// LOCK or UNLOCK in text, of a cancelled line too.
+    pub fn text_lock(&mut self, line: usize, locks: bool) {
+        if self.slip != Some(Slip::TextLocksNotWritten) {
+            self.write(if locks { Entry::Lock(line) } else { Entry::Release(line) });
+        }
+    }
+
+    pub fn begin_beat(&mut self, mode: Mode) {
+        self.beats += 1;
+        self.before = self.history.as_ref().map_or(0, History::length);
+        self.write(Entry::Beat(mode));
+    }
+
+    /// A failed beat adds nothing.
+    pub fn fail_beat(&mut self) {
+        if self.slip != Some(Slip::FailedBeatsWritten) {
+            if let Some(history) = &mut self.history {
+                history.cut(self.before);
+            }
+        }
+    }
+
+    /// Holds what the flags decide of a line's turn against the rule.
+    pub fn compare(&mut self, rank: usize, line: &Line, by_flags: Turn) {
+        let Some(history) = &self.history else {
+            return;
+        };
+        let by_history = history.turn(rank, line.scope, line.keyword());
+        if by_history != by_flags && self.difference.is_none() {
+            self.difference = Some(format!(
+                "beat {}, line {}: by flags {by_flags:?}, by history {by_history:?}",
+                self.beats, line.number
+            ));
+        }
+    }
+
+    /// The line was true at its turn before, and has been locked and released since.
+    pub fn was_held_high(&self, rank: usize) -> bool {
+        self.history.as_ref().is_some_and(|history| {
+            let last = |entry| history.last(entry);
+            let turn = last(Entry::Gave(rank, true)).max(last(Entry::Reset));
+            let high = turn > last(Entry::Gave(rank, false)).max(last(Entry::Reset));
+            high && last(Entry::Lock(rank)) > turn && last(Entry::Release(rank)) > last(Entry::Lock(rank))
+        })
+    }
+}
