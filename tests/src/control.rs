@@ -96,10 +96,8 @@ impl Control {
         beat.witness = Some(&mut self.witness);
         let result = beat.work(&self.set);
         let (state, orders, acted) = (beat.state, beat.orders, beat.acted);
+        self.witness.end_beat(self.set.lines()?, acted, result.is_ok());
         self.seen.acted(self.set.lines()?, acted, result.is_ok());
-        if result.is_err() {
-            self.witness.fail_beat();
-        }
         if result.is_ok() || self.slip == Slip::WritesKeptAtAlarm {
             self.state = state;
         }

@@ -75,12 +75,21 @@ impl Coverage {
         }
     }
 
-    /// A test for each name: it occurred.
+    /// A test for each name: it occurred. In long sessions most turns are taken, and most beats good.
     pub fn test(&self, report: &mut Report) {
         report.part();
         for (name, count) in &self.counts {
             report.test(*count > 0, || format!("no seed reaches: {name}"));
         }
+        let taken = self.sum("long act") + self.sum("long no act");
+        report.test(taken > self.sum("long skip"), || "long sessions skip most turns".into());
+        let good = self.sum("long beat 0");
+        report.test(2 * good > self.sum("long beat"), || "long sessions have few good beats".into());
+    }
+
+    /// All counts whose names begin so.
+    fn sum(&self, start: &str) -> u64 {
+        self.counts.iter().filter(|(name, _)| name.starts_with(start)).map(|(_, count)| count).sum()
     }
 }
 

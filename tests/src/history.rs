@@ -54,6 +54,12 @@ impl History {
         self.places[entry.index()].last().copied()
     }
 
+    /// Where it last stands, and where before that.
+    fn last_two(&self, entry: Entry) -> (Option<usize>, Option<usize>) {
+        let mut back = self.places[entry.index()].iter().rev().copied();
+        (back.next(), back.next())
+    }
+
     // ---- the rule
 
     /// What the line does if its turn comes now.
@@ -104,6 +110,21 @@ impl History {
             Slip::PastReset => None,
             Slip::BackToRelease => self.last(Entry::Reset).max(self.last(Entry::Release(line))),
             _ => self.last(Entry::Reset),
+        }
+    }
+
+    // ---- what follows from it
+
+    /// Between two starts a WHEN line acts at most once, and an EVERY line only where its condition is true and was false,
+    /// or never tried, at its turn before. The line acted in the beat that began at this place.
+    pub fn allows_act(&self, line: usize, keyword: Option<Keyword>, beat: usize) -> bool {
+        let (now, earlier) = self.last_two(Entry::Gave(line, true));
+        match keyword {
+            Some(Keyword::When) => now > Some(beat) && earlier <= self.start(line),
+            Some(Keyword::Every) => {
+                now > Some(beat) && earlier <= self.last(Entry::Gave(line, false)).max(self.start(line))
+            }
+            _ => true,
         }
     }
 }

@@ -15,9 +15,9 @@ use std::thread;
 
 /// Room for trees as deep as set text can make them.
 const STACK: usize = 256 << 20;
-/// Seeds that the gate compares if none are given, and whose coverage it tests.
+/// Seeds that the gate compares if none are given, and those whose coverage it tests.
 const GATE_SEEDS: Seeds = Seeds { synrun: 0..5000, host: 0..5000, long: 0..40 };
-const COVERED_SEEDS: Seeds = Seeds { synrun: 0..2000, host: 0..5000, long: 0..10 };
+const COVERED_SEEDS: Seeds = Seeds { synrun: 0..1000, host: 0..5000, long: 0..10 };
 
 const USAGE: &str = "reference                           answer standard input as synrun does
 reference host                      answer standard input as a host session
@@ -80,16 +80,8 @@ impl Options {
                     options.external.host = Some(path.into());
                     rest
                 }
-                ["--synrun", seeds, rest @ ..] => {
-                    options.seeds.get_or_insert_default().synrun = range(seeds)?;
-                    rest
-                }
-                ["--host", seeds, rest @ ..] => {
-                    options.seeds.get_or_insert_default().host = range(seeds)?;
-                    rest
-                }
-                ["--long", seeds, rest @ ..] => {
-                    options.seeds.get_or_insert_default().long = range(seeds)?;
+                [form, seeds, rest @ ..] if form.starts_with("--") => {
+                    options.seeds.get_or_insert_default().put(named(&form[2..])?, range(seeds)?);
                     rest
                 }
                 [seeds, rest @ ..] => {
@@ -100,6 +92,10 @@ impl Options {
             }
         }
     }
+}
+
+fn named(form: &str) -> io::Result<Form> {
+    Form::named(form).ok_or_else(|| wrong(USAGE))
 }
 
 /// Seeds as FROM..TO, TO not among them.
@@ -119,9 +115,8 @@ fn answer(form: Form) -> io::Result<ExitCode> {
 }
 
 fn print_input(form: &str, seed: &str) -> io::Result<ExitCode> {
-    let form = Form::ALL.into_iter().find(|known| known.name() == form).ok_or_else(|| wrong(USAGE))?;
     let seed = seed.parse().map_err(|_| wrong(USAGE))?;
-    io::stdout().write_all(&generate::input(form, seed))?;
+    io::stdout().write_all(&generate::input(named(form)?, seed))?;
     Ok(ExitCode::SUCCESS)
 }
 

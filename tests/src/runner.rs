@@ -36,6 +36,10 @@ impl Form {
             Form::Long => "long",
         }
     }
+
+    pub fn named(name: &str) -> Option<Form> {
+        Form::ALL.into_iter().find(|form| form.name() == name)
+    }
 }
 
 /// Seeds for each form.
@@ -52,6 +56,14 @@ impl Seeds {
             Form::Synrun => self.synrun.clone(),
             Form::Host => self.host.clone(),
             Form::Long => self.long.clone(),
+        }
+    }
+
+    pub fn put(&mut self, form: Form, seeds: Range<u64>) {
+        match form {
+            Form::Synrun => self.synrun = seeds,
+            Form::Host => self.host = seeds,
+            Form::Long => self.long = seeds,
         }
     }
 }

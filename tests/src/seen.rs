@@ -25,7 +25,7 @@ const BY_KEYWORD: [(&str, &[&str]); 8] = [
     ("skip by mode", &["", " WHEN", " WHENEVER", " FROM", " EVERY"]),
     ("skip by cancel", &["", " WHEN", " WHENEVER", " FROM", " EVERY"]),
     ("released while true", &[" WHEN", " WHENEVER", " FROM", " EVERY"]),
-    ("act again after an alarm", &["", " WHEN", " WHENEVER", " FROM", " EVERY"]),
+    ("undone by an alarm, then act", &["", " WHEN", " WHENEVER", " FROM", " EVERY"]),
 ];
 
 #[derive(Clone, Default)]
@@ -103,7 +103,7 @@ impl Seen {
         }
         for (rank, line) in lines.iter().enumerate() {
             if acted & self.undone & 1 << rank != 0 {
-                self.by_keyword("act again after an alarm", line.keyword());
+                self.by_keyword("undone by an alarm, then act", line.keyword());
             }
         }
         self.undone = 0;

@@ -11,7 +11,7 @@ pub struct Witness {
     slip: Option<Slip>,
     /// None when off, and from damage to a line's flags or the set on, of which no history tells, until the next load.
     pub history: Option<History>,
-    /// The first turn that the rule and the flags decide otherwise.
+    /// The first turn that the rule and the flags decide otherwise, or act that the history does not allow.
     pub difference: Option<String>,
     /// The length of the history before the beat under way, and that beat's place among the beats.
     before: usize,
@@ -51,12 +51,21 @@ impl Witness {
         self.write(Entry::Beat(mode));
     }
 
-    /// A failed beat adds nothing.
-    pub fn fail_beat(&mut self) {
-        if self.slip != Some(Slip::FailedBeatsWritten) {
-            if let Some(history) = &mut self.history {
+    /// A failed beat adds nothing; in a good one the lines of the word `acted`, bit by rank, acted as the history allows.
+    pub fn end_beat(&mut self, lines: &[Line], acted: u32, good: bool) {
+        let Some(history) = &mut self.history else {
+            return;
+        };
+        if !good {
+            if self.slip != Some(Slip::FailedBeatsWritten) {
                 history.cut(self.before);
             }
+            return;
+        }
+        let allowed = |rank, line: &Line| history.allows_act(rank, line.keyword(), self.before);
+        let mut acted = (0..).zip(lines).filter(|(rank, _)| acted >> rank & 1 == 1);
+        if let Some((_, line)) = acted.find(|(rank, line)| !allowed(*rank, line)) {
+            self.differ(line, "acts against the history".into());
         }
     }
 
@@ -66,12 +75,14 @@ impl Witness {
             return;
         };
         let by_history = history.turn(rank, line.scope, line.keyword());
-        if by_history != by_flags && self.difference.is_none() {
-            self.difference = Some(format!(
-                "beat {}, line {}: by flags {by_flags:?}, by history {by_history:?}",
-                self.beats, line.number
-            ));
+        if by_history != by_flags {
+            self.differ(line, format!("by flags {by_flags:?}, by history {by_history:?}"));
         }
+    }
+
+    fn differ(&mut self, line: &Line, how: String) {
+        let beat = self.beats;
+        self.difference.get_or_insert_with(|| format!("beat {beat}, line {}: {how}", line.number));
     }
 
     /// The line was true at its turn before, and has been locked and released since.

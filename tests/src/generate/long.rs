@@ -77,10 +77,10 @@ impl Long<'_> {
     }
 
     fn release(&mut self, step: i64) {
-        let (due, held) = self.held.iter().copied().partition(|(_, release)| *release <= step);
-        self.held = held;
-        let due: Vec<(i64, i64)> = due;
-        due.iter().for_each(|(number, _)| self.session.add(format!("U {number}")));
+        for (number, _) in self.held.iter().filter(|(_, release)| *release <= step) {
+            self.session.add(format!("U {number}"));
+        }
+        self.held.retain(|(_, release)| *release > step);
     }
 
     /// A reset, and a load when the lines that live on have run for a while.
