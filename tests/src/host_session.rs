@@ -96,7 +96,8 @@ impl<'a> Session<'a> {
     }
 }
 
-/// A checksum of all bytes that small arithmetic can work.
+/// A checksum of all bytes that small arithmetic can work; the rest is taken once for every eight.
 pub fn checksum(bytes: &[u8]) -> u32 {
-    bytes.iter().fold(0, |sum, byte| (sum * 31 + u32::from(*byte)) % 1_000_003)
+    let eight = |sum: u64, bytes: &[u8]| bytes.iter().fold(sum, |sum, byte| sum * 31 + u64::from(*byte));
+    bytes.chunks(8).fold(0, |sum, bytes| eight(sum, bytes) % 1_000_003) as u32
 }
