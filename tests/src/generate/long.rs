@@ -16,7 +16,7 @@ struct Long<'a> {
 
 pub fn session(random: &mut Random) -> Vec<u8> {
     let steps = random.between(2000, 6000);
-    let resets = random.pick(&[1, 3, 8]);
+    let resets = random.pick(&[0, 1, 3, 8]);
     let set = full_set(random);
     let session = Session::new(random, set, Inputs::steady());
     let mut long = Long { session, held: Vec::new(), load: None };
@@ -31,7 +31,7 @@ pub fn session(random: &mut Random) -> Vec<u8> {
 }
 
 impl Long<'_> {
-    /// One step; `resets` in two thousand are resets.
+    /// One step; `resets` in two thousand are resets, and without these the first load is the only start.
     fn step(&mut self, step: i64, resets: usize) {
         let choice = self.session.random.below(2000);
         match choice {
@@ -43,7 +43,7 @@ impl Long<'_> {
             165..=174 => self.session.add("D"),
             175..=179 => self.damage(),
             180 => self.session.add("K"),
-            181 => self.load_whole(),
+            181 if resets > 0 => self.load_whole(),
             _ if choice >= 2000 - resets => self.reset(step),
             _ => self.session.beat(),
         }
