@@ -1,4 +1,4 @@
-//! Deliberate slips. The cases and the random sessions must each find every one of them; see `slips.rs`.
+//! Deliberate slips. Cases and random inputs, or the history, must find every one of them; see `slips.rs`.
 
 use crate::runner::Form;
 use crate::value::Cut;

@@ -13,7 +13,7 @@ pub struct Witness {
     pub history: Option<History>,
     /// The first turn that the rule and the flags decide otherwise, or act that the history does not allow.
     pub difference: Option<String>,
-    /// The length of the history before the beat under way, and that beat's place among the beats.
+    /// The length of the history before the beat under way, and that beat's number among those worked.
     before: usize,
     beats: usize,
 }
