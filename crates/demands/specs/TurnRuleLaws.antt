@@ -19,11 +19,12 @@ use Rattle.engine.specs.Action.{World, Note, Did, fromValueOrAlarm}
 use Rattle.engine.specs.Actions.{actionsOf}
 use Rattle.engine.specs.Turn.{Entry, worked, locks, lockEntry, Turned, counted, takesTurn, doTurn, tryTurn, turnOf, turnsFrom}
 use Rattle.engine.specs.Keyword.{tries, acts}
+use Rattle.tokens.specs.ChooseLaws.{through, choose-by}
 use Rattle.demands.specs.History.{History, after, isAutomatic, isCancelled, isLocked, wasTrue, everTrue, takesByRule, triesByRule, actsByRule}
 use Rattle.demands.specs.Run.{byRank, cancelledBy, lockedBy, remembersBy, memoryBy, tryByRule, turnByRule, turnsByRule}
 use Rattle.demands.specs.FlagLaws.{byRank-at, worked-memory, lock-locked}
 use Rattle.soundness.specs.GoodAnswers.{Ok, is-ok, bind-ok}
-use Rattle.demands.specs.ActionRuleLaws.{through, choose-by, dress, noteAll, dressDid, Live, Fair, actions-dress, actions-fair}
+use Rattle.demands.specs.ActionRuleLaws.{dress, noteAll, dressDid, Live, Fair, actions-dress, actions-fair}
 
 pub after-append : (es fs : List Entry) (r : History) → after (es ++ fs) r ≡ after fs (after es r)
 after-append [] fs r = refl
