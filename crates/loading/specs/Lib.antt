@@ -3,6 +3,7 @@
 pub mod Unmarked
 pub mod UnmarkedLaws
 pub mod PlacedLaws
+pub mod NumbersNamesLaws
 pub mod StoredLineLaws
 pub mod TakenLaws
 pub mod ByNumberLaws
