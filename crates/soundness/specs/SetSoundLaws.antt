@@ -137,7 +137,8 @@ lines-known s =
 
 -- ---- found by its number
 
-rank-least : (ns : List ℕ) (n k : ℕ) → k ≤ rankIn ns n k
+-- no rank is below the one that is counted from
+pub rank-least : (ns : List ℕ) (n k : ℕ) → k ≤ rankIn ns n k
 unfolding rankIn
 rank-least [] n k = omega arith
 rank-least (x ∷ xs) n k = either (λ r. k ≤ r) (eqb x n) (λ p. omega arith) (λ p. let h = rank-least xs n (k + 1) in omega arith)
