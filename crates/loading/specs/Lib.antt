@@ -1,5 +1,5 @@
--- Loading, whatever the text: Answers and FirstFault say what each code means, Sound that the set is sound and 22 never arises, Lines that a set which is taken is what the text has
--- (Unmarked: a line without the marks of written points). The files named ..Laws hold what these need.
+-- Loading, whatever the text: LoadAnswers and FirstFault say what each code means, LoadedSound that the set is sound and 22 never arises, LoadedLines that a set which is taken is
+-- what the text has (Unmarked: a line without the marks of written points), LoadedTurns that its turns are those of the text's trees. The files named ..Laws hold what these need.
 pub mod Unmarked
 pub mod UnmarkedLaws
 pub mod PlacedLaws
@@ -13,3 +13,4 @@ pub mod LoadAnswers
 pub mod FirstFault
 pub mod LoadedSound
 pub mod LoadedLines
+pub mod LoadedTurns

@@ -29,7 +29,7 @@ use Rattle.loading.specs.NumbersNamesLaws.{to-names}
 unmarked-all-real : (l : List ℕ) → AllReal l → AllReal (map withoutMark l)
 unmarked-all-real l h = rw (without-marks l) (to-all-real unmarked unmarked-keeps l h)
 
-ended-unmarked : (l : List ℕ) → ended (map withoutMark l) ≡ map withoutMark (ended l)
+pub ended-unmarked : (l : List ℕ) → ended (map withoutMark l) ≡ map withoutMark (ended l)
 unfolding withoutMark
 ended-unmarked l = sym (map-append withoutMark l (END ∷ []))
 
