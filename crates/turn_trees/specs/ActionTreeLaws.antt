@@ -26,12 +26,9 @@ use Rattle.grammar.specs.TreeFault.{isRemovalTree}
 use Rattle.grammar.specs.Agreement.{sum-agrees, expression-agrees}
 use Rattle.grammar.specs.AgreementLaws.{bounds, within, beyond, stands-split, parts-fit, numbered, whole-token, number-index, axis-index, index-stands}
 use Rattle.grammar.specs.AgreementFault.{word-ends, end-ends, removal-agrees, actions-word}
-use Rattle.turn_trees.specs.TurnTree.{Names, RightTaken, valueTaken, takenTree, conditionTree, ActionsDone, doneIn, assignTree, lockTree, actionTree, actionsTree, ActionNames, ActionsName}
+use Rattle.turn_trees.specs.TurnTree.{Names, RightTaken, valueTaken, takenTree, conditionTree, ActionsDone, doneIn, assignTree, lockTree, actionTree, actionsTree}
+use Rattle.turn_trees.specs.LineNames.{ActionNames, ActionsName, SameRank}
 use Rattle.turn_trees.specs.AlarmLaws.{right-stops, condition-stops, told-tree}
-
--- the engine has the number m, at the rank that the names have it at
-abbrev pub SameRank : List ℕ → Names → ℕ → Type 0
-SameRank numbers names m = (rankIn numbers m 0 < maxLines) × (rankIn numbers m 0 ≡ rankIn (names .numbers) m 0)
 
 -- a value, and the place behind it
 abbrev upToPlace : Answer ℤ → ℕ → Answer (ℤ × ℕ)

@@ -20,7 +20,7 @@ use Rattle.grammar.specs.ClosedTokens.{Closed, closed-action, closed-condition}
 use Rattle.engine.specs.Set.{rankIn, isKnown, isLock, namesKnown}
 use Rattle.soundness.specs.WriteSoundLaws.{lower-zero, unless-zero}
 use Rattle.soundness.specs.SetSoundLaws.{rank-least}
-use Rattle.turn_trees.specs.TurnTree.{ActionNames, ActionsName, LineNames}
+use Rattle.turn_trees.specs.LineNames.{ActionNames, ActionsName, LineNames}
 
 -- ---- the numbers that are known
 

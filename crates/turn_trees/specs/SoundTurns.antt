@@ -24,9 +24,9 @@ use Rattle.engine.specs.Action.{World}
 use Rattle.engine.specs.Turn.{beatIn, turnsFrom}
 use Rattle.engine.specs.Beat.{bufferSize, areInputs, begun, beatOf}
 use Rattle.soundness.specs.SetSoundLaws.{lines-lined, lines-known, rank-inside}
-use Rattle.turn_trees.specs.TurnTree.{namesOf, turnsTree, LineNames}
+use Rattle.turn_trees.specs.TurnTree.{namesOf, turnsTree}
+use Rattle.turn_trees.specs.LineNames.{LineNames, SameRank}
 use Rattle.turn_trees.specs.NamesLaws.{Known, line-names, names-so, rank-same}
-use Rattle.turn_trees.specs.ActionTreeLaws.{SameRank}
 use Rattle.turn_trees.specs.TurnByTree.{HoldingFrom, turns-by-tree}
 
 -- the tokens of the tree l stand where the line of rank k begins

@@ -25,8 +25,9 @@ use Rattle.engine.specs.Keyword.{acts, remembers, tries}
 use Rattle.engine.specs.Action.{World, Did, fromValueOrAlarm}
 use Rattle.engine.specs.Turn.{Entry, worked, lockEntry, Turned, remembered, counted, takesTurn, doTurn, tryTurn, turnOf, turnsFrom}
 use Rattle.soundness.specs.WriteSoundLaws.{lower-zero, unless-zero}
-use Rattle.turn_trees.specs.TurnTree.{Names, ActionsDone, conditionTree, actionsTree, doTree, tryTree, takesTree, turnTree, turnsTree, ActionsName, LineNames}
-use Rattle.turn_trees.specs.ActionTreeLaws.{SameRank, doneUpTo, condition-tree, actions-tree}
+use Rattle.turn_trees.specs.TurnTree.{Names, ActionsDone, conditionTree, actionsTree, doTree, tryTree, takesTree, turnTree, turnsTree}
+use Rattle.turn_trees.specs.LineNames.{ActionsName, LineNames, SameRank}
+use Rattle.turn_trees.specs.ActionTreeLaws.{doneUpTo, condition-tree, actions-tree}
 
 -- the two sides of a test
 alike : {X : Type 0} (b : Bool) {x y u v : X} → x ≡ u → y ≡ v → _≡_ {A = X} (elim b as (λ _. X) [ true ↦ x | false ↦ y ]) (elim b as (λ _. X) [ true ↦ u | false ↦ v ])

@@ -1,5 +1,4 @@
 -- What a line does, from its tree (document 01, "Values and time" and "A beat"); where its tokens stand does not matter. Definitions only.
-use mathlib.Core.Path.{_≡_}
 use mathlib.Core.Bool.{Bool, true, false, not as isNot, _&&_, _||_}
 use mathlib.Core.List.{List, [], _∷_, _++_, map}
 use Prim.Native.Nat.{ℕ, _+_}
@@ -14,7 +13,7 @@ use Rattle.grammar.specs.Tree.{number, variable, position, truth, bracket, minu
 use Rattle.grammar.specs.Meaning.{sumMeaning, expressionMeaning}
 use Rattle.grammar.specs.TreeFault.{isRemovalTree}
 use Rattle.engine.specs.declared.order.Kind.the-variants as K
-use Rattle.engine.specs.Set.{rankIn, isLock}
+use Rattle.engine.specs.Set.{rankIn}
 use Rattle.engine.specs.Write.{Vars, changeFifo, withChanged, writeTo}
 use Rattle.engine.specs.Drive.{driveOrder, orderOf}
 use Rattle.engine.specs.Keyword.{acts, remembers, tries}
@@ -130,20 +129,3 @@ module _ (names : Names) (automatic : Bool) where
 -- the names of a set of lines by rising number
 abbrev pub namesOf : List Line → List Bool → Names
 namesOf ls cancelled = record { numbers = map treeNumber ls; cancelled = cancelled }
-
--- ---- what a line names
-
--- P holds of each number that a LOCK or UNLOCK names
-abbrev pub ActionNames : (ℕ → Type 0) → Action → Type 0
-ActionNames P (assign w v i a) = Unit {0}
-ActionNames P (assignPosition y v a) = Unit {0}
-ActionNames P (drive w v y u a) = Unit {0}
-ActionNames P (code m) = Unit {0}
-ActionNames P (call w v m) = isLock w ≡ true → P m
-
-abbrev pub ActionsName : (ℕ → Type 0) → Action → List Action → Type 0
-ActionsName P a [] = ActionNames P a
-ActionsName P a (b ∷ r) = ActionNames P a × ActionsName P b r
-
-abbrev pub LineNames : (ℕ → Type 0) → Line → Type 0
-LineNames P (line w u n c a r) = ActionsName P a r
