@@ -17,12 +17,13 @@ use Rattle.engine.specs.Sound.{isSound}
 use Rattle.engine.specs.Action.{World}
 use Rattle.engine.specs.Turn.{beatIn, turnsFrom}
 use Rattle.engine.specs.Beat.{bufferSize, areInputs, begun, beatOf}
+use Rattle.soundness.specs.Call.{Call, afterAll}
 use Rattle.turn_trees.specs.TurnTree.{namesOf, turnsTree}
 use Rattle.turn_trees.specs.SoundTurns.{TreesFrom, TreesOf, sound-turns, beat-by-trees}
 use Rattle.turn_trees.specs.TurnNumbersTo.{turns-to, names-to}
 use Rattle.reader.specs.Row.{Row, byNumber, setOf, withoutMark}
 use Rattle.reader.specs.StoredTokens.{ended}
-use Rattle.reader.specs.Load.{taken, outcome, loadSet}
+use Rattle.reader.specs.Load.{taken, outcome, loadAnswer, loadSet}
 use Rattle.loading.specs.Unmarked.{unmarked, unmarkedTree}
 use Rattle.loading.specs.UnmarkedLaws.{unmarked-keeps, unmarked-tokens}
 use Rattle.loading.specs.PlacedLaws.{Laid, heldTokens}
@@ -30,7 +31,7 @@ use Rattle.loading.specs.StoredLineLaws.{written, ended-unmarked}
 use Rattle.loading.specs.TakenLaws.{All, Fine, taken-fine}
 use Rattle.loading.specs.LoadAnswers.{taken-answer}
 use Rattle.loading.specs.LoadedLaws.{each-by, taken-laid, taken-short, taken-read}
-use Rattle.loading.specs.LoadedSound.{load-lines-sound, load-size}
+use Rattle.loading.specs.LoadedSound.{load-lines-sound, load-size, load-always-sound}
 
 -- each tree is written as the tokens of its line of the text
 abbrev pub AreTrees : List Line → List Row → Type 0
@@ -98,3 +99,10 @@ module _ (t : List ℕ) (rs : List Row) (h : outcome t ≡ taken rs) where
         let n = load-size t in
         beat-by-trees (loadSet t) (map unmarkedTree ls) st automatic word lent room (omega arith) load-trees a b c
         ∙ rw (turns-to unmarked unmarked-keeps (namesOf (map unmarkedTree ls) (st .cancelled)) automatic ls 0 (begun st word lent), names-to unmarked unmarked-keeps ls (st .cancelled))
+
+    -- SO AFTER ANY CALLS from the load on
+    pub beat-after-calls : (cs : List Call) (automatic : Bool) (word : ℕ) (lent : List ℤ) (room : ℕ) → ltb room bufferSize ≡ false → areInputs lent ≡ true →
+        let st : State = afterAll (loadSet t) (loadAnswer t .state) cs in
+        beatOf (loadSet t) st automatic word lent room
+        ≡ (turnsTree (namesOf ls (st .cancelled)) automatic ls 0 (begun st word lent) >>= λ u. good (record { world = u .world; entries = beatIn automatic ∷ u .entries }))
+    beat-after-calls cs automatic word lent room b c = loaded-beat-by-trees (afterAll (loadSet t) (loadAnswer t .state) cs) automatic word lent room (load-always-sound t cs) b c
