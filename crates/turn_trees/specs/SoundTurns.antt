@@ -11,7 +11,7 @@ use borrow.Author.Tests.{ltb-true}
 use Rattle.values.specs.Choice.{both, chosen, refused}
 use Rattle.tokens.specs.Token.{setSize, maxLines}
 use Rattle.tokens.specs.Descent.{good, _>>=_}
-use Rattle.checking.specs.declared.check.Line.{Line as Told}
+use Rattle.checking.specs.declared.line.Line.{Line as Told}
 use Rattle.grammar.specs.Tree.{Line, lineTokens, treeNumber}
 use Rattle.grammar.specs.Meaning.{Stands}
 use Rattle.grammar.specs.TreeFault.{lineFault, partsFrom}

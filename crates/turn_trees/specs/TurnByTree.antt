@@ -11,7 +11,7 @@ use borrow.Author.Tests.{leb-true}
 use Rattle.values.specs.Codes.{tooManyActions}
 use Rattle.tokens.specs.Token.{END, setSize, maxActions}
 use Rattle.tokens.specs.Descent.{token, Answer, good, stop, _>>=_}
-use Rattle.checking.specs.declared.check.Line.{Line as Told}
+use Rattle.checking.specs.declared.line.Line.{Line as Told}
 use Rattle.checking.specs.Fault.{countFault}
 use Rattle.working.specs.Operators.{isYes}
 use Rattle.working.specs.Working.{conditionValue}
