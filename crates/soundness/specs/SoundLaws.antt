@@ -221,6 +221,10 @@ call-keeps s st (doCancel n) l h = unchanged s st (cancelCall s st n) h (cancelC
 call-keeps s st doReset l h = record { sound = resetCall-keeps s st (h .sound); long = rw (resetCall-r s st) (h .long); sized = resetCall-length s st (h .sized) }
 call-keeps s st (doBeat automatic word lent b) l h = beat-answers s st automatic word lent b l h .0
 
+-- A SOUND STATE STAYS SOUND, whatever is called
+pub sound-stays-sound : (s : List ℕ) (st : State) (c : Call) → length s ≤ setSize → length (st .r) ≡ 164 → length (st .cells) ≡ stateCells → isSound s st ≡ true → isSound s (after s st c) ≡ true
+sound-stays-sound s st c l lr lc h = call-keeps s st c l (record { sound = h; long = lr; sized = lc }) .sound
+
 -- and answers no 22
 pub call-not22 : (s : List ℕ) (st : State) (c : Call) → length s ≤ setSize → Whole s st → Not22 (codeAfter s st c)
 call-not22 s st (doLock n) l h = lockCall-answers s st n (h .sound) .code
