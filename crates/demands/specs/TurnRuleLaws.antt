@@ -160,7 +160,7 @@ module _ (ls : Lines) where
 
     -- the turn of a line of the set
     module _ (b : k < maxLines) (n : k < ls .count) where
-      takes-same : takesTurn s (ls .numbers) (byRank (cancelledBy ls r)) (isAutomatic r) (getD (ls .items) k noLine) k (flagged r x) ≡ takesByRule (getD (ls .items) k noLine) k r
+      pub takes-same : takesTurn s (ls .numbers) (byRank (cancelledBy ls r)) (isAutomatic r) (getD (ls .items) k noLine) k (flagged r x) ≡ takesByRule (getD (ls .items) k noLine) k r
       unfolding takesTurn
       takes-same =
           rw (byRank-at (cancelledBy ls r) k b, byRank-at (lockedBy ls r) k b, lt-ltb k (ls .count) n)
