@@ -140,7 +140,7 @@ module _ (s : List ℕ) (v : Vars) (r : History) (m : Bool) (word : ℕ) (lent :
           }
 
 -- no reply of a failed beat has a bit
-no-bit : (k : ℕ) → isActed 0 k ≡ false
+pub no-bit : (k : ℕ) → isActed 0 k ≡ false
 no-bit k = rw (zero-div (2 ^ k))
 
 acted-good : (st : State) (k : ℕ) (a : Answer Turned) → isActed (answered st a .acted) k ≡ true → (t : Turned) × (a ≡ good t) × (isActed (t .world .acted) k ≡ true)

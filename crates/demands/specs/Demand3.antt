@@ -186,7 +186,7 @@ unfolding runFrom runByRuleFrom
 run-same s [] n = refl
 run-same s (c ∷ cs) n = rw (step-same s n c) (run-same s cs (stepByRule s c n))
 
-load-same : (s : List ℕ) → powerOn ≡ stateBy (soundLines s) (variablesOf powerOn) []
+pub load-same : (s : List ℕ) → powerOn ≡ stateBy (soundLines s) (variablesOf powerOn) []
 unfolding powerOn stateBy
 load-same s = in-flags _ (new-locked (soundLines s)) (new-cancelled (soundLines s)) (new-memory (soundLines s))
 

@@ -12,6 +12,9 @@ pub mod DeedLaws
 pub mod ActLaws
 pub mod Consequences
 pub mod WhatWasDone
+pub mod Asks
+pub mod AskLaws
+pub mod FromALoadOn
 pub mod Refusals
 pub mod EngineUnique
 pub mod Cases

@@ -5,7 +5,7 @@ use mathlib.Core.Path.{_≡_, refl, ap, _∙_}
 use mathlib.Core.Logic.{inl, inr}
 use mathlib.Core.Bool.{Bool, true, false, cond}
 use mathlib.Core.List.{List, [], _∷_, _++_}
-use Prim.Native.Nat.{ℕ, _+_, _*_, _^_, _<_}
+use Prim.Native.Nat.{ℕ, _+_, _*_, _^_, _<_, _≤_}
 use native.Mathlib.Omega.{arith}
 use native.Mathlib.Nat.{one-le-pow}
 use lib.IntN.{ℤ}
@@ -29,7 +29,7 @@ use Rattle.demands.specs.Acts.{isActed, actsNow}
 use Rattle.demands.specs.Deed.{LeftAlone, DidAll, bytesOf, Each, Gave, OfActed}
 use Rattle.demands.specs.DeedLaws.{bytes-length, Took, turn-took}
 use Rattle.demands.specs.ActLaws.{turns-gave}
-use Rattle.demands.specs.Consequences.{beat-turns, unflagged, acts-just}
+use Rattle.demands.specs.Consequences.{beat-turns, unflagged, no-bit, acts-just, acts-no-other}
 
 -- ---- of one line
 
@@ -108,6 +108,15 @@ module _ (s : List ℕ) (cs : List Call) (m : Bool) (word : ℕ) (lent : List �
       (before own : Turned) × (turnsFrom s (soundLines s .numbers) (st .cancelled) m (soundLines s .items) k 0 (begun st word lent) ≡ good before)
       × (turnOf s (soundLines s .numbers) (st .cancelled) m l k (before .world) ≡ good own) × DidAll s (soundLines s .numbers) (st .cancelled) l k (before .world) (own .world)
   did-all k h z e = let t = at-its-turn k h z in (t .before, t .own, t .come, t .taken, t .did e)
+
+  -- AND NO OTHER RANK HAS A BIT
+  pub no-other-bit : (k : ℕ) → soundLines s .count ≤ k → isActed (beatAnswer s (run s cs .kept) m word lent b .acted) k ≡ false
+  unfolding beatAnswer
+  no-other-bit k h = go (beatOf s (run s cs .kept) m word lent (length b)) (λ t. acts-no-other s cs m word lent k (length b) t h)
+    where
+      go : (a : Answer Turned) → ((t : Turned) → a ≡ good t → isActed (t .world .acted) k ≡ false) → isActed (answered (run s cs .kept) a .acted) k ≡ false
+      go (good t) f = f t refl
+      go (stop c) f = no-bit k
 
 -- ---- of the orders
 

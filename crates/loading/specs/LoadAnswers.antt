@@ -1,5 +1,5 @@
--- What loading answers, and when: 0 exactly if the text is taken, 1 exactly if it is too long, 2 exactly if it has too many lines; the state in every case; and that one answer
--- alone is allowed. Theorems; nothing is assumed.
+-- What loading answers, and when: 0 exactly if the text is taken, 1 exactly if it is too long, 2 exactly if it has too many lines; and that one answer alone is
+-- allowed. (The state that every load leaves: `load-power-on` of demands.) Theorems; nothing is assumed.
 use mathlib.Core.Path.{_≡_, refl, ap, _∙_}
 use mathlib.Core.Bool.{true, false}
 use mathlib.Core.List.{List, [], _∷_, _++_}
@@ -21,7 +21,6 @@ use Rattle.grammar.specs.TreeFault.{lineFault, Proper}
 use Rattle.grammar.specs.TreeFaultLaws.{line-proper}
 use Rattle.grammar.specs.AgreementLine.{line-found, line-fault}
 use Rattle.engine.specs.Set.{isKnown, emptySet}
-use Rattle.engine.specs.State.{powerOn}
 use Rattle.text.specs.Byte.{run}
 use Rattle.text.specs.Tokens.{Tokens, tokensOf}
 use Rattle.text.specs.Lines.{Numbered, tokenLines, numbered, bodies, split, withoutComment, isBlank}
@@ -54,17 +53,6 @@ by-outcome P t f g = go (outcome t) refl
     go : (o : Outcome) → outcome t ≡ o → P
     go (taken rs) e = f rs e
     go (refused c k) e = g c k e
-
--- AFTER EVERY LOAD THE STATE IS THAT OF POWER-ON
-pub load-power-on : (t : List ℕ) → loadAnswer t .state ≡ powerOn
-unfolding loadAnswer
-load-power-on t = go (outcome t)
-  where
-    go : (o : Outcome) →
-        let l : Loaded = elim o [ taken rs ↦ record { code = 0; line = 0; state = powerOn } | refused c k ↦ record { code = c; line = k; state = powerOn } ] in
-        l .state ≡ powerOn
-    go (taken rs) = refl
-    go (refused c k) = refl
 
 -- A TEXT WITHOUT A BYTE IS TAKEN, with no line
 pub empty-taken : outcome [] ≡ taken []
