@@ -17,7 +17,7 @@ use Rattle.tokens.specs.Token.{END, POS, FA, M, SETAL, isVariable, isDrive, who
 use Rattle.tokens.specs.Descent.{token, indexAt}
 use Rattle.working.specs.Operators.{isYes, fromWorked}
 use Rattle.working.specs.Working.{rightValue, conditionValue}
-use Rattle.checking.specs.declared.check.Line.{Line}
+use Rattle.checking.specs.declared.line.Line.{Line}
 use Rattle.engine.specs.declared.order.Order.{Order}
 use Rattle.engine.specs.Set.{rankIn}
 use Rattle.engine.specs.Order.{orderBytes}

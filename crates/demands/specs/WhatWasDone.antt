@@ -11,7 +11,7 @@ use native.Mathlib.Nat.{one-le-pow}
 use lib.IntN.{ℤ}
 use lib.ListN.{length, getD, drop}
 use Rattle.tokens.specs.Descent.{Answer, good, stop}
-use Rattle.checking.specs.declared.check.Line.{Line}
+use Rattle.checking.specs.declared.line.Line.{Line}
 use Rattle.engine.specs.declared.order.Order.{Order}
 use Rattle.engine.specs.declared.state.State.{State}
 use Rattle.engine.specs.Set.{noLine, soundLines}

@@ -21,7 +21,7 @@ use Rattle.tokens.specs.Token.{END, MARKER, PARAM, OUT, TIMER, R, M, POS, FA, S
 use Rattle.tokens.specs.Descent.{token, Answer, good, stop, _>>=_, Read, read, ends, then, upTo, Meaning, isRow, isIndexed, indexAt, joined, more, readProduct, readSum, readRest, readExpression, readClose, readVariable, readTruth, operandFrom, readOperand, sumAt, expressionAt}
 use Rattle.tokens.specs.Index.{isInside}
 use Rattle.checking.specs.Fault.{isRemoval}
-use Rattle.checking.specs.declared.check.Line.{Line}
+use Rattle.checking.specs.declared.line.Line.{Line}
 use Rattle.working.specs.Operators.{fromWorked, joinValues}
 use Rattle.working.specs.Variables.{run, countAt, fromFifoValue, fifoValue, fifoAt, variableValue}
 use Rattle.working.specs.Working.{told, valueOver, conditionValue, rightValue}
