@@ -24,7 +24,7 @@ use Rattle.engine.specs.Turn.{Entry, worked, locks, lockEntry, Turned, counted,
 use Rattle.demands.specs.History.{History, after, only, orElse, isAutomatic, wasTrue, everTrue, takesByRule, triesByRule, actsByRule}
 use Rattle.demands.specs.Run.{byRank, cancelledBy, tryByRule, turnByRule, turnsByRule}
 use Rattle.demands.specs.Acts.{isActed, isYesAnswer, conditionNow, triesNow, actsNow}
-use Rattle.soundness.specs.GoodAnswers.{Ok, is-ok, bind-ok}
+use Rattle.tokens.specs.AnswerLaws.{Ok, is-ok, bind-ok}
 use Rattle.demands.specs.ActionRuleLaws.{Fair, actions-fair}
 use Rattle.demands.specs.TurnRuleLaws.{after-append}
 use Rattle.demands.specs.Deed.{Gave, OfActed}

@@ -17,7 +17,7 @@ use Rattle.engine.specs.Action.{World, Note, Did, fromValueOrAlarm, takenAt, as
 use Rattle.engine.specs.Actions.{actionsOf}
 use Rattle.engine.specs.Drive.{driveOrder}
 use Rattle.engine.specs.Write.{writeTo}
-use Rattle.soundness.specs.GoodAnswers.{Ok, is-ok, bind-ok}
+use Rattle.tokens.specs.AnswerLaws.{Ok, is-ok, bind-ok}
 
 -- ---- a world in other flags
 

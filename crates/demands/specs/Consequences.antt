@@ -34,7 +34,7 @@ use Rattle.demands.specs.History.{History, after, isAutomatic, everTrue,
 use Rattle.soundness.specs.Call.{Call, doBeat, doLock, doUnlock, doCancel, doReset}
 use Rattle.demands.specs.Run.{Now, coded, noted, rankOf, codeByRule, cleared, run, stateBy, begunBy, byRank, cancelledBy, tryByRule, turnByRule, turnsByRule, beatByRule, stepByRule, resetByRule, runByRuleFrom, runByRule, beatenByRule}
 use Rattle.demands.specs.Acts.{isActed, conditionNow, triesNow, actsNow, actedSince}
-use Rattle.soundness.specs.GoodAnswers.{Ok, is-ok, bind-ok}
+use Rattle.tokens.specs.AnswerLaws.{Ok, is-ok, bind-ok}
 use Rattle.demands.specs.ActionRuleLaws.{noteAll, Noted, actions-noted}
 use Rattle.demands.specs.TurnRuleLaws.{flagged, flaggedTurn, Quiet, takes-same, turn-same, turns-same, turns-quiet}
 use Rattle.demands.specs.ActLaws.{Done, done, no-other}

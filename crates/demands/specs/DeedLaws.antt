@@ -28,7 +28,7 @@ use Rattle.engine.specs.Drive.{driveOrder}
 use Rattle.engine.specs.Write.{writeTo}
 use Rattle.engine.specs.Keyword.{tries, acts, remembers}
 use Rattle.engine.specs.Turn.{Entry, worked, Turned, remembered, takesTurn, doTurn, tryTurn, turnOf}
-use Rattle.soundness.specs.GoodAnswers.{Ok, is-ok, bind-ok}
+use Rattle.tokens.specs.AnswerLaws.{Ok, is-ok, bind-ok}
 use Rattle.demands.specs.ActionRuleLaws.{Fair, actions-fair, Noted, actions-noted}
 use Rattle.demands.specs.Deed.{LeftAlone, acting, DidAll, bytesOf, Each, Gave}
 

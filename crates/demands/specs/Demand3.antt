@@ -29,7 +29,7 @@ use Rattle.demands.specs.History.{History, after, isCancelled, isLocked}
 use Rattle.soundness.specs.Call.{Call, doBeat, doLock, doUnlock, doCancel, doReset}
 use Rattle.demands.specs.Run.{Now, coded, entriesOf, rankOf, hosted, beaten, step, runFrom, run, byRank, cancelledBy, lockedBy, remembersBy, memoryBy, variablesOf, stateBy, begunBy, endedBy, turnsByRule, beatByRule, codeByRule, hostedByRule, beatenByRule, cleared, resetByRule, stepByRule, runByRuleFrom, runByRule}
 use Rattle.demands.specs.FlagLaws.{byRank-at, lock-locked, cancel-cancelled, cancel-locked, cancel-memory, reset-locked, reset-cancelled, reset-memory, new-locked, new-cancelled, new-memory}
-use Rattle.soundness.specs.GoodAnswers.{Ok, is-ok, bind-ok}
+use Rattle.tokens.specs.AnswerLaws.{Ok, is-ok, bind-ok}
 use Rattle.tokens.specs.ChooseLaws.{choose}
 use Rattle.demands.specs.TurnRuleLaws.{flaggedTurn, turns-same, turns-quiet}
 

@@ -23,7 +23,7 @@ use Rattle.tokens.specs.ChooseLaws.{through, choose-by}
 use Rattle.demands.specs.History.{History, after, isAutomatic, isCancelled, isLocked, wasTrue, everTrue, takesByRule, triesByRule, actsByRule}
 use Rattle.demands.specs.Run.{byRank, cancelledBy, lockedBy, remembersBy, memoryBy, tryByRule, turnByRule, turnsByRule}
 use Rattle.demands.specs.FlagLaws.{byRank-at, worked-memory, lock-locked}
-use Rattle.soundness.specs.GoodAnswers.{Ok, is-ok, bind-ok}
+use Rattle.tokens.specs.AnswerLaws.{Ok, is-ok, bind-ok}
 use Rattle.demands.specs.ActionRuleLaws.{dress, noteAll, dressDid, Live, Fair, actions-dress, actions-fair}
 
 pub after-append : (es fs : List Entry) (r : History) → after (es ++ fs) r ≡ after fs (after es r)

@@ -21,7 +21,7 @@ use Rattle.engine.specs.Turn.{beatIn, Turned, takesTurn, turnOf, turnsFrom}
 use Rattle.engine.specs.Beat.{begun, beatOf, answered, buffered, beatAnswer, beatBuffer}
 use Rattle.soundness.specs.Call.{Call}
 use Rattle.soundness.specs.CallCodes.{ended-well}
-use Rattle.soundness.specs.GoodAnswers.{is-ok}
+use Rattle.tokens.specs.AnswerLaws.{is-ok}
 use Rattle.demands.specs.History.{History, after, takesByRule}
 use Rattle.demands.specs.Run.{run, runByRule, stateBy, begunBy, turnsByRule}
 use Rattle.demands.specs.Demand3.{demand-3}

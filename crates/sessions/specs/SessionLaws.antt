@@ -18,7 +18,7 @@ use Rattle.text.specs.LinesLaws.{split-some}
 use Rattle.text.specs.PutAt.{putAt}
 use Rattle.tokens.specs.Token.{textSize}
 use Rattle.reader.specs.Load.{Outcome, refused, outcome, loadAnswer, loadSet}
-use Rattle.text.specs.PutLaws.{put-length}
+use Rattle.text.specs.PutLaws.{put-length, put-past}
 use Rattle.transcript.specs.declared.session.Place.{Place}
 use Rattle.transcript.specs.declared.beat_line.HalfLine.{HalfLine}
 use Rattle.transcript.specs.Input.{Input, isStar, beatLines, lineBefore, cut, inputOf}
@@ -32,7 +32,7 @@ use Rattle.transcript.specs.HalfLine.{noHalfLine, readOn, withoutCR, isUntouche
 use Rattle.transcript.specs.Machine.{TEXT, BEATS, OVER, keptSize, Machine, Fed, begun, withPhase, withTotals, starAfter, starOn, placeOn, placeEnd, opened, textEnd, beatOf, beatEnd, chunk, lineEnd, fedLines, textOver, lastOver, finished}
 use Rattle.transcript.specs.SessionRoomLaws.{byCode, byLent, over-chunk, over-line}
 use Rattle.sessions.specs.HalfLineLaws.{byOption, lent-last, lent-ended, untouched}
-use Rattle.sessions.specs.MachineLaws.{put-out, text-append}
+use Rattle.sessions.specs.MachineLaws.{text-append}
 
 -- ---- all that is printed
 
@@ -211,7 +211,7 @@ module _ (c : ℕ) where
       let m : min c (length d) ≡ c = omega arith in
       let a = length-append d l in
       let w : min c (length d + length l) ≡ c = omega arith in
-      rw (m, a, w, put-out s c l (omega arith)) (rw m at k ∙ sym (take-append-le c d l h))
+      rw (m, a, w, put-past l s c (omega arith)) (rw m at k ∙ sym (take-append-le c d l h))
 
   kept-put : (l s d : List ℕ) → length s ≡ c → Begins s d → Begins (putAt s (min c (length d)) l) (d ++ l)
   kept-put [] s d n k = rw (append-nil d) k

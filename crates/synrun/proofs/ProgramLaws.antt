@@ -6,7 +6,8 @@ use native.Mathlib.Omega.{arith}
 use lib.ListN.{length, take, drop, length-drop}
 use lib.Seq.{length-take-le}
 use Rattle.transcript.specs.declared.session.Stepped.{Stepped}
-use Rattle.transcript.specs.Machine.{Machine, worked, finishedText, outSize}
+use Rattle.transcript.specs.Machine.{Machine, worked, finishedText}
+use Rattle.transcript.specs.Output.{outSize}
 use Rattle.transcript.specs.SessionAnswers.{IsWork}
 use Rattle.transcript.specs.SessionRoomLaws.{finished-text-room}
 use Rattle.text.specs.PutAt.{putAt}

@@ -13,7 +13,7 @@ use Rattle.transcript.specs.declared.session.Place.{Place}
 use Rattle.transcript.specs.declared.session.Session.{Session}
 use Rattle.transcript.specs.declared.beat_line.HalfLine.{HalfLine}
 use Rattle.transcript.specs.BeatLine.{Lent}
-use Rattle.transcript.specs.Output.{loadLine, errorLine}
+use Rattle.transcript.specs.Output.{loadLine, errorLine, outSize, lineRoom}
 use Rattle.transcript.specs.declared.totals.Totals.{Totals}
 use Rattle.transcript.specs.Totals.{maxBeats, noTotals, ended, areFit}
 use Rattle.transcript.specs.Tally.{counted, answerOf, beatText}
@@ -182,13 +182,6 @@ unfoldable pub finishedText : Machine → List ℕ
 finishedText m = elim (isFit (m .session)) [ true ↦ finished m | false ↦ [] ]
 
 -- ---- a piece of input
-
--- the bytes that output is handed over in, and those that one line of input may print
-abbrev pub outSize : ℕ
-outSize = 16384
-
-abbrev pub lineRoom : ℕ
-lineRoom = 12288
 
 -- what a piece of input came to: the machine, how much of the piece was taken, and what was printed
 pub record Work : Type 0 where

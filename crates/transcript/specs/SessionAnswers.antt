@@ -3,12 +3,11 @@ use mathlib.Core.Path.{_≡_}
 use mathlib.Core.List.{List}
 use Prim.Native.Nat.{ℕ}
 use lib.ListN.{length}
-use Rattle.text.specs.PutAt.{putAt}
+use Rattle.text.specs.PutAt.{putAt, IsPut}
 use Rattle.transcript.specs.declared.session.Session.{Session}
 use Rattle.transcript.specs.declared.session.Stepped.{Stepped}
 use Rattle.transcript.specs.declared.session.Ended.{Ended}
 use Rattle.transcript.specs.Machine.{Machine, Fed, Work}
-use Rattle.transcript.specs.Put.{IsPut}
 
 abbrev pub machineOf : List ℕ → List ℕ → Session → Machine
 machineOf t s x = record { text = t; lines = s; session = x }

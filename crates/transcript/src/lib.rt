@@ -2,7 +2,6 @@
 //
 // No public call asks anything of its caller.
 mod beat_line;
-mod buffer;
 mod printing;
 mod session;
 mod tally;

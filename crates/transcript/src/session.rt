@@ -5,9 +5,9 @@ ghost use mathlib.Core.List.{List};
 ghost use Prim.Native.Nat.{ℕ, _+_, _≤_, min};
 ghost use lib.Dec.{eqb};
 ghost use lib.ListN.{length};
-ghost use Rattle.text.specs.PutAt.{putAt};
+ghost use Rattle.text.specs.PutAt.{putAt, IsPut};
 ghost use Rattle.transcript.specs.Machine.{OVER, begun, isFit, starAfter, starOn, placeOn, placeEnd, opened, textEnd, beatOf, beatEnd, chunk, lineEnd, textOver, lastOver, finishedText, worked, keptSize};
-ghost use Rattle.transcript.specs.Put.{IsPut};
+ghost use Rattle.transcript.specs.Output.{lastStart};
 ghost use Rattle.transcript.specs.SessionAnswers.{IsFed, IsWork, machineOf};
 ghost use Rattle.transcript.specs.MaybeLent.{lentIn};
 ghost use Rattle.transcript.specs.SessionRoomLaws.{Fit, Lives};
@@ -18,8 +18,6 @@ use crate::beat_line::no_half_line;
 use crate::beat_line::read_bytes;
 use crate::beat_line::read_lent;
 use crate::beat_line::without_cr;
-use crate::buffer::put;
-use crate::buffer::put_bytes;
 use crate::printing::load_line;
 use crate::tally::tally_beat;
 use crate::totals::MAX_BEATS;
@@ -29,6 +27,8 @@ use crate::totals::no_totals;
 use crate::totals::put_end;
 use crate::totals::put_error;
 use reader::load;
+use text::buffer::put;
+use text::buffer::put_bytes;
 use text::bytes::CR;
 use text::bytes::Kind;
 use text::bytes::LF;
@@ -212,7 +212,7 @@ fn work_beat(
     out: &mut [u8],
     at: usize,
 ) -> Ended
-    requires { ⌜ Fit session × (at ≤ 4096) ⌝ }
+    requires { ⌜ Fit session × (at ≤ lastStart) ⌝ }
     ensures { λ x. ⌜ ((t : List ℕ) → IsFed (beatOf (machineOf t (now (set .entry)) session) (lentIn lent)) t (now (set .entry)) (now (out .entry)) at x (now (out .exit))) ⌝ }
 {
     let totals = session.totals;
@@ -237,7 +237,7 @@ fn work_beat(
 
 // A beat line that was read: E if it is ill-formed.
 fn beat_end(session: Session, set: &[u32; SIZE], half: HalfLine, out: &mut [u8], at: usize) -> Ended
-    requires { ⌜ Fit session × (at ≤ 4096) ⌝ }
+    requires { ⌜ Fit session × (at ≤ lastStart) ⌝ }
     ensures { λ x. ⌜ ((t : List ℕ) → IsFed (beatEnd (machineOf t (now (set .entry)) session) half) t (now (set .entry)) (now (out .entry)) at x (now (out .exit))) ⌝ }
 {
     let lent = read_lent(half);
@@ -280,7 +280,7 @@ fn take_bytes(session: Session, text: &mut [u8; KEPT], part: &[u8]) -> Session
 
 // The set text is whole: it is loaded.
 fn open_set(session: Session, t: &[u8], set: &mut [u32; SIZE], out: &mut [u8], at: usize) -> Ended
-    requires { ⌜ at ≤ 4096 ⌝ }
+    requires { ⌜ at ≤ lastStart ⌝ }
     ensures { λ x. ⌜ ((m : List ℕ) → IsFed (opened (machineOf m (now (set .entry)) session) (now (t .entry))) m (now (set .exit)) (now (out .entry)) at x (now (out .exit))) ⌝ }
 {
     let l = load(t, set);
@@ -310,7 +310,7 @@ fn text_end(
     out: &mut [u8],
     at: usize,
 ) -> Ended
-    requires { ⌜ Fit session × (at ≤ 4096) ⌝ }
+    requires { ⌜ Fit session × (at ≤ lastStart) ⌝ }
     ensures { λ x. ⌜ IsFed (textEnd (machineOf (now (text .entry)) (now (set .entry)) session)) (now (text .exit)) (now (set .exit)) (now (out .entry)) at x (now (out .exit)) ⌝ }
 {
     let place = session.place;
@@ -336,7 +336,7 @@ fn line_end(
     out: &mut [u8],
     at: usize,
 ) -> Ended
-    requires { ⌜ Lives session × (at ≤ 4096) ⌝ }
+    requires { ⌜ Lives session × (at ≤ lastStart) ⌝ }
     ensures { λ x. ⌜ IsFed (lineEnd (machineOf (now (text .entry)) (now (set .entry)) session)) (now (text .exit)) (now (set .exit)) (now (out .entry)) at x (now (out .exit)) ⌝ }
 {
     let phase = session.phase;

@@ -4,10 +4,10 @@ use mathlib.Core.Path.{_≡_, refl, sym, _∙_}
 use Prim.Native.Nat.{_-_, _≤_}
 use lib.ListN.{length, drop, length-set}
 use denote.Ref.{now}
 use Rattle.text.specs.PutAt.{putAt}
-use Rattle.transcript.proofs.OutLaws.{put-past, put-next, put-none}
-use Rattle.transcript.proofs.buffer.put_bytes.Statement.{statement}
-use Rattle.transcript.proofs.buffer.put_bytes.Tie as tie
+use Rattle.text.specs.PutLaws.{put-past, put-next, put-none}
+use Rattle.text.proofs.buffer.put_bytes.Statement.{statement}
+use Rattle.text.proofs.buffer.put_bytes.Tie as tie
 
 abbrev Inv-loop : tie.InvT-loop
 Inv-loop out₀ at s p₀ i₀ out p i = (putAt out p (drop i s) ≡ putAt out₀ at s) × (length out ≡ length out₀) × (i ≤ length s)

@@ -1,8 +1,8 @@
-// Bytes and numbers written at a place of a lent buffer; what would lie past its end is left off.
+// Bytes written at a place of a lent buffer; what would lie past its end is left off.
 ghost use mathlib.Core.Path.{_≡_};
 ghost use Prim.Native.Nat.{_+_};
 ghost use lib.ListN.{set};
 ghost use Rattle.text.specs.PutAt.{putAt};
 
 pub fn put(out: &mut [u8], at: usize, b: u8)
     ensures { λ x. ⌜ now (out .exit) ≡ set (now (out .entry)) at b ⌝ }
