@@ -45,7 +45,8 @@ use Rattle.transcript.specs.Tally.{answerOf, bufferOf, beatText}
 use Rattle.transcript.specs.Synrun.{beatsText, loadedText, synrun}
 use lib.ListN.{replicate}
 use Rattle.transcript.specs.HalfLine.{greatest, withField, closed, spaceAfter, modeByte, minusByte, digitByte, fieldByte, readByte, readOn, isUntouched, withoutCR, readLent}
-use Rattle.transcript.specs.Machine.{starAfter, starOn, placeOn, placeEnd, opened, textEnd, beatOf, beatEnd, chunk, lineEnd, fedLines, textOver, lastOver, finished}
+use Rattle.transcript.specs.Machine.{opened, textEnd, beatOf, beatEnd, chunk, lineEnd, fedLines, textOver, lastOver, finished}
+use Rattle.transcript.specs.SetText.{starAfter, starOn, placeOn, placeEnd}
 use Rattle.sessions.specs.SessionLaws.{prints, starting}
 
 abbrev printed : String → List ℕ

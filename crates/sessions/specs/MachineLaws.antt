@@ -14,13 +14,14 @@ use Rattle.text.specs.Lines.{before, split, textLines}
 use Rattle.text.specs.LinesLaws.{split-some}
 use Rattle.text.specs.PutAt.{putAt}
 use Rattle.text.specs.PutLaws.{put-length, put-past, put-join}
-use Rattle.transcript.specs.declared.session.Place.{Place}
+use Rattle.transcript.specs.declared.set_text.Place.{Place}
 use Rattle.transcript.specs.declared.beat_line.HalfLine.{HalfLine}
 use Rattle.reader.specs.Load.{loadAnswer}
 use Rattle.transcript.specs.HalfLine.{readByte, readOn, withoutCR, readLent}
 use Rattle.transcript.specs.Totals.{maxBeats}
 use Rattle.transcript.specs.Tally.{counted, answerOf}
-use Rattle.transcript.specs.Machine.{TEXT, BEATS, keptSize, Machine, Fed, withPlace, withHalfLine, starAfter, starOn, placeOn, opened, textEnd, beatOf, beatEnd, chunk, lineEnd, behind, fedLines}
+use Rattle.transcript.specs.Machine.{TEXT, BEATS, Machine, Fed, withPlace, withHalfLine, opened, textEnd, beatOf, beatEnd, chunk, lineEnd, behind, fedLines}
+use Rattle.transcript.specs.SetText.{keptSize, starAfter, starOn, placeOn}
 use Rattle.transcript.specs.SessionRoomLaws.{byCode, byLent}
 
 -- ---- bytes of a line, in two parts

@@ -19,7 +19,7 @@ use Rattle.text.specs.PutAt.{putAt}
 use Rattle.tokens.specs.Token.{textSize}
 use Rattle.reader.specs.Load.{Outcome, refused, outcome, loadAnswer, loadSet}
 use Rattle.text.specs.PutLaws.{put-length, put-past}
-use Rattle.transcript.specs.declared.session.Place.{Place}
+use Rattle.transcript.specs.declared.set_text.Place.{Place}
 use Rattle.transcript.specs.declared.beat_line.HalfLine.{HalfLine}
 use Rattle.transcript.specs.Input.{Input, isStar, beatLines, lineBefore, cut, inputOf}
 use Rattle.transcript.specs.BeatLine.{Lent, lineLent}
@@ -29,7 +29,8 @@ use Rattle.transcript.specs.Totals.{maxBeats, noTotals, ended}
 use Rattle.transcript.specs.Tally.{counted, answerOf, beatText}
 use Rattle.transcript.specs.Synrun.{beatsText, loadedText, synrun}
 use Rattle.transcript.specs.HalfLine.{noHalfLine, readOn, withoutCR, isUntouched, readLent}
-use Rattle.transcript.specs.Machine.{TEXT, BEATS, OVER, keptSize, Machine, Fed, begun, withPhase, withTotals, starAfter, starOn, placeOn, placeEnd, opened, textEnd, beatOf, beatEnd, chunk, lineEnd, fedLines, textOver, lastOver, finished}
+use Rattle.transcript.specs.Machine.{TEXT, BEATS, OVER, Machine, Fed, begun, withPhase, withTotals, opened, textEnd, beatOf, beatEnd, chunk, lineEnd, fedLines, textOver, lastOver, finished}
+use Rattle.transcript.specs.SetText.{keptSize, starAfter, starOn, placeOn, placeEnd}
 use Rattle.transcript.specs.SessionRoomLaws.{byCode, byLent, over-chunk, over-line}
 use Rattle.sessions.specs.HalfLineLaws.{byOption, lent-last, lent-ended, untouched}
 use Rattle.sessions.specs.MachineLaws.{text-append}

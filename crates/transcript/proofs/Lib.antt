@@ -3,5 +3,6 @@ mod BeatLineLaws
 mod OutLaws
 mod TestLaws
 mod TallyBeatLaws
+mod SetTextLaws
 mod StepLaws
 mod WorkLaws

@@ -20,13 +20,15 @@ use Rattle.transcript.specs.declared.session.Ended.{Ended}
 use Rattle.transcript.specs.Output.{loadLine, outSize, lastStart, lineRoom}
 use Rattle.transcript.specs.HalfLine.{isUntouched}
 use Rattle.transcript.specs.Totals.{ended}
-use Rattle.transcript.specs.Machine.{TEXT, BEATS, keptSize, Machine, Fed, Work, isFit, beatEnd, chunk, lineEnd, textOver, lastOver, finished, finishedText, workFrom, worked}
-use Rattle.transcript.specs.SessionAnswers.{IsFed, IsWork, machineOf}
+use Rattle.transcript.specs.Machine.{TEXT, BEATS, Machine, Fed, Work, isFit, beatEnd, chunk, lineEnd, textOver, lastOver, finished, finishedText, workFrom, worked}
+use Rattle.transcript.specs.SetText.{keptSize}
+use Rattle.transcript.specs.SessionAnswers.{IsFed, machineOf, stepAnswer}
 use Rattle.transcript.specs.SessionRoomLaws.{Fit, Lives, fit-parts, chunk-lives, line-lives}
 
 -- what is left to say once it is known what a piece came to
-pub work-is : {w : Work} {t s o b exit : List ℕ} {y : Session} {k q : ℕ} → w ≡ record { machine = machineOf t s y; taken = k; output = o } → IsPut b 0 o exit q → IsWork w t s b (record { session = y; taken = k; written = q }) exit
-work-is e p = rw e (record { machine = refl; taken = refl; written = let b = p .behind in omega arith; output = p .put })
+pub work-is : {w : Work} {t s o b exit : List ℕ} {y : Session} {k q : ℕ} → w ≡ record { machine = machineOf t s y; taken = k; output = o } → IsPut b 0 o exit q →
+    (record { session = y; taken = k; written = q } ≡ stepAnswer w) × ((t ≡ w .machine .text) × ((s ≡ w .machine .lines) × (exit ≡ putAt b 0 (w .output))))
+work-is {o = o} {q = q} e p = let h : q ≡ length o = let f = p .behind in omega arith in rw (e, h) (refl, (refl, (refl, p .put)))
 
 module _ (m : Machine) (t : List ℕ) where
   pub unfit-work : isFit (m .session) ≡ false → worked m t ≡ record { machine = m; taken = length t; output = [] }

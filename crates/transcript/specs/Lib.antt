@@ -1,4 +1,4 @@
--- Synrun is all that synrun prints from all that it reads, in document 01's words, with Input, BeatLine, Tally, Totals and Output; Machine, HalfLine, MaybeLent and SessionAnswers say how the code goes about it. Definitions; their laws are in ..Laws.
+-- Synrun is all that synrun prints from all that it reads, in document 01's words, with Input, BeatLine, Tally, Totals and Output; SetText and HalfLine say how the code reads it, Machine, MaybeLent and SessionAnswers how it goes on. Definitions; their laws are in ..Laws.
 pub mod BeatLine
 pub mod HalfLine
 pub mod MaybeLent
@@ -9,6 +9,7 @@ pub mod TotalsLaws
 pub mod Tally
 pub mod Input
 pub mod Synrun
+pub mod SetText
 pub mod Machine
 pub mod SessionAnswers
 mod OrdersLaws

@@ -1,6 +1,6 @@
 -- What synrun prints (document 01, "On both sides of each edge"). Definitions only.
 use mathlib.Core.List.{List, [], _∷_, _++_}
-use Prim.Native.Nat.{ℕ, zero, suc, _+_, _*_}
+use Prim.Native.Nat.{ℕ, zero, suc, _+_, _-_, _*_}
 use lib.ListN.{getD, drop}
 use Rattle.text.specs.Byte.{bytes, LF, SPACE}
 use Rattle.text.specs.Digits.{decimal, signedText}
@@ -61,4 +61,4 @@ abbrev pub lastStart : ℕ
 lastStart = 4096
 
 abbrev pub lineRoom : ℕ
-lineRoom = 12288
+lineRoom = outSize - lastStart

@@ -14,7 +14,7 @@ use Rattle.text.specs.Byte.{CR, SPACE, isDigit}
 use Rattle.engine.specs.Beat.{bufferSize}
 use Rattle.engine.specs.Order.{maxOrders}
 use Rattle.reader.specs.Load.{loadAnswer}
-use Rattle.transcript.specs.declared.session.Place.{Place}
+use Rattle.transcript.specs.declared.set_text.Place.{Place}
 use Rattle.transcript.specs.declared.session.Session.{Session}
 use Rattle.transcript.specs.declared.beat_line.HalfLine.{HalfLine}
 use Rattle.transcript.specs.BeatLine.{Lent}
@@ -24,8 +24,9 @@ use Rattle.transcript.specs.declared.totals.Totals.{Totals}
 use Rattle.transcript.specs.Totals.{maxBeats, areFit}
 use Rattle.transcript.specs.TotalsLaws.{FitTotals, fit-totals, totals-fit, counting-fit}
 use Rattle.transcript.specs.Tally.{counted, answerOf, bufferOf, beatText}
-use Rattle.transcript.specs.HalfLine.{withField, closed, spaceAfter, modeByte, minusByte, digitByte, fieldByte, readByte, readOn, greatest, readLent, withoutCR, isUntouched}
-use Rattle.transcript.specs.Machine.{TEXT, BEATS, OVER, keptSize, Machine, Fed, isFit, placeOn, placeEnd, opened, textEnd, beatOf, beatEnd, chunk, lineEnd, textOver, lastOver, finished, finishedText}
+use Rattle.transcript.specs.HalfLine.{lastField, withField, closed, spaceAfter, modeByte, minusByte, digitByte, fieldByte, readByte, readOn, greatest, readLent, withoutCR, isUntouched}
+use Rattle.transcript.specs.Machine.{TEXT, BEATS, OVER, Machine, Fed, isFit, opened, textEnd, beatOf, beatEnd, chunk, lineEnd, textOver, lastOver, finished, finishedText}
+use Rattle.transcript.specs.SetText.{keptSize, placeOn, placeEnd}
 use Rattle.transcript.specs.OrdersLaws.{orders-within}
 
 -- ---- cases
@@ -136,7 +137,7 @@ finished-text-room m = either (Short lineRoom) (isFit (m .session)) (λ e. finis
 pub record Fit (x : Session) : Type 0 where
   pub size : x .place .size ≤ keptSize
   pub start : x .place .start ≤ x .place .size
-  pub field : x .half .field ≤ 15
+  pub field : x .half .field ≤ lastField
   pub totals : FitTotals (x .totals)
 
 -- each of the tests
@@ -144,7 +145,7 @@ pub fit-parts : (x : Session) → isFit x ≡ true → Fit x
 unfolding isFit
 fit-parts x h =
     let n = areFit (x .totals) in
-    let f = leb (x .half .field) 15 in
+    let f = leb (x .half .field) lastField in
     let s = leb (x .place .start) (x .place .size) in
     let p = leb (x .place .size) keptSize in
     let h₁ = both p (s && (f && n)) h .1 in
@@ -163,7 +164,7 @@ fit-whole x f = and-true (le-leb _ _ (f .size)) (and-true (le-leb _ _ (f .start)
 -- ---- a line's fields: a space begins the next only below the fifteenth
 
 abbrev Narrow : HalfLine → Type 0
-Narrow r = r .field ≤ 15
+Narrow r = r .field ≤ lastField
 
 pub closed-field : (r : HalfLine) → closed r .field ≡ r .field
 unfolding closed withField
@@ -177,8 +178,8 @@ closed-field r =
 space-narrow : (r : HalfLine) → Narrow r → Narrow (spaceAfter r)
 unfolding spaceAfter
 space-narrow r n =
-    either Narrow (eqb (r .stage) 2 && ltb (r .field) 15)
-    (λ e. let h = ltb-true (r .field) 15 (both (eqb (r .stage) 2) (ltb (r .field) 15) e .1) in omega arith)
+    either Narrow (eqb (r .stage) 2 && ltb (r .field) lastField)
+    (λ e. let h = ltb-true (r .field) lastField (both (eqb (r .stage) 2) (ltb (r .field) lastField) e .1) in omega arith)
     (λ e. n)
 
 field-narrow : (r : HalfLine) (b : ℕ) → Narrow r → Narrow (fieldByte r b)
@@ -188,14 +189,14 @@ field-narrow r b n =
     either Narrow (isDigit b) (λ g. n) λ g.
     either Narrow (eqb b 45) (λ h. either Narrow (eqb (r .stage) 0 && leb 2 (r .field)) (λ k. n) (λ k. n)) (λ h. n)
 
-pub byte-narrow : (r : HalfLine) (b : ℕ) → r .field ≤ 15 → readByte r b .field ≤ 15
+pub byte-narrow : (r : HalfLine) (b : ℕ) → r .field ≤ lastField → readByte r b .field ≤ lastField
 unfolding readByte
 byte-narrow r b n =
     either Narrow (leb 3 (r .stage)) (λ e. n) λ e.
     either Narrow (eqb b SPACE) (λ g. space-narrow (closed r) (rw closed-field n)) λ g.
     either Narrow (eqb b CR) (λ h. either Narrow (eqb (r .stage) 2) (λ k. n) (λ k. n)) (λ h. field-narrow r b n)
 
-pub read-narrow : (r : HalfLine) (l : List ℕ) → r .field ≤ 15 → readOn r l .field ≤ 15
+pub read-narrow : (r : HalfLine) (l : List ℕ) → r .field ≤ lastField → readOn r l .field ≤ lastField
 unfolding readOn
 read-narrow r [] n = n
 read-narrow r (b ∷ bs) n = read-narrow (readByte r b) bs (byte-narrow r b n)

@@ -4,11 +4,11 @@
 mod beat_line;
 mod printing;
 mod session;
+mod set_text;
 mod tally;
 mod totals;
 
 pub use session::Ended;
-pub use session::KEPT;
 pub use session::OUT;
 pub use session::Session;
 pub use session::Stepped;
@@ -16,3 +16,4 @@ pub use session::begin;
 pub use session::finish;
 pub use session::is_over;
 pub use session::step;
+pub use set_text::KEPT;

@@ -1,7 +1,7 @@
--- `session::text_size` meets its contract: by whether the last line is *.
+-- `set_text::text_size` meets its contract: by whether the last line is *.
 use borrow.Author.Tests.{eq-eqb, ne-eqb}
-use Rattle.transcript.proofs.session.text_size.Statement.{statement}
-use Rattle.transcript.proofs.session.text_size.Tie as tie
+use Rattle.transcript.proofs.set_text.text_size.Statement.{statement}
+use Rattle.transcript.proofs.set_text.text_size.Tie as tie
 
 pub text-size-spec : {M : Type 1} → statement M
 text-size-spec =

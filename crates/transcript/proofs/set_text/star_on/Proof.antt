@@ -1,13 +1,13 @@
--- `session::star_on` meets its contract: in the loop the bytes from place `i` on come to what all of them come to.
+-- `set_text::star_on` meets its contract: in the loop the bytes from place `i` on come to what all of them come to.
 use borrow.Author.Needs.{needs}
 use native.Mathlib.Omega.{arith}
 use mathlib.Core.Path.{_≡_, refl, sym, _∙_}
 use Prim.Native.Nat.{_-_, _≤_}
 use lib.ListN.{length, drop}
-use Rattle.transcript.specs.Machine.{starOn}
-use Rattle.transcript.proofs.StepLaws.{star-next, star-none}
-use Rattle.transcript.proofs.session.star_on.Statement.{statement}
-use Rattle.transcript.proofs.session.star_on.Tie as tie
+use Rattle.transcript.specs.SetText.{starOn}
+use Rattle.transcript.proofs.SetTextLaws.{star-next, star-none}
+use Rattle.transcript.proofs.set_text.star_on.Statement.{statement}
+use Rattle.transcript.proofs.set_text.star_on.Tie as tie
 
 abbrev Inv-loop : tie.InvT-loop
 Inv-loop part star s₀ i₀ s i = (starOn s (drop i part) ≡ starOn star part) × (i ≤ length part)

@@ -1,9 +1,9 @@
--- `session::star_after` meets its contract: each return by the tests that led to it.
+-- `set_text::star_after` meets its contract: each return by the tests that led to it.
 use borrow.Author.Tests.{eq-eqb, ne-eqb}
-use Rattle.transcript.specs.Machine.{starAfter}
-use Rattle.transcript.proofs.StepLaws.{star-other, star-return, star-plain}
-use Rattle.transcript.proofs.session.star_after.Statement.{statement}
-use Rattle.transcript.proofs.session.star_after.Tie as tie
+use Rattle.transcript.specs.SetText.{starAfter}
+use Rattle.transcript.proofs.SetTextLaws.{star-other, star-return, star-plain}
+use Rattle.transcript.proofs.set_text.star_after.Statement.{statement}
+use Rattle.transcript.proofs.set_text.star_after.Tie as tie
 
 pub star-after-spec : {M : Type 1} → statement M
 unfolding starAfter

@@ -1,8 +1,8 @@
--- `session::place_on` meets its contract: its parts.
+-- `set_text::place_on` meets its contract: its parts.
 use borrow.Author.Needs.{needs}
-use Rattle.transcript.specs.Machine.{placeOn}
-use Rattle.transcript.proofs.session.place_on.Statement.{statement}
-use Rattle.transcript.proofs.session.place_on.Tie as tie
+use Rattle.transcript.specs.SetText.{placeOn}
+use Rattle.transcript.proofs.set_text.place_on.Statement.{statement}
+use Rattle.transcript.proofs.set_text.place_on.Tie as tie
 
 pub place-on-spec : {M : Type 1} → statement M
 unfolding placeOn
