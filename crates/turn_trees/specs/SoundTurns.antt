@@ -23,7 +23,8 @@ use Rattle.engine.specs.Sound.{isSound, stateSound}
 use Rattle.engine.specs.Action.{World}
 use Rattle.engine.specs.Turn.{beatIn, turnsFrom}
 use Rattle.engine.specs.Beat.{bufferSize, areInputs, begun, beatOf}
-use Rattle.soundness.specs.SetSoundLaws.{lines-lined, lines-known, rank-inside}
+use Rattle.engine.specs.LinesLaws.{lines-lined}
+use Rattle.soundness.specs.SetSoundLaws.{lines-known, rank-inside}
 use Rattle.turn_trees.specs.TurnTree.{namesOf, turnsTree}
 use Rattle.turn_trees.specs.LineNames.{LineNames, SameRank}
 use Rattle.turn_trees.specs.NamesLaws.{Known, line-names, names-so, rank-same}
