@@ -1,7 +1,7 @@
--- Laws of the lines of a set: a turn of each loop over them.
+-- Laws of the lines of a set: a turn of each loop over them or over the tokens of one.
 use mathlib.Core.Path.{_≡_, refl, sym, ap, _∙_}
 use mathlib.Core.Bool.{Bool, true, false}
-use mathlib.Core.List.{List}
+use mathlib.Core.List.{List, map}
 use Prim.Native.Nat.{ℕ, zero, suc, _+_, _-_, _<_, _≤_}
 use native.Mathlib.Omega.{arith}
 use native.Mathlib.Nat.{sub-zero}
@@ -14,7 +14,8 @@ use Rattle.checking.specs.declared.line.Line.{Line}
 use Rattle.tokens.specs.Token.{END, whole, setSize}
 use Rattle.checking.specs.Fault.{lineAt}
 use Rattle.engine.specs.declared.set.Lines.{Lines}
-use Rattle.engine.specs.Set.{lineCount, lineOf, noLine, noLines, linesFrom, linesRead, rankIn, isLock, namesKnown, allKnown, namedLines, soundLines}
+use Rattle.values.specs.PutAt.{putAt}
+use Rattle.engine.specs.Set.{lineCount, withoutMark, ended, lineOf, noLine, noLines, linesFrom, linesRead, rankIn, isLock, namesKnown, allKnown, namedLines, soundLines}
 
 one-less : (k : ℕ) → suc k - 1 ≡ k
 one-less k = omega arith
@@ -22,6 +23,15 @@ one-less k = omega arith
 -- what is left of n before rank k
 pub turn : (n k : ℕ) → k < n → n - k ≡ suc (n - (k + 1))
 turn n k h = omega arith
+
+-- ---- tokens that are put into a set: those from place i on at place p
+
+module _ (ts s : List ℕ) (p i : ℕ) where
+  pub tokens-next : i < length ts → putAt s p (ended (map withoutMark (drop i ts))) ≡ putAt (set s p (withoutMark (getD ts i 0))) (p + 1) (ended (map withoutMark (drop (i + 1) ts)))
+  tokens-next h = rw (drop-cons ts i 0 h, add-one i)
+
+  pub tokens-end : length ts ≤ i → putAt s p (ended (map withoutMark (drop i ts))) ≡ set s p END
+  tokens-end h = rw (drop-of-length-le ts {i = i} h)
 
 -- ---- the rank of a number
 

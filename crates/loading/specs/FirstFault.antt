@@ -14,8 +14,7 @@ use Rattle.engine.specs.Set.{namesKnown}
 use Rattle.text.specs.Tokens.{tokensOf}
 use Rattle.text.specs.Lines.{Numbered, tokenLines}
 use Rattle.reader.specs.Row.{Row, numbersOf}
-use Rattle.reader.specs.StoredTokens.{ended}
-use Rattle.reader.specs.Load.{taken, refused, faultBelow, rowOf, rowsFrom, firstUnknown, outcome, loadAnswer}
+use Rattle.reader.specs.Load.{alone, taken, refused, faultBelow, rowOf, rowsFrom, firstUnknown, outcome, loadAnswer}
 use Rattle.reader.specs.RisingLaws.{next-row}
 use Rattle.loading.specs.LoadAnswers.{taken-answer, refused-answer, by-load}
 use Rattle.loading.specs.TakenLaws.{All, taking, Fine, text-fine, Named}
@@ -94,14 +93,14 @@ pub record FirstUnknown (ns : List ℕ) (rs : List Row) (k : ℕ) : Type 0 where
   pub behind : List Row
   pub split : rs ≡ before ++ (unknown ∷ behind)
   pub known : All (Named ns) before
-  pub unnamed : namesKnown (ended (unknown .tokens)) ns setSize 0 ≡ false
+  pub unnamed : namesKnown (alone (unknown .tokens)) ns setSize 0 ≡ false
   pub place : unknown .place ≡ k
 
 found-unknown : (ns : List ℕ) (rs : List Row) (k : ℕ) → firstUnknown ns rs ≡ suc k → FirstUnknown ns rs (suc k)
 unfolding firstUnknown
 found-unknown ns [] k h = absurd (omega arith)
 found-unknown ns (r ∷ rs) k h =
-    choice _ (namesKnown (ended (r .tokens)) ns setSize 0) (firstUnknown ns rs) (r .place) (suc k) h
+    choice _ (namesKnown (alone (r .tokens)) ns setSize 0) (firstUnknown ns rs) (r .place) (suc k) h
     (λ t e.
     let i = found-unknown ns rs k e in
     record { before = r ∷ i .before; unknown = i .unknown; behind = i .behind; split = ap {B = List Row} (λ m. r ∷ m) (i .split); known = (t, i .known); unnamed = i .unnamed; place = i .place })

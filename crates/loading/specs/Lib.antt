@@ -2,6 +2,8 @@
 -- what the text has (Unmarked: a line without the marks of written points), LoadedTurns that its turns are those of the text's trees. The files named ..Laws hold what these need.
 pub mod Unmarked
 pub mod UnmarkedLaws
+pub mod PlaceLaws
+pub mod StandLaws
 pub mod PlacedLaws
 pub mod NumbersNamesLaws
 pub mod StoredLineLaws

@@ -7,14 +7,14 @@ use mathlib.Core.Logic.{_↔_, _⊎_, inl, inr}
 use Prim.Native.Nat.{ℕ, zero, suc, _≤_, _<_}
 use native.Mathlib.Omega.{arith}
 use lib.Dec.{eqb, ltb}
-use lib.ListN.{length, length-append}
+use lib.ListN.{length}
 use borrow.Author.Tests.{ltb-true, ltb-false, eqb-true, eqb-false}
 use Rattle.values.specs.Codes.{tooLong, tooManyLines, tooDeep, notInGrammar, notInSet}
 use Rattle.values.specs.Choice.{decide, chosen, refused as not-chosen}
 use Rattle.values.specs.Numbers.{clash}
 use Rattle.values.specs.Unique.{unique}
 use Rattle.checking.specs.declared.line.Line.{Line as Told}
-use Rattle.tokens.specs.Token.{END, setSize, maxLines, textSize}
+use Rattle.tokens.specs.Token.{setSize, maxLines, textSize}
 use Rattle.tokens.specs.SingleFault.{opensTooMany}
 use Rattle.checking.specs.Fault.{lineAt}
 use Rattle.grammar.specs.TreeFault.{lineFault, Proper}
@@ -26,8 +26,9 @@ use Rattle.text.specs.Tokens.{Tokens, tokensOf}
 use Rattle.text.specs.Lines.{Numbered, tokenLines, numbered, bodies, split, withoutComment, isBlank}
 use Rattle.reader.specs.declared.load_text.Loaded.{Loaded}
 use Rattle.reader.specs.Row.{Row, byNumber, setOf, numbersOf}
-use Rattle.reader.specs.StoredTokens.{ended}
-use Rattle.reader.specs.Load.{Outcome, taken, refused, numberIn, tokensFault, faultBelow, rowOf, rowsFrom, firstUnknown, named, outcome, loadAnswer, loadSet}
+use Rattle.values.specs.PutLaws.{put-length}
+use Rattle.loading.specs.StandLaws.{empty-length}
+use Rattle.reader.specs.Load.{alone, Outcome, taken, refused, numberIn, tokensFault, faultBelow, rowOf, rowsFrom, firstUnknown, named, outcome, loadAnswer, loadSet}
 use Rattle.reader.specs.RisingLaws.{next-row}
 use Rattle.reader.specs.RoomLaws.{roomOf, text-room}
 
@@ -89,10 +90,10 @@ below-range : (rs : List Row) (ts : Tokens) → length (ts .list) < setSize → 
 unfolding faultBelow tokensFault
 below-range rs ts short =
     decide _ (ts .good)
-    (λ g. let n = length-append (ts .list) (END ∷ []) in by-fault (lineAt (ended (ts .list)) 0 .fault) refl g (fault-range (ended (ts .list)) (omega arith)))
+    (λ g. let n = put-length (ts .list) emptySet 0 in let e = empty-length in by-fault (lineAt (alone (ts .list)) 0 .fault) refl g (fault-range (alone (ts .list)) (omega arith)))
     (λ g. rw (g, faultBelow) (inr (omega arith)))
   where
-    by-fault : (k : ℕ) → lineAt (ended (ts .list)) 0 .fault ≡ k → ts .good ≡ true → NoneOr 4 10 (lineAt (ended (ts .list)) 0 .fault) →
+    by-fault : (k : ℕ) → lineAt (alone (ts .list)) 0 .fault ≡ k → ts .good ≡ true → NoneOr 4 10 (lineAt (alone (ts .list)) 0 .fault) →
         NoneOr 3 11 (faultBelow rs ts)
     by-fault zero e g r =
         decide _ (isKnown (numbersOf rs) (numberIn (ts .list)))

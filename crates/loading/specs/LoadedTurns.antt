@@ -12,7 +12,7 @@ use Rattle.tokens.specs.Descent.{good, _>>=_}
 use Rattle.grammar.specs.Tree.{Line, lineTokens}
 use Rattle.grammar.specs.Meaning.{Stands}
 use Rattle.engine.specs.declared.state.State.{State}
-use Rattle.engine.specs.Set.{soundLines}
+use Rattle.engine.specs.Set.{soundLines, withoutMark, ended}
 use Rattle.engine.specs.Sound.{isSound}
 use Rattle.engine.specs.Action.{World}
 use Rattle.engine.specs.Turn.{beatIn, turnsFrom}
@@ -21,8 +21,7 @@ use Rattle.soundness.specs.Call.{Call, afterAll}
 use Rattle.turn_trees.specs.TurnTree.{namesOf, turnsTree}
 use Rattle.turn_trees.specs.SoundTurns.{TreesFrom, TreesOf, sound-turns, beat-by-trees}
 use Rattle.turn_trees.specs.TurnNumbersTo.{turns-to, names-to}
-use Rattle.reader.specs.Row.{Row, byNumber, setOf, withoutMark}
-use Rattle.reader.specs.StoredTokens.{ended}
+use Rattle.reader.specs.Row.{Row, byNumber, setOf}
 use Rattle.reader.specs.Load.{taken, outcome, loadAnswer, loadSet}
 use Rattle.loading.specs.Unmarked.{unmarked, unmarkedTree}
 use Rattle.loading.specs.UnmarkedLaws.{unmarked-keeps, unmarked-tokens}

@@ -14,12 +14,13 @@ use Rattle.checking.specs.Fault.{lineAt}
 use Rattle.grammar.specs.TreeFault.{lineFault, partsFrom}
 use Rattle.grammar.specs.NumbersTo.{numbersTo}
 use Rattle.grammar.specs.NumbersToLaws.{to-all-real, to-opens}
-use Rattle.grammar.specs.ClosedTokens.{front, front-end, front-closed, same-row}
+use Rattle.grammar.specs.ClosedTokens.{Closed, front, front-end, front-closed, same-row}
 use Rattle.grammar.specs.AgreementLine.{line-found, line-fault, line-parts, not-deep, parts-number}
-use Rattle.engine.specs.Set.{isKnown, namesKnown}
-use Rattle.reader.specs.PlaceLaws.{stands-self, line-same, faultless-closed, names-same}
-use Rattle.reader.specs.Row.{withoutMark}
-use Rattle.reader.specs.StoredTokens.{ended}
+use Rattle.engine.specs.Set.{emptySet, withoutMark, ended, isKnown, namesKnown}
+use Rattle.values.specs.PutLaws.{put-length}
+use Rattle.reader.specs.Load.{alone}
+use Rattle.loading.specs.PlaceLaws.{stands-self, line-same, faultless-closed, names-same}
+use Rattle.loading.specs.StandLaws.{empty-length, alone-stands}
 use Rattle.loading.specs.Unmarked.{unmarked, unmarkedTree}
 use Rattle.loading.specs.UnmarkedLaws.{unmarked-keeps, without-marks, unmarked-tokens, unmarked-fault}
 use Rattle.loading.specs.NumbersNamesLaws.{to-names}
@@ -49,18 +50,23 @@ pub record Written (ts : List ℕ) : Type 0 where
   pub tokens : lineTokens tree ≡ ended ts
   pub faultless : lineFault tree ≡ 0
   pub shallow : opensTooMany (ended ts) 0 ≡ false
-  pub number : lineAt (ended ts) 0 .number ≡ treeNumber tree
+  pub closed : Closed ts
+  pub number : lineAt (alone ts) 0 .number ≡ treeNumber tree
 
 -- A LINE WITHOUT A FAULT IS WRITTEN AS A TREE
-pub written : (ts : List ℕ) → AllReal ts → length ts < setSize → lineAt (ended ts) 0 .fault ≡ 0 → Written ts
-written ts real short clean =
+pub written : (ts : List ℕ) → AllReal ts → length ts < setSize → lineAt (alone ts) 0 .fault ≡ 0 → Written ts
+written ts real short fine =
     let n = length-append ts (END ∷ []) in
+    let m = put-length ts emptySet 0 in
+    let k = empty-length in
+    let s = line-same (alone ts) (ended ts) ts 0 _ 0 _ (omega arith) (omega arith) real (alone-stands ts short) (stands-self (ended ts)) in
+    let clean = sym (s .0) ∙ fine in
     let o = not-deep (ended ts) 0 clean in
     let (l, q, h) = line-found (ended ts) 0 (λ e. omega arith) (λ e. omega arith) in
     let w = same-row (ended ts) (front l) ts 0 q (length (ended ts)) (front-closed l) real (rw (front-end l) at h) (stands-self (ended ts)) in
     let f : lineFault l ≡ 0 = sym (line-fault (ended ts) (omega arith) l 0 q o h) ∙ clean in
     let (g, e) = line-parts (ended ts) (omega arith) l 0 q o h f in
-    record { tree = l; tokens = front-end l ∙ ap ended w; faultless = f; shallow = o; number = ap (λ (x : Told). x .number) g ∙ parts-number 0 l }
+    record { tree = l; tokens = front-end l ∙ ap ended w; faultless = f; shallow = o; closed = faultless-closed ts real clean; number = s .1 fine ∙ ap (λ (x : Told). x .number) g ∙ parts-number 0 l }
 
 unmarked-number : (l : Line) → treeNumber (unmarkedTree l) ≡ treeNumber l
 unfolding numbersTo
@@ -97,8 +103,8 @@ module _ (ts : List ℕ) (w : Written ts) (real : AllReal ts) (short : length ts
 
   -- and it names only numbers of ns, if it named only such as are all in ns
   pub names-held : (s ns ns′ : List ℕ) (p q : ℕ) → Stands s p (ended (map withoutMark ts)) q →
-      ((n : ℕ) → isKnown ns′ n ≡ true → isKnown ns n ≡ true) → namesKnown (ended ts) ns′ setSize 0 ≡ true → namesKnown s ns setSize p ≡ true
+      ((n : ℕ) → isKnown ns′ n ≡ true → isKnown ns n ≡ true) → namesKnown (alone ts) ns′ setSize 0 ≡ true → namesKnown s ns setSize p ≡ true
   names-held s ns ns′ p q h f e =
       let z = ended (map withoutMark ts) in
       names-same s z ns setSize (map withoutMark ts) p q 0 (length z) (faultless-closed (map withoutMark ts) (unmarked-all-real ts real) held-clean) h (stands-self z)
-      ∙ names-unmarked ts ns ns′ f e
+      ∙ names-unmarked ts ns ns′ f (sym (names-same (alone ts) (ended ts) ns′ setSize ts 0 _ 0 _ (w .closed) (alone-stands ts short) (stands-self (ended ts))) ∙ e)

@@ -16,9 +16,8 @@ use Rattle.text.specs.Tokens.{tokensOf}
 use Rattle.text.specs.TokensLaws.{tokens-real}
 use Rattle.text.specs.Lines.{Numbered, textLines, bodies, isBlank, numbered, tokenLines}
 use Rattle.reader.specs.Row.{Row, numbersOf, total, noRow}
-use Rattle.reader.specs.StoredTokens.{ended}
 use Rattle.reader.specs.RisingLaws.{next-row, no-fault}
-use Rattle.reader.specs.Load.{Outcome, taken, refused, rowOf, rowsFrom, firstUnknown, named, outcome}
+use Rattle.reader.specs.Load.{alone, Outcome, taken, refused, rowOf, rowsFrom, firstUnknown, named, outcome}
 
 -- ---- what holds of each row
 
@@ -98,8 +97,8 @@ taken-tokens t rs h = rows-tokens (tokenLines t) [] rs (taking t rs h .rows)
 pub record Fine (r : Row) : Type 0 where
   pub place : 1 ≤ r .place
   pub real : AllReal (r .tokens)
-  pub clean : lineAt (ended (r .tokens)) 0 .fault ≡ 0
-  pub number : r .number ≡ lineAt (ended (r .tokens)) 0 .number
+  pub clean : lineAt (alone (r .tokens)) 0 .fault ≡ 0
+  pub number : r .number ≡ lineAt (alone (r .tokens)) 0 .number
 
 -- lines are numbered from 1
 abbrev Placed : List Numbered → Type 0
@@ -137,13 +136,13 @@ taken-fine t rs h = text-fine t rs (taking t rs h .rows)
 
 -- each of some rows names only the numbers ns
 abbrev pub Named : List ℕ → Row → Type 0
-Named ns r = namesKnown (ended (r .tokens)) ns setSize 0 ≡ true
+Named ns r = namesKnown (alone (r .tokens)) ns setSize 0 ≡ true
 
 first-named : (ns : List ℕ) (rs : List Row) → All Fine rs → firstUnknown ns rs ≡ 0 → All (Named ns) rs
 unfolding firstUnknown
 first-named ns [] f h = tt
 first-named ns (r ∷ rs) f h =
-    choice _ (namesKnown (ended (r .tokens)) ns setSize 0) (firstUnknown ns rs) (r .place) 0 h
+    choice _ (namesKnown (alone (r .tokens)) ns setSize 0) (firstUnknown ns rs) (r .place) 0 h
     (λ t e. (t, first-named ns rs (f .1) e))
     (λ _ e. let p = f .0 .place in absurd (omega arith))
 

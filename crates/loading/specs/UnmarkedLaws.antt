@@ -11,7 +11,7 @@ use Rattle.grammar.specs.Tree.{Line, lineTokens}
 use Rattle.grammar.specs.TreeFault.{lineFault}
 use Rattle.grammar.specs.NumbersTo.{tokenTo}
 use Rattle.grammar.specs.NumbersToLaws.{Keeps, to-tokens, to-fault}
-use Rattle.reader.specs.Row.{withoutMark}
+use Rattle.engine.specs.Set.{withoutMark}
 use Rattle.loading.specs.Unmarked.{unmarked, unmarkedTree}
 
 -- a mark is no part of a value, and a whole number has none

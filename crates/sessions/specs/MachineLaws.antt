@@ -12,8 +12,8 @@ use Rattle.values.specs.Numbers.{clash}
 use Rattle.text.specs.Byte.{LF}
 use Rattle.text.specs.Lines.{before, split, textLines}
 use Rattle.text.specs.LinesLaws.{split-some}
-use Rattle.text.specs.PutAt.{putAt}
-use Rattle.text.specs.PutLaws.{put-length, put-past, put-join}
+use Rattle.values.specs.PutAt.{putAt}
+use Rattle.values.specs.PutLaws.{put-length, put-past, put-join}
 use Rattle.transcript.specs.declared.set_text.Place.{Place}
 use Rattle.transcript.specs.declared.beat_line.HalfLine.{HalfLine}
 use Rattle.reader.specs.Load.{loadAnswer}

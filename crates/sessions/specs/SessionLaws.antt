@@ -15,10 +15,10 @@ use Rattle.engine.specs.State.{powerOn}
 use Rattle.text.specs.Byte.{LF, CR}
 use Rattle.text.specs.Lines.{textLines, withoutReturn}
 use Rattle.text.specs.LinesLaws.{split-some}
-use Rattle.text.specs.PutAt.{putAt}
+use Rattle.values.specs.PutAt.{putAt}
 use Rattle.tokens.specs.Token.{textSize}
 use Rattle.reader.specs.Load.{Outcome, refused, outcome, loadAnswer, loadSet}
-use Rattle.text.specs.PutLaws.{put-length, put-past}
+use Rattle.values.specs.PutLaws.{put-length, put-past}
 use Rattle.transcript.specs.declared.set_text.Place.{Place}
 use Rattle.transcript.specs.declared.beat_line.HalfLine.{HalfLine}
 use Rattle.transcript.specs.Input.{Input, isStar, beatLines, lineBefore, cut, inputOf}

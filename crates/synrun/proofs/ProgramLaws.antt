@@ -10,8 +10,8 @@ use Rattle.transcript.specs.Machine.{Machine, worked, finishedText}
 use Rattle.transcript.specs.Output.{outSize}
 use Rattle.transcript.specs.SessionAnswers.{stepAnswer}
 use Rattle.transcript.specs.SessionRoomLaws.{finished-text-room}
-use Rattle.text.specs.PutAt.{putAt}
-use Rattle.text.specs.PutLaws.{put-length}
+use Rattle.values.specs.PutAt.{putAt}
+use Rattle.values.specs.PutLaws.{put-length}
 use Rattle.transcript.specs.BeatTakenLaws.{worked-room, taken-within, taken-some}
 
 -- what is left of a piece behind k bytes

@@ -1,10 +1,8 @@
--- A set text as document 01 has it ("Lines of text"): Byte, Number, Lines, Word, First and Tokens; Digits a number in digits, PutAt a list written into an array. Definitions; their laws are in ..Laws.
+-- A set text as document 01 has it ("Lines of text"): Byte, Number, Lines, Word, First and Tokens; Digits a number in digits. Definitions; their laws are in ..Laws.
 pub mod Byte
 pub mod Number
-pub mod PutAt
 pub mod ByteLaws
 pub mod NumberLaws
-pub mod PutLaws
 pub mod Digits
 pub mod DigitsLaws
 pub mod Lines

@@ -2,7 +2,7 @@
 ghost use mathlib.Core.Path.{_≡_};
 ghost use Prim.Native.Nat.{_+_};
 ghost use lib.ListN.{set};
-ghost use Rattle.text.specs.PutAt.{putAt};
+ghost use Rattle.values.specs.PutAt.{putAt};
 
 pub fn put(out: &mut [u8], at: usize, b: u8)
     ensures { λ x. ⌜ now (out .exit) ≡ set (now (out .entry)) at b ⌝ }

@@ -3,7 +3,7 @@ ghost use mathlib.Core.Path.{_≡_};
 ghost use Prim.Native.Nat.{_≤_, min};
 ghost use lib.ListN.{length};
 ghost use Rattle.text.specs.Digits.{digitsUp, decimal, signedText};
-ghost use Rattle.text.specs.PutAt.{putAt, IsPut};
+ghost use Rattle.values.specs.PutAt.{putAt, IsPut};
 use crate::buffer::put;
 
 // The digits that a u32 may have.

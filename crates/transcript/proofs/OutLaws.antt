@@ -8,8 +8,8 @@ use lib.ListN.{length, getD, drop, length-append, drop-of-length-le}
 use lib.Seq.{drop-cons, getD-drop, drop-drop}
 use Rattle.text.specs.Byte.{bytes, LF, SPACE}
 use Rattle.text.specs.Digits.{decimal, signedText}
-use Rattle.text.specs.PutAt.{putAt, IsPut}
-use Rattle.text.specs.PutLaws.{put-join}
+use Rattle.values.specs.PutAt.{putAt, IsPut}
+use Rattle.values.specs.PutLaws.{put-join}
 use Rattle.transcript.specs.OutputLaws.{fields-room}
 use Rattle.transcript.specs.Output.{spaced, printedLine, decimals, fourOf, orderLine, orderLines}
 

@@ -12,7 +12,7 @@ use lib.ListN.{set, take}
 use Rattle.tokens.proofs.Between.{never}
 use Rattle.text.specs.Byte.{LF}
 use Rattle.reader.specs.declared.load_text.Loaded.{Loaded}
-use Rattle.text.specs.PutAt.{putAt, IsPut}
+use Rattle.values.specs.PutAt.{putAt, IsPut}
 use Rattle.reader.specs.Load.{loadAnswer, loadSet}
 use Rattle.transcript.specs.declared.set_text.Place.{Place}
 use Rattle.transcript.specs.declared.session.Session.{Session}

@@ -6,8 +6,8 @@ use lib.ListN.{replicate}
 use Rattle.engine.specs.declared.one_beat.Beaten.{Beaten}
 use Rattle.engine.specs.Beat.{bufferSize, beatAnswer, beatBuffer}
 use Rattle.engine.specs.Order.{maxOrders}
-use Rattle.text.specs.PutAt.{IsPut}
-use Rattle.text.specs.PutLaws.{put-both, put-as}
+use Rattle.values.specs.PutAt.{IsPut}
+use Rattle.values.specs.PutLaws.{put-both, put-as}
 use Rattle.transcript.specs.BeatLine.{Lent}
 use Rattle.transcript.specs.Output.{codeLine, orderLines}
 use Rattle.transcript.specs.declared.totals.Totals.{Totals}

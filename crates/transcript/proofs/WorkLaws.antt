@@ -12,8 +12,8 @@ use lib.Seq.{drop-drop}
 use Rattle.text.specs.Byte.{inLine, run}
 use Rattle.text.specs.ByteLaws.{run-within}
 use Rattle.reader.specs.declared.load_text.Loaded.{Loaded}
-use Rattle.text.specs.PutAt.{putAt, IsPut}
-use Rattle.text.specs.PutLaws.{put-both, put-nothing}
+use Rattle.values.specs.PutAt.{putAt, IsPut}
+use Rattle.values.specs.PutLaws.{put-both, put-nothing}
 use Rattle.reader.specs.Load.{loadAnswer}
 use Rattle.transcript.specs.declared.session.Session.{Session}
 use Rattle.transcript.specs.declared.session.Ended.{Ended}

@@ -5,7 +5,7 @@ ghost use Prim.Native.Nat.{_+_, _*_, _≤_, _<_};
 ghost use lib.ListN.{length, getD, drop};
 ghost use Rattle.engine.specs.Beat.{bufferSize};
 ghost use Rattle.engine.specs.Order.{maxOrders};
-ghost use Rattle.text.specs.PutAt.{IsPut};
+ghost use Rattle.values.specs.PutAt.{IsPut};
 ghost use Rattle.transcript.specs.Output.{spaced, printedLine, decimals, fourOf, loadLine, errorLine, codeLine, orderLine, orderLines, endLine, outSize};
 ghost use Rattle.transcript.specs.OutputLaws.{orderRoom};
 use engine::ORDER_BYTES;

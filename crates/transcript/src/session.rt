@@ -4,7 +4,7 @@ ghost use mathlib.Core.List.{List};
 ghost use Prim.Native.Nat.{ℕ, _≤_};
 ghost use lib.Dec.{eqb};
 ghost use lib.ListN.{length};
-ghost use Rattle.text.specs.PutAt.{putAt, IsPut};
+ghost use Rattle.values.specs.PutAt.{putAt, IsPut};
 ghost use Rattle.transcript.specs.Machine.{OVER, begun, isFit, opened, textEnd, beatOf, beatEnd, chunk, lineEnd, textOver, lastOver, finishedText, worked};
 ghost use Rattle.transcript.specs.Output.{lastStart};
 ghost use Rattle.transcript.specs.SessionAnswers.{IsFed, machineOf, stepAnswer};

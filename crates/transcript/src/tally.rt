@@ -1,7 +1,7 @@
 // A beat of a session, worked and counted, and the lines that are printed of it.
 ghost use mathlib.Core.Path.{_≡_};
 ghost use Prim.Native.Nat.{_≤_};
-ghost use Rattle.text.specs.PutAt.{IsPut};
+ghost use Rattle.values.specs.PutAt.{IsPut};
 ghost use Rattle.transcript.specs.MaybeLent.{lentIn};
 ghost use Rattle.transcript.specs.Output.{lastStart};
 ghost use Rattle.transcript.specs.Tally.{counted, answerOf, beatText};

@@ -2,7 +2,7 @@
 ghost use mathlib.Core.Path.{_≡_};
 ghost use Prim.Native.Nat.{_+_, _≤_, _<_};
 ghost use Rattle.engine.specs.Order.{maxOrders};
-ghost use Rattle.text.specs.PutAt.{IsPut};
+ghost use Rattle.values.specs.PutAt.{IsPut};
 ghost use Rattle.transcript.specs.Output.{errorLine, outSize};
 ghost use Rattle.transcript.specs.Totals.{noTotals, ended, oneIf, areFit, counting, maxBeats};
 ghost use Rattle.transcript.specs.TotalsLaws.{FitTotals};

@@ -1,4 +1,4 @@
--- What the promises mean: values, time, FIFOs and the two's complement, document 01's codes, and the laws that follow from them.
+-- What the promises mean: values, time, FIFOs and the two's complement, document 01's codes, a list written into an array, and the laws that follow from them.
 pub mod Codes
 pub mod Value
 pub mod Choice
@@ -12,3 +12,5 @@ pub mod Fifo
 pub mod FifoLaws
 pub mod Complement
 pub mod ComplementLaws
+pub mod PutAt
+pub mod PutLaws

@@ -4,8 +4,8 @@ use mathlib.Core.Path.{_≡_, refl, sym, _∙_}
 use Prim.Native.Nat.{_-_, _≤_}
 use lib.ListN.{length, drop, length-set}
 use denote.Ref.{now}
-use Rattle.text.specs.PutAt.{putAt}
-use Rattle.text.specs.PutLaws.{put-past, put-next, put-none}
+use Rattle.values.specs.PutAt.{putAt}
+use Rattle.values.specs.PutLaws.{put-past, put-next, put-none}
 use Rattle.text.proofs.buffer.put_bytes.Statement.{statement}
 use Rattle.text.proofs.buffer.put_bytes.Tie as tie
 

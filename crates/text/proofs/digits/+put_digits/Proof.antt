@@ -4,7 +4,7 @@ use native.Mathlib.Omega.{arith}
 use Prim.Native.Nat.{ℕ, _-_, _/_, _<_}
 use borrow.Fn.Kinds.{In}
 use borrow.Fn.PlainCycle.{Measures, is, falls, and}
-use Rattle.text.specs.PutLaws.{put-nothing, put-byte, put-both}
+use Rattle.values.specs.PutLaws.{put-nothing, put-byte, put-both}
 use Rattle.text.specs.DigitsLaws.{no-digits, one-digit, more-digits, digits-room}
 use Rattle.text.proofs.digits.put_digits.Reads as put-digits
 use Rattle.text.proofs.digits.put_digits.Kinds as put-digits-kinds

@@ -5,8 +5,8 @@ use mathlib.Core.Path.{ap, _∙_}
 use Prim.Native.Nat.{ℕ}
 use denote.Ref.{now}
 use Rattle.text.specs.Digits.{decimal}
-use Rattle.text.specs.PutAt.{putAt}
-use Rattle.text.specs.PutLaws.{put-within}
+use Rattle.values.specs.PutAt.{putAt}
+use Rattle.values.specs.PutLaws.{put-within}
 use Rattle.text.proofs.digits.put_number.Statement.{statement}
 use Rattle.text.proofs.digits.put_number.Tie as tie
 

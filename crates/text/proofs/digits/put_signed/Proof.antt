@@ -7,8 +7,8 @@ use Prim.Native.Nat.{ℕ, _+_, _-_, _≤_}
 use denote.Ref.{now}
 use Rattle.text.specs.Digits.{decimal}
 use Rattle.text.specs.DigitsLaws.{signed-low, signed-high, decimal-room}
-use Rattle.text.specs.PutAt.{putAt}
-use Rattle.text.specs.PutLaws.{put-within}
+use Rattle.values.specs.PutAt.{putAt}
+use Rattle.values.specs.PutLaws.{put-within}
 use Rattle.text.proofs.digits.put_signed.Statement.{statement}
 use Rattle.text.proofs.digits.put_signed.Tie as tie
 

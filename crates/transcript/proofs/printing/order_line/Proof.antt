@@ -5,7 +5,7 @@ use Prim.Native.Nat.{_+_, _≤_}
 use denote.Ref.{now}
 use Rattle.text.specs.Digits.{signedText}
 use Rattle.text.specs.DigitsLaws.{signed-room}
-use Rattle.text.specs.PutLaws.{put-byte, put-sized, put-both, put-as}
+use Rattle.values.specs.PutLaws.{put-byte, put-sized, put-both, put-as}
 use Rattle.transcript.proofs.OutLaws.{order-near, order-is}
 use Rattle.transcript.proofs.printing.order_line.Statement.{statement}
 use Rattle.transcript.proofs.printing.order_line.Tie as tie

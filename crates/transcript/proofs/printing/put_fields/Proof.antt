@@ -2,7 +2,7 @@
 use borrow.Author.Needs.{needs}
 use mathlib.Core.Path.{refl}
 use denote.Ref.{now}
-use Rattle.text.specs.PutLaws.{put-sized, put-both}
+use Rattle.values.specs.PutLaws.{put-sized, put-both}
 use Rattle.transcript.proofs.printing.put_fields.Statement.{statement}
 use Rattle.transcript.proofs.printing.put_fields.Tie as tie
 

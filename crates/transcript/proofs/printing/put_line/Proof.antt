@@ -3,7 +3,7 @@ use borrow.Author.Needs.{needs}
 use native.Mathlib.Omega.{arith}
 use lib.ListN.{length-append}
 use denote.Ref.{now}
-use Rattle.text.specs.PutLaws.{put-byte, put-both, put-as}
+use Rattle.values.specs.PutLaws.{put-byte, put-both, put-as}
 use Rattle.transcript.specs.Output.{spaced, decimals}
 use Rattle.transcript.specs.OutputLaws.{fields-room}
 use Rattle.transcript.proofs.OutLaws.{line-is}

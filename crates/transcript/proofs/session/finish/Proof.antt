@@ -9,7 +9,7 @@ use lib.Seq.{length-take-le}
 use denote.Ref.{now}
 use Rattle.transcript.specs.Machine.{isFit}
 use Rattle.transcript.specs.SessionRoomLaws.{fit-parts}
-use Rattle.text.specs.PutLaws.{put-nothing}
+use Rattle.values.specs.PutLaws.{put-nothing}
 use Rattle.transcript.proofs.WorkLaws.{put-whole, size-within, finish-unfit, finish-text, finish-over, finish-new, finish-last}
 use Rattle.transcript.proofs.session.finish.Statement.{statement}
 use Rattle.transcript.proofs.session.finish.Tie as tie

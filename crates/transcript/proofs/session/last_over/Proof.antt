@@ -5,7 +5,7 @@ use mathlib.Core.List.{[]}
 use denote.Ref.{now}
 use Rattle.transcript.specs.SessionAnswers.{machineOf}
 use Rattle.transcript.specs.SessionRoomLaws.{beat-end-room}
-use Rattle.text.specs.PutLaws.{put-both, put-as}
+use Rattle.values.specs.PutLaws.{put-both, put-as}
 use Rattle.transcript.proofs.WorkLaws.{last-beats, last-else}
 use Rattle.transcript.proofs.session.last_over.Statement.{statement}
 use Rattle.transcript.proofs.session.last_over.Tie as tie

@@ -1,7 +1,7 @@
 -- `session::open_set` meets its contract: by the code of the load.
 use borrow.Author.Needs.{needs}
 use Rattle.transcript.proofs.StepLaws.{fed, opens, opens-not}
-use Rattle.text.specs.PutLaws.{put-nothing}
+use Rattle.values.specs.PutLaws.{put-nothing}
 use Rattle.transcript.proofs.session.open_set.Statement.{statement}
 use Rattle.transcript.proofs.session.open_set.Tie as tie
 

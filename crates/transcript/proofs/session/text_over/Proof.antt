@@ -1,6 +1,6 @@
 -- `session::text_over` meets its contract: by the code of the load.
 use borrow.Author.Needs.{needs}
-use Rattle.text.specs.PutLaws.{put-as}
+use Rattle.values.specs.PutLaws.{put-as}
 use Rattle.transcript.proofs.WorkLaws.{over-good, over-not}
 use Rattle.transcript.proofs.session.text_over.Statement.{statement}
 use Rattle.transcript.proofs.session.text_over.Tie as tie

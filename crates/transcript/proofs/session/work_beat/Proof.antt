@@ -3,7 +3,7 @@ use borrow.Author.Needs.{needs}
 use denote.Ref.{now}
 use Rattle.transcript.specs.MaybeLent.{lentIn}
 use Rattle.transcript.proofs.StepLaws.{fed, end-near, beat-last, beat-more}
-use Rattle.text.specs.PutLaws.{put-both}
+use Rattle.values.specs.PutLaws.{put-both}
 use Rattle.transcript.proofs.session.work_beat.Statement.{statement}
 use Rattle.transcript.proofs.session.work_beat.Tie as tie
 
