@@ -98,14 +98,14 @@ pub set-length : (rs : List Row) → length (setOf rs) ≡ setSize
 unfolding setOf
 set-length rs = placed-length rs 0 firstPlace emptySet ∙ empty-length
 
+empty-count : lineCount emptySet ≡ 0
+unfolding emptySet
+empty-count = refl
+
 -- it has their count
 pub set-count : (rs : List Row) → getD (setOf rs) 0 0 ≡ length rs
 unfolding setOf
-set-count rs = let e = empty-length in placed-count rs 0 firstPlace emptySet (omega arith) (omega arith) empty-count
-  where
-    empty-count : lineCount emptySet ≡ 0
-    unfolding emptySet
-    empty-count = refl
+set-count rs = let e = empty-length in let n = placed-count rs 0 firstPlace emptySet (omega arith) (omega arith) empty-count in omega arith
 
 -- and each of them, by its rank, if there is room for their tokens
 pub set-laid : (rs : List Row) → length rs ≤ maxLines → total rs ≤ 4097 → Laid (setOf rs) rs 0
