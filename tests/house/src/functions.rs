@@ -16,7 +16,7 @@ pub fn functions(text: &str) -> Vec<Function> {
     let mut found = Vec::new();
     let lines: Vec<&str> = text.lines().collect();
     for (at, line) in lines.iter().enumerate() {
-        let words = line.trim_start().trim_start_matches("pub ").trim_start_matches("(crate) ");
+        let words = line.trim_start_matches("pub(crate) ").trim_start_matches("pub ");
         let words = words.trim_start_matches("extern \"C\" ");
         if line.starts_with(' ') || !words.starts_with("fn ") {
             continue;

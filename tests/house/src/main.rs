@@ -3,6 +3,7 @@
 //! - `contracts`: every public call of every library asks nothing, and says of its result and of everything that is
 //!   lent to be written what it equals;
 //! - `files`: no two files of definitions or laws have one name;
+//! - `order`: docs/DEFINITIONS.md has all files of definitions, each below those that it needs;
 //! - `names`: every name that docs/PROMISES.md, docs/TRACE.md and docs/DEFINITIONS.md put in backquotes exists.
 //!
 //! usage: house ROOT. The last line is 'N passed, M failed', with exit status 1 if M is not 0.
@@ -11,6 +12,7 @@ mod contracts;
 mod files;
 mod functions;
 mod names;
+mod order;
 mod tree;
 
 use std::process::ExitCode;
@@ -58,6 +60,8 @@ fn main() -> ExitCode {
     report.part("public calls");
     files::check(&tree, &mut report);
     report.part("files of definitions and laws");
+    order::check(&tree, &mut report);
+    report.part("files in docs/DEFINITIONS.md");
     names::check(&tree, &mut report);
     report.part("lines of documents that cite names");
     println!("{} passed, {} failed", report.passed, report.failed);
