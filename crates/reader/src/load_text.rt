@@ -32,7 +32,7 @@ fn answered(code: u8, line: u32) -> Loaded
     }
 }
 
-// Loading a text into a set: 1 and 2 first, then the first faulty line, then 12. On any code the set is empty.
+// Loading a text into a set: 1 and 2 first, then the first faulty line, then 12. On any code the set is empty; until its lines are put, each line stands there by itself while it is checked.
 pub fn load(text: &[u8], set: &mut [u32; SIZE]) -> Loaded
     ensures { λ x. ⌜ x ≡ loadAnswer (now (text .entry)) ⌝ }
     ensures { λ x. ⌜ now (set .exit) ≡ loadSet (now (text .entry)) ⌝ }
@@ -45,13 +45,12 @@ pub fn load(text: &[u8], set: &mut [u32; SIZE]) -> Loaded
         return answered(TOO_MANY_LINES, 0);
     }
     let mut s = empty_set();
-    let mut row = empty_set();
-    let d = read_lines(text, &mut s, &mut row);
+    let d = read_lines(text, &mut s, set);
     let code = d.code;
     if code != 0 {
         return answered(code, d.line);
     }
-    let k = first_unknown(&s, &mut row, d);
+    let k = first_unknown(&s, set, d);
     if k != 0 {
         return answered(NOT_IN_SET, k);
     }

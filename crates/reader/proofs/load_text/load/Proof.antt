@@ -38,7 +38,7 @@ module _ (c : tie.Else2) where
 -- its lines are read
 module _ (c : tie.After-read-lines) where
   abbrev small : tie.Else2
-  small = c .before .before .before .before .before
+  small = c .before .before .before .before
 
   abbrev array : List ℕ
   array = c .read-lines .last .1 .0
@@ -66,14 +66,13 @@ load-spec =
     let w = text-many (text s) (l .before .if1 .left) (omega arith) in
     (c .answered2 .ensures ∙ w .0, cleared s ∙ w .1))
     (λ c κs. search needs)
-    (λ c κs. search needs)
-    (λ c κs. let l = c .before .before .before .before in (short l, few l, c .before .before .before .empty-set2 .ensures, c .before .before .empty-set3 .ensures))
+    (λ c κs. let l = c .before .before .before in (short l, few l, c .before .before .empty-set2 .ensures, cleared (start l)))
     (λ c κs. search needs)
     (λ c.
     let r = c .before .before in
     let l = small r in
     let w = text-faulty (text (start l)) (short l) (few l) (array r) (draft r) (r .read-lines .ensures .0) (c .before .if3 .taken) in
-    (c .answered3 .ensures ∙ w .0, cleared (start l) ∙ w .1))
+    (c .answered3 .ensures ∙ w .0, r .read-lines .ensures .1 ∙ w .1))
     (λ c κs. let i = c .before .before in (rows (i .before) (i .if3 .left) .1, i .before .read-lines .ensures .1))
     (λ c κs. search needs)
     (λ c.
@@ -81,8 +80,8 @@ load-spec =
     let i = u .before .before .before in
     let r = i .before in
     let l = small r in
-    let w = text-unknown (text (start l)) (short l) (few l) (rowsIn (array r) (draft r)) (rows r (i .if3 .left) .0) _ (u .first-unknown .ensures) (c .before .if4 .taken) in
-    (c .answered4 .ensures ∙ w .0, cleared (start l) ∙ w .1))
+    let w = text-unknown (text (start l)) (short l) (few l) (rowsIn (array r) (draft r)) (rows r (i .if3 .left) .0) _ (u .first-unknown .ensures .0) (c .before .if4 .taken) in
+    (c .answered4 .ensures ∙ w .0, u .first-unknown .ensures .1 ∙ w .1))
     (λ c κs. let i = c .before .before .before .before .before .before in let w = rows (i .before) (i .if3 .left) in (w .1, w .2))
     (λ c κs. search needs)
     (λ c.
@@ -92,5 +91,5 @@ load-spec =
     let i = u .before .before .before in
     let r = i .before in
     let l = small r in
-    let w = text-good (text (start l)) (short l) (few l) (rowsIn (array r) (draft r)) (rows r (i .if3 .left) .0) _ (u .first-unknown .ensures) (n .if4 .left) _ (rw (cleared (start l)) at (p .put-by-number .ensures)) in
+    let w = text-good (text (start l)) (short l) (few l) (rowsIn (array r) (draft r)) (rows r (i .if3 .left) .0) _ (u .first-unknown .ensures .0) (n .if4 .left) _ (rw (u .first-unknown .ensures .1) at (p .put-by-number .ensures)) in
     (c .answered5 .ensures ∙ w .0, w .1)))
