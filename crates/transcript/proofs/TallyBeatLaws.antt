@@ -2,6 +2,7 @@
 use mathlib.Core.Path.{_≡_, sym, ap, _∙_}
 use mathlib.Core.List.{List, _++_}
 use Prim.Native.Nat.{ℕ, _+_, _≤_}
+use native.Mathlib.Omega.{arith}
 use lib.ListN.{replicate}
 use Rattle.engine.specs.declared.one_beat.Beaten.{Beaten}
 use Rattle.engine.specs.Beat.{bufferSize, beatAnswer, beatBuffer}
@@ -10,10 +11,15 @@ use Rattle.values.specs.PutAt.{IsPut}
 use Rattle.values.specs.PutLaws.{put-both, put-as}
 use Rattle.transcript.specs.BeatLine.{Lent}
 use Rattle.transcript.specs.Output.{codeLine, orderLines}
+use Rattle.transcript.specs.OutputLaws.{codeRoom, code-room}
 use Rattle.transcript.specs.declared.totals.Totals.{Totals}
 use Rattle.transcript.specs.Totals.{counting}
 use Rattle.transcript.specs.Tally.{counted, answerOf, bufferOf, beatText}
 use Rattle.transcript.specs.SessionRoomLaws.{beat-orders}
+
+-- where C ends
+pub code-near : (beat code orders : ℕ) {s t : List ℕ} {at q : ℕ} → IsPut s at (codeLine beat code orders) t q → q ≤ at + codeRoom
+code-near beat code orders h = let r = code-room beat code orders in let e = h .behind in omega arith
 
 -- a beat b of a line that lends l
 module _ (s : List ℕ) (n : Totals) (l : Lent) {b : Beaten} (a : b ≡ beatAnswer s (n .state) (l .automatic) (l .word) (l .numbers) (replicate bufferSize 0)) where

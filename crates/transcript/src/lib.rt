@@ -8,7 +8,6 @@ mod set_text;
 mod tally;
 mod totals;
 
-pub use session::Ended;
 pub use session::OUT;
 pub use session::Session;
 pub use session::Stepped;

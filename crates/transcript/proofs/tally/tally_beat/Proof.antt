@@ -1,11 +1,9 @@
 -- `tally::tally_beat` meets its contract: what the beat answers, printed and counted.
 use borrow.Author.Needs.{needs}
 use native.Mathlib.Omega.{arith}
-use Prim.Native.Nat.{_+_}
 use denote.Ref.{now}
 use Rattle.transcript.specs.MaybeLent.{lentIn}
-use Rattle.transcript.specs.OutputLaws.{code-room}
-use Rattle.transcript.proofs.TallyBeatLaws.{few-orders, beat-counted, beat-put}
+use Rattle.transcript.proofs.TallyBeatLaws.{code-near, few-orders, beat-counted, beat-put}
 use Rattle.transcript.proofs.tally.tally_beat.Statement.{statement}
 use Rattle.transcript.proofs.tally.tally_beat.Tie as tie
 
@@ -24,8 +22,8 @@ tally-beat-spec =
     let b = l .before .before .before .before in
     let s = b .before .before .before .before .before .before in
     let few = few-orders (now (s .args .set)) (s .args .totals) (lentIn (s .args .lent)) (b .beat .ensures .0) in
-    let r = code-room (s .args .totals .beats + 1) (b .beat .result .code) (b .beat .result .orders) in
-    (omega (arith, l .code-line .ensures .behind, s .pre .1), few))
+    let near = code-near _ _ _ (l .code-line .ensures) in
+    (omega (arith, s .pre .1), few))
     (λ c κs.
     let b = c .before .before .before .before .before .before .before .before .before .before .before .before in
     let s = b .before .before .before .before .before .before in
