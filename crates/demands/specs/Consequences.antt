@@ -9,6 +9,7 @@ use native.Mathlib.Nat.{zero-div}
 use lib.Dec.{eqb, ltb}
 use lib.IntN.{ℤ}
 use lib.ListN.{length, getD}
+use Rattle.values.specs.Codes.{shortBuffer, wrongNumbers, unsound}
 use Rattle.values.specs.Numbers.{clash}
 use Rattle.values.specs.Choice.{either}
 use Rattle.tokens.specs.Token.{WHEN, EVERY}
@@ -51,8 +52,8 @@ module _ (s : List ℕ) (v : Vars) (r : History) (m : Bool) (word : ℕ) (lent :
     where
       go : (a b c : Bool) (d : Answer Turned) →
           (let x : Answer Turned = elim a [
-            | true ↦ elim b [ true ↦ stop 20 | false ↦ elim c [ true ↦ d >>= λ t. good (record { world = t .world; entries = beatIn m ∷ t .entries }) | false ↦ stop 21 ] ]
-            | false ↦ stop 22
+            | true ↦ elim b [ true ↦ stop shortBuffer | false ↦ elim c [ true ↦ d >>= λ t. good (record { world = t .world; entries = beatIn m ∷ t .entries }) | false ↦ stop wrongNumbers ] ]
+            | false ↦ stop unsound
           ] in x ≡ good t) → (u : Turned) × (d ≡ good u) × (t ≡ record { world = u .world; entries = beatIn m ∷ u .entries })
       go true true c d e = clash (cc)
       go true false true (good u) e = (u, refl, cc)

@@ -9,6 +9,7 @@ use lib.IntN.{ℤ, pos}
 use lib.ListN.{length, take, drop, getD, set, replicate, length-append, length-replicate, take-append-drop}
 use lib.Seq.{length-take-le, set-getD}
 use borrow.Author.Tests.{eq-eqb, ne-eqb}
+use Rattle.values.specs.Codes.{unsound}
 use Rattle.values.proofs.Lists.{put, replicate-more}
 use Rattle.checking.specs.declared.line.Line.{Line}
 use Rattle.engine.specs.declared.set.Lines.{Lines}
@@ -78,7 +79,7 @@ module _ (c : List ℤ) where
       rw (e, ← append-assoc) (put p i n c l (pos 0) (pos 0) ∙ rw (append-assoc, replicate-more, m))
 
 module _ (s : List ℕ) (st : State) where
-  pub reset-unsound : isSound s st ≡ false → resetCall s st ≡ record { code = 22; state = st }
+  pub reset-unsound : isSound s st ≡ false → resetCall s st ≡ record { code = unsound; state = st }
   unfolding resetCall
   reset-unsound z = rw (resetCall, z)
 

@@ -8,6 +8,7 @@ use native.Mathlib.Numerals.{add-one}
 use lib.IntN.{ℤ, pos}
 use lib.ListN.{length, drop, getD, drop-of-length-le}
 use lib.Seq.{drop-cons}
+use Rattle.values.specs.Codes.{notAllowed}
 use Rattle.values.specs.Numbers.{clash}
 use Rattle.values.specs.Value.{inRange, equalTo, outputOf}
 use Rattle.values.specs.declared.arithmetic.Worked.the-variants.{Value, Alarm}
@@ -121,9 +122,9 @@ pub output-alarm : (v : ℤ) (k : ℕ) → outputOf v ≡ Alarm k → k ≡ 0 �
 unfolding outputOf
 output-alarm v k e z = go (equalTo v (pos 0) || equalTo v (pos 1000)) e
   where
-    go : (b : Bool) → cond b (Value v) (Alarm 34) ≡ Alarm k → ⊥
+    go : (b : Bool) → cond b (Value v) (Alarm notAllowed) ≡ Alarm k → ⊥
     go true q = clash (cc)
-    go false q = let y : 34 ≡ k = cc in omega arith
+    go false q = let y : notAllowed ≡ k = cc in omega arith
 
 -- ---- a set, whose lines are l, and a state, of which x was said
 

@@ -3,7 +3,7 @@
 -- Actions: Action, Actions. Turns: Keyword, Turn. The beat: Timers, Cells, Beat.
 pub mod Set
 pub mod SetCountLaws
-pub mod LinesLaws
+pub mod SetLinesLaws
 pub mod State
 pub mod Sound
 pub mod NamedLine

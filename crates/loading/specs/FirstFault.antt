@@ -138,7 +138,7 @@ module _ (t : List ℕ) where
       (λ l m rs j f g h. clash (cc))
       (λ l m rs h. absurd (refused-not-taken rs c k e h))
 
-  unknown-answer : (rs : List Row) (k : ℕ) → Small → rowsFrom [] (tokenLines t) ≡ taken rs → firstUnknown (numbersOf rs) rs ≡ suc k → (loadAnswer t .code ≡ 12) × (loadAnswer t .line ≡ suc k)
+  unknown-answer : (rs : List Row) (k : ℕ) → Small → rowsFrom [] (tokenLines t) ≡ taken rs → firstUnknown (numbersOf rs) rs ≡ suc k → (loadAnswer t .code ≡ notInSet) × (loadAnswer t .line ≡ suc k)
   unknown-answer rs k x e f =
       by-load _ t
       (λ m h. absurd (omega (arith, x)))
@@ -176,7 +176,7 @@ module _ (t : List ℕ) where
 
   -- CODE 12 AND THE LINE k: no line has such a fault, and the first with a LOCK or UNLOCK of a number that no line of the text has stands at k
   pub code-12 : (k : ℕ) →
-      ((loadAnswer t .code ≡ 12) × (loadAnswer t .line ≡ k))
+      ((loadAnswer t .code ≡ notInSet) × (loadAnswer t .line ≡ k))
       ↔ ((length t ≤ textSize) × (length (tokenLines t) ≤ maxLines) × ((rs : List Row) × (rowsFrom [] (tokenLines t) ≡ taken rs) × FirstUnknown (numbersOf rs) rs k))
   code-12 k = (
     (λ x. by-load _ t
@@ -196,6 +196,6 @@ module _ (t : List ℕ) where
         by-place rs (u .unknown .place) k (u .place) p (l, m) e (unknown-found (numbersOf rs) rs k u)),
   )
     where
-      by-place : (rs : List Row) (n j : ℕ) → n ≡ j → 1 ≤ n → Small → rowsFrom [] (tokenLines t) ≡ taken rs → firstUnknown (numbersOf rs) rs ≡ j → (loadAnswer t .code ≡ 12) × (loadAnswer t .line ≡ j)
+      by-place : (rs : List Row) (n j : ℕ) → n ≡ j → 1 ≤ n → Small → rowsFrom [] (tokenLines t) ≡ taken rs → firstUnknown (numbersOf rs) rs ≡ j → (loadAnswer t .code ≡ notInSet) × (loadAnswer t .line ≡ j)
       by-place rs n zero e l s h f = absurd (omega arith)
       by-place rs n (suc j) e l s h f = unknown-answer rs j s h f

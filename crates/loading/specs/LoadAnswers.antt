@@ -180,7 +180,7 @@ module _ (t : List ℕ) where
   )
 
   -- CODE 1: the text is above 4,096 bytes
-  pub code-1 : (loadAnswer t .code ≡ 1) ↔ (textSize < length t)
+  pub code-1 : (loadAnswer t .code ≡ tooLong) ↔ (textSize < length t)
   code-1 = (
     (λ e. by-load _ t
         (λ l h. l)
@@ -197,7 +197,7 @@ module _ (t : List ℕ) where
   )
 
   -- CODE 2: it is not, and has more than 32 lines with tokens
-  pub code-2 : (loadAnswer t .code ≡ 2) ↔ ((length t ≤ textSize) × (maxLines < length (tokenLines t)))
+  pub code-2 : (loadAnswer t .code ≡ tooManyLines) ↔ ((length t ≤ textSize) × (maxLines < length (tokenLines t)))
   code-2 = (
     (λ e. by-load _ t
         (λ _ h. let z = refused-answer t tooLong 0 h .0 in absurd (omega arith))

@@ -7,6 +7,7 @@ use native.Mathlib.Omega.{arith}
 use lib.Dec.{ltb}
 use lib.ListN.{length, getD}
 use borrow.Author.Tests.{ltb-false}
+use Rattle.values.specs.Codes.{notInSet}
 use Rattle.values.specs.Choice.{decide, choice}
 use Rattle.values.specs.Numbers.{clash}
 use Rattle.tokens.specs.Token.{setSize, AllReal, maxLines, textSize}
@@ -49,7 +50,7 @@ named-taken (taken qs) rs h = go (firstUnknown (numbersOf qs) qs) refl
   where
     go : (k : ℕ) → firstUnknown (numbersOf qs) qs ≡ k → (taken qs ≡ taken rs) × (firstUnknown (numbersOf rs) rs ≡ 0)
     go zero e = let f : taken qs ≡ taken rs = rw (e, named) at h in let g : qs ≡ rs = cc in (f, rw (← g) e)
-    go (suc k) e = let f : refused 12 (suc k) ≡ taken rs = rw (e, named) at h in clash (cc)
+    go (suc k) e = let f : refused notInSet (suc k) ≡ taken rs = rw (e, named) at h in clash (cc)
 named-taken (refused c k) rs h = clash (cc)
 
 pub taking : (t : List ℕ) (rs : List Row) → outcome t ≡ taken rs → Taking t rs

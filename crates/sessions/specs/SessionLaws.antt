@@ -9,6 +9,7 @@ use lib.Dec.{eqb, leb, ltb}
 use lib.ListN.{length, take, set, length-append, length-set, length-take}
 use lib.Seq.{take-all, take-append-le, take-suc-set, take-set-le, append-snoc}
 use borrow.Author.Tests.{leb-true, leb-false, eqb-true, lt-ltb}
+use Rattle.values.specs.Codes.{tooLong}
 use Rattle.values.specs.Choice.{decide, either}
 use Rattle.values.specs.Numbers.{clash}
 use Rattle.engine.specs.State.{powerOn}
@@ -317,11 +318,11 @@ module _ (i : Input) where
       byCode (λ (y : List ℕ). y ≡ loadLine (suc c) (loadAnswer (i .text) .line)) (loadAnswer (i .text) .code) (λ e. absurd (omega arith)) (λ d e. let q : suc d ≡ suc c = sym e ∙ h in rw q)
 
 -- a text above 4,096 bytes is refused, whatever it is
-long-outcome : (t : List ℕ) → textSize < length t → outcome t ≡ refused 1 0
+long-outcome : (t : List ℕ) → textSize < length t → outcome t ≡ refused tooLong 0
 unfolding outcome
-long-outcome t h = either (λ (y : Outcome). y ≡ refused 1 0) (ltb textSize (length t)) (λ e. refl) (λ e. let q = lt-ltb textSize (length t) h in clash (cc))
+long-outcome t h = either (λ (y : Outcome). y ≡ refused tooLong 0) (ltb textSize (length t)) (λ e. refl) (λ e. let q = lt-ltb textSize (length t) h in clash (cc))
 
-long-answer : (t : List ℕ) → textSize < length t → loadAnswer t ≡ record { code = 1; line = 0; state = powerOn }
+long-answer : (t : List ℕ) → textSize < length t → loadAnswer t ≡ record { code = tooLong; line = 0; state = powerOn }
 unfolding loadAnswer
 long-answer t h = rw (long-outcome t h, loadAnswer)
 

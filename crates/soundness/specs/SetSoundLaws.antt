@@ -12,7 +12,7 @@ use Rattle.values.specs.Choice.{either}
 use Rattle.values.specs.Numbers.{clash}
 use Rattle.tokens.specs.Token.{setSize, maxLines}
 use Rattle.engine.specs.declared.set.Lines.{Lines}
-use Rattle.engine.specs.LinesLaws.{lines-lined}
+use Rattle.engine.specs.SetLinesLaws.{lines-lined}
 use Rattle.engine.specs.Set.{emptySet, linesRead, linesFrom, rankIn, namesKnown, allKnown, namedLines, soundLines}
 
 -- ---- the names that its lines use

@@ -37,7 +37,7 @@ use Rattle.engine.specs.Calls.{lockCall, unlockCall, cancelCall}
 use Rattle.engine.specs.InputLaws.{length-inputs, inputs-length}
 use Rattle.soundness.specs.Call.{Call, doBeat, doLock, doUnlock, doCancel, doReset, after, codeAfter, afterAll}
 use Rattle.soundness.specs.GoodAnswers.{Not22, Holds, holds-then}
-use Rattle.engine.specs.LinesLaws.{lines-lined}
+use Rattle.engine.specs.SetLinesLaws.{lines-lined}
 use Rattle.soundness.specs.SetSoundLaws.{lines-known}
 use Rattle.soundness.specs.CellSoundLaws.{ranged-each, cell-ranged, timer-cell, right-timer, CellsSound, cell-keeps, memory-keeps, state-right, right-state, set-sound, power-on}
 use Rattle.soundness.specs.CallSoundLaws.{lockCall-keeps, unlockCall-keeps, cancelCall-keeps, resetCall-keeps, Answers, lockCall-answers, unlockCall-answers, cancelCall-answers, resetCall-r, resetCall-length, resetCall-code}

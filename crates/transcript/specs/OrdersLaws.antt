@@ -18,7 +18,7 @@ use Rattle.checking.specs.declared.line.Line.{Line}
 use Rattle.engine.specs.declared.state.State.{State}
 use Rattle.engine.specs.Set.{rankIn, noLine, soundLines}
 use Rattle.tokens.specs.AnswerLaws.{Ok, bind-ok, ok-then}
-use Rattle.engine.specs.LinesLaws.{lines-lined}
+use Rattle.engine.specs.SetLinesLaws.{lines-lined}
 use Rattle.engine.specs.Sound.{isSound}
 use Rattle.engine.specs.Action.{World, Did, ordered, fromValueOrAlarm, lockOf, takenAt, assignmentOf, driveOf, commandOf, actionOf}
 use Rattle.engine.specs.Actions.{actionsOf}

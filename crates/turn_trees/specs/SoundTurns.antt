@@ -23,7 +23,7 @@ use Rattle.engine.specs.Sound.{isSound, stateSound}
 use Rattle.engine.specs.Action.{World}
 use Rattle.engine.specs.Turn.{beatIn, turnsFrom}
 use Rattle.engine.specs.Beat.{bufferSize, areInputs, begun, beatOf}
-use Rattle.engine.specs.LinesLaws.{lines-lined}
+use Rattle.engine.specs.SetLinesLaws.{lines-lined}
 use Rattle.soundness.specs.SetSoundLaws.{lines-known, rank-inside}
 use Rattle.turn_trees.specs.TurnTree.{namesOf, turnsTree}
 use Rattle.turn_trees.specs.LineNames.{LineNames, SameRank}
