@@ -1,6 +1,7 @@
 //! One beat: the turns of the lines on a copy of the state, until an alarm.
 
 use crate::code::Code;
+use crate::history::Entry;
 use crate::order::Order;
 use crate::seen::Seen;
 use crate::set::Set;
@@ -9,11 +10,23 @@ use crate::state::{LineState, State};
 use crate::token::{Keyword, Motion, Scope};
 use crate::tree::{Action, Line};
 use crate::value::Value;
+use crate::witness::Witness;
 
 #[derive(Clone, Copy, PartialEq, Eq, Debug)]
 pub enum Mode {
     Automatic,
     Manual,
+}
+
+/// What a line does when its turn comes.
+#[derive(Clone, Copy, PartialEq, Eq, Debug)]
+pub enum Turn {
+    /// It takes none.
+    Skipped,
+    /// It works no condition.
+    Settled { acts: bool },
+    /// It works its condition, and acts if that is true and this says so.
+    Tried { acts_if_true: bool },
 }
 
 /// What the host gives to a beat, in range.
@@ -29,6 +42,7 @@ pub struct Beat<'a> {
     pub inputs: &'a Inputs<'a>,
     pub slip: Slip,
     pub seen: &'a mut Seen,
+    pub witness: Option<&'a mut Witness>,
     /// The state as it stood at the beat's start, for a slip only.
     pub start: Option<State>,
     pub state: State,
@@ -48,7 +62,7 @@ impl<'a> Beat<'a> {
         let mut state = state.clone();
         state.grow_timers();
         let start = (slip == Slip::ReadAtBeatStart).then(|| state.clone());
-        Beat { lines, inputs, slip, seen, start, state, orders: Vec::new(), acted: 0 }
+        Beat { lines, inputs, slip, seen, witness: None, start, state, orders: Vec::new(), acted: 0 }
     }
 
     /// Works the turns; the first alarm ends them.
@@ -61,11 +75,20 @@ impl<'a> Beat<'a> {
 
     fn turn(&mut self, rank: usize) -> Result<(), Code> {
         let line = &self.lines[rank];
-        if !self.takes_turn(line, self.state.lines[rank]) {
-            return Ok(());
+        let turn = self.decide(line, rank);
+        if let Some(witness) = &mut self.witness {
+            witness.compare(rank, line, turn);
+            self.seen.held_high(witness, rank);
         }
-        let acts = self.acts(line, rank)?;
-        self.seen.turn(acts, line.keyword());
+        let (gave, acts) = match turn {
+            Turn::Skipped => return Ok(()),
+            Turn::Settled { acts } => (false, acts),
+            Turn::Tried { acts_if_true } => {
+                let gave = self.condition(line, rank)?;
+                (gave, gave && acts_if_true)
+            }
+        };
+        self.seen.turn(turn, gave, acts, line.keyword());
         if acts {
             self.acted |= 1 << rank;
             for action in &line.actions {
@@ -75,44 +98,47 @@ impl<'a> Beat<'a> {
         Ok(())
     }
 
-    fn takes_turn(&mut self, line: &Line, known: LineState) -> bool {
+    /// What the line does, by the flags of its state.
+    fn decide(&mut self, line: &Line, rank: usize) -> Turn {
+        let known = &mut self.state.lines[rank];
         let kept_off = if known.cancelled {
-            "skip by cancel"
+            Some("skip by cancel")
         } else if known.locked {
-            "skip by lock"
+            Some("skip by lock")
         } else if line.scope == Scope::Id && self.inputs.mode != Mode::Automatic {
-            "skip by mode"
+            Some("skip by mode")
         } else {
-            return true;
+            None
         };
-        self.seen.note(kept_off);
-        false
+        if let Some(way) = kept_off {
+            known.memory &= self.slip != Slip::MemoryClearedAtSkip;
+            self.seen.skip(way, line.keyword());
+            return Turn::Skipped;
+        }
+        match line.keyword() {
+            None => Turn::Settled { acts: true },
+            Some(Keyword::When) if known.memory => Turn::Settled { acts: false },
+            Some(Keyword::From) if known.memory => Turn::Settled { acts: true },
+            Some(Keyword::Every) => {
+                Turn::Tried { acts_if_true: !known.memory || self.slip == Slip::EveryByLevel }
+            }
+            _ => Turn::Tried { acts_if_true: true },
+        }
     }
 
-    /// Works the condition and the line's memory; says whether the line acts.
-    fn acts(&mut self, line: &Line, rank: usize) -> Result<bool, Code> {
+    /// Works the condition, and keeps in the line's memory what it gave.
+    fn condition(&mut self, line: &Line, rank: usize) -> Result<bool, Code> {
         let Some((keyword, condition)) = &line.condition else {
             return Ok(true);
         };
-        let memory = self.state.lines[rank].memory;
-        match keyword {
-            Keyword::Whenever => self.truth(condition),
-            Keyword::When | Keyword::From if memory => {
-                let later = *keyword == Keyword::From;
-                self.seen.note(if later { "act FROM later" } else { "no turn WHEN has acted" });
-                Ok(later)
-            }
-            Keyword::When | Keyword::From => {
-                let now = self.truth(condition)?;
-                self.state.lines[rank].memory = now;
-                Ok(now)
-            }
-            Keyword::Every => {
-                let now = self.truth(condition)?;
-                self.state.lines[rank].memory = now;
-                Ok(now && (!memory || self.slip == Slip::EveryByLevel))
-            }
+        let gave = self.truth(condition)?;
+        if *keyword != Keyword::Whenever {
+            self.state.lines[rank].memory = gave;
         }
+        if let Some(witness) = &mut self.witness {
+            witness.write(Entry::Gave(rank, gave));
+        }
+        Ok(gave)
     }
 
     fn act(&mut self, rank: usize, action: &Action) -> Result<(), Code> {
@@ -154,6 +180,9 @@ impl<'a> Beat<'a> {
             return Ok(());
         };
         self.seen.lock(locks, rank.cmp(&from), self.state.lines[rank].cancelled);
+        if let Some(witness) = &mut self.witness {
+            witness.text_lock(rank, locks);
+        }
         let line = &mut self.state.lines[rank];
         if !line.cancelled {
             set_lock(line, locks, self.slip);

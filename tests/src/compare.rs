@@ -1,9 +1,10 @@
-//! Compares the reference with the cases, and external programs with both the cases and the reference.
+//! Compares the reference with the cases, its flags with its history, and external programs with both the cases and the
+//! reference.
 
 use crate::cases::Case;
 use crate::generate;
 use crate::report::{difference, shown, Report};
-use crate::runner::{reference, External, Form};
+use crate::runner::{reference, watched, External, Form};
 use crate::shrink::shrink;
 use crate::slip::Slip;
 use std::ops::Range;
@@ -13,7 +14,8 @@ use std::thread;
 pub fn compare_cases(report: &mut Report, cases: &[Case], external: &External) {
     report.part();
     for case in cases {
-        let found = reference(case.form, &case.input, Slip::None);
+        let (found, parted) = watched(case.form, &case.input, Slip::None);
+        report.test(parted.is_none(), || format!("{} case {}: {parted:?}", case.form.name(), case.name));
         report.test(found == case.expected, || {
             format!("{} case {}: {}", case.form.name(), case.name, difference(&case.expected, &found))
         });
@@ -26,14 +28,14 @@ pub fn compare_cases(report: &mut Report, cases: &[Case], external: &External) {
     }
 }
 
-/// Every seed in both forms, a share of them for each processor.
-pub fn compare_seeds(report: &mut Report, seeds: Range<u64>, external: &External) {
+/// Every seed of a form, a share of them for each processor.
+pub fn compare_seeds(report: &mut Report, form: Form, seeds: Range<u64>, external: &External) {
     report.part();
     let shares = thread::available_parallelism().map_or(1, |n| n.get() as u64);
     thread::scope(|scope| {
         let share = |first| {
             let seeds = (seeds.start + first..seeds.end).step_by(shares as usize);
-            scope.spawn(move || compare_share(seeds, external))
+            scope.spawn(move || compare_share(form, seeds, external))
         };
         let started: Vec<_> = (0..shares).map(share).collect();
         for share in started {
@@ -42,19 +44,18 @@ pub fn compare_seeds(report: &mut Report, seeds: Range<u64>, external: &External
     });
 }
 
-/// The reference keeps its set and state sound, and the program prints the same.
-fn compare_share(seeds: impl Iterator<Item = u64>, external: &External) -> Report {
+/// The reference keeps its set and state sound, its history decides as its flags do, and the program prints the same.
+fn compare_share(form: Form, seeds: impl Iterator<Item = u64>, external: &External) -> Report {
     let mut report = Report::default();
     for seed in seeds {
-        for form in Form::BOTH {
-            let input = generate::input(form, seed);
-            let expected = reference(form, &input, Slip::None);
-            if form == Form::Synrun {
-                report.test(!unsound(&expected), || format!("seed {seed}: the reference answers 22"));
-            }
-            if let Some(found) = external.output(form, &input) {
-                report.test(found == expected, || explain(form, seed, &input, external));
-            }
+        let input = generate::input(form, seed);
+        let (expected, parted) = watched(form, &input, Slip::None);
+        report.test(parted.is_none(), || explain_parting(form, seed, &input));
+        if form == Form::Synrun {
+            report.test(!unsound(&expected), || format!("seed {seed}: the reference answers 22"));
+        }
+        if let Some(found) = external.output(form, &input) {
+            report.test(found == expected, || explain(form, seed, &input, external));
         }
     }
     report
@@ -77,4 +78,11 @@ fn explain(form: Form, seed: u64, input: &[u8], external: &External) -> String {
     });
     let (expected, found) = outputs(&small);
     format!("{} seed {seed}: {}\n{}", form.name(), difference(&expected, &found), shown(&small))
+}
+
+/// A seed on which the history decides otherwise than the flags, with its input made small.
+fn explain_parting(form: Form, seed: u64, input: &[u8]) -> String {
+    let parted = |input: &[u8]| watched(form, input, Slip::None).1;
+    let small = shrink(input, &|input| parted(input).is_some());
+    format!("{} seed {seed}: {}\n{}", form.name(), parted(&small).unwrap_or_default(), shown(&small))
 }

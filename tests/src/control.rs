@@ -2,6 +2,7 @@
 
 use crate::beat::{set_lock, Beat, Inputs, Mode};
 use crate::code::Code;
+use crate::history::{Entry, History};
 use crate::load::{load, Refusal};
 use crate::order;
 use crate::seen::Seen;
@@ -10,6 +11,7 @@ use crate::slip::Slip;
 use crate::state::{LineState, State, Timer};
 use crate::token::Scope;
 use crate::value::{in_range, Value};
+use crate::witness::Witness;
 
 /// Bytes that the order buffer must have.
 pub const BUFFER: usize = 2048;
@@ -22,7 +24,11 @@ pub struct Control {
     pub state: State,
     pub slip: Slip,
     pub seen: Seen,
+    pub witness: Witness,
 }
+
+/// Set and state as a host keeps them, with the history that led there.
+pub type Kept = (Set, State, Option<History>);
 
 /// The answer of a beat; with any code but success there are no orders and no line acted.
 #[derive(Clone, Copy, PartialEq, Eq, Debug)]
@@ -35,13 +41,28 @@ pub struct Answer {
 impl Control {
     /// A control with an empty set, at power-on.
     pub fn new(slip: Slip, seen: Seen) -> Control {
-        Control { set: Set::new(&[], true), state: State::power_on(), slip, seen }
+        let witness = Witness::default();
+        Control { set: Set::new(&[], true), state: State::power_on(), slip, seen, witness }
+    }
+
+    /// A control that writes its history and holds its flags against it.
+    pub fn watched(slip: Slip, seen: Seen) -> Control {
+        Control { witness: Witness::watching(slip), ..Control::new(slip, seen) }
+    }
+
+    pub fn keep(&self) -> Kept {
+        (self.set.clone(), self.state.clone(), self.witness.history.clone())
+    }
+
+    pub fn give_back(&mut self, kept: &Kept) {
+        (self.set, self.state, self.witness.history) = kept.clone();
     }
 
     /// Loads set text. The state is that of power-on afterwards; on refusal the set is empty.
     pub fn load(&mut self, text: &[u8]) -> Result<(), Refusal> {
         self.state = State::power_on();
         self.set = Set::new(&[], true);
+        self.witness.load();
         self.set = load(text, self.slip)?;
         Ok(())
     }
@@ -70,9 +91,13 @@ impl Control {
             return Err(Code::BadNumbers);
         }
         let inputs = Inputs { mode, word, numbers };
+        self.witness.begin_beat(mode);
         let mut beat = Beat::new(self.set.lines()?, &self.state, &inputs, self.slip, &mut self.seen);
+        beat.witness = Some(&mut self.witness);
         let result = beat.work(&self.set);
         let (state, orders, acted) = (beat.state, beat.orders, beat.acted);
+        self.witness.end_beat(self.set.lines()?, acted, result.is_ok());
+        self.seen.acted(self.set.lines()?, acted, result.is_ok());
         if result.is_ok() || self.slip == Slip::WritesKeptAtAlarm {
             self.state = state;
         }
@@ -85,16 +110,16 @@ impl Control {
 
     pub fn lock(&mut self, number: u8) -> Code {
         let slip = self.slip;
-        self.on_line(number, |line| set_lock(line, true, slip))
+        self.on_line(number, Entry::Lock, |line| set_lock(line, true, slip))
     }
 
     pub fn unlock(&mut self, number: u8) -> Code {
         let slip = self.slip;
-        self.on_line(number, |line| set_lock(line, false, slip))
+        self.on_line(number, Entry::Release, |line| set_lock(line, false, slip))
     }
 
     pub fn cancel(&mut self, number: u8) -> Code {
-        self.on_line(number, cancel)
+        self.on_line(number, Entry::Cancel, cancel)
     }
 
     /// Cancels ID lines, frees IDS lines, clears markers, parameters and timers.
@@ -105,20 +130,30 @@ impl Control {
         for (line, known) in self.set.lines().into_iter().flatten().zip(&mut self.state.lines) {
             match line.scope {
                 Scope::Id => cancel(known),
-                Scope::Ids => *known = LineState { cancelled: known.cancelled, ..LineState::default() },
+                Scope::Ids => {
+                    known.locked = false;
+                    known.memory &= self.slip == Slip::MemoryKeptAtReset;
+                }
             }
         }
         self.state.markers.fill(0);
         self.state.params.fill(0);
         self.state.timers.fill(Timer::default());
+        self.witness.write(Entry::Reset);
         Code::Success
     }
 
-    /// A host call that names a line.
-    fn on_line(&mut self, number: u8, change: impl FnOnce(&mut LineState)) -> Code {
+    /// A host call that names a line, and what is written of it.
+    fn on_line(
+        &mut self,
+        number: u8,
+        entry: impl FnOnce(usize) -> Entry,
+        change: impl FnOnce(&mut LineState),
+    ) -> Code {
         match self.find_line(number) {
             Ok(rank) => {
                 change(&mut self.state.lines[rank]);
+                self.witness.write(entry(rank));
                 Code::Success
             }
             Err(code) => code,

@@ -3,12 +3,11 @@
 use crate::control::Control;
 use crate::generate;
 use crate::report::Report;
-use crate::runner::{work, Form};
+use crate::runner::{work, Form, Seeds};
 use crate::seen::Seen;
 use crate::slip::Slip;
 use crate::text;
 use std::collections::BTreeMap;
-use std::ops::Range;
 
 const ALARMS: [u8; 5] = [30, 31, 32, 33, 34];
 const HOST_FORMS: [&str; 26] = [
@@ -22,16 +21,16 @@ pub struct Coverage {
 }
 
 impl Coverage {
-    /// What these seeds reach in both forms.
-    pub fn of(seeds: Range<u64>) -> Coverage {
+    /// What these seeds of each form reach; long sessions are counted by themselves.
+    pub fn of(seeds: &Seeds) -> Coverage {
         let mut coverage = Coverage { counts: expected().into_iter().map(|name| (name, 0)).collect() };
-        for form in Form::BOTH {
-            let mut control = Control::new(Slip::None, Seen::counting());
-            for seed in seeds.clone() {
+        for form in Form::ALL {
+            let mut control = Control::watched(Slip::None, Seen::counting());
+            for seed in seeds.of(form) {
                 coverage.input(form, &generate::input(form, seed), &mut control);
             }
             for (event, count) in control.seen.counts() {
-                *coverage.counts.entry(event.into()).or_default() += count;
+                *coverage.counts.entry(group(form).to_owned() + event).or_default() += count;
             }
         }
         coverage
@@ -52,8 +51,8 @@ impl Coverage {
         if form == Form::Synrun && !output.starts_with("L ") {
             self.note("load 0".into());
         }
-        if form == Form::Host {
-            script.iter().for_each(|line| self.note(format!("host line {}", host_form(line))));
+        if form != Form::Synrun {
+            script.iter().for_each(|line| self.note(format!("{} line {}", form.name(), host_form(line))));
         }
     }
 
@@ -61,9 +60,9 @@ impl Coverage {
         let fields: Vec<&str> = line.split(' ').collect();
         let place = fields.get(1).and_then(|place| place.parse::<usize>().ok()).unwrap_or(0);
         match fields[0] {
-            "L" => self.note(format!("load {}", fields[1])),
+            "L" => self.note(format!("{}load {}", group(form), fields[1])),
             "C" => self.note(format!("{} beat {}", form.name(), fields[2])),
-            "H" => self.note(format!("host call {} {}", host_form(script[place - 1]), fields[2])),
+            "H" => self.note(format!("{} call {} {}", form.name(), host_form(script[place - 1]), fields[2])),
             "E" | "END" => self.note(format!("{} ends with {}", form.name(), fields[0])),
             _ => {}
         }
@@ -76,12 +75,29 @@ impl Coverage {
         }
     }
 
-    /// A test for each name: it occurred.
+    /// A test for each name: it occurred. In long sessions most turns are taken, and most beats good.
     pub fn test(&self, report: &mut Report) {
         report.part();
         for (name, count) in &self.counts {
             report.test(*count > 0, || format!("no seed reaches: {name}"));
         }
+        let taken = self.sum("long act") + self.sum("long no act");
+        report.test(taken > self.sum("long skip"), || "long sessions skip most turns".into());
+        let good = self.sum("long beat 0");
+        report.test(2 * good > self.sum("long beat"), || "long sessions have few good beats".into());
+    }
+
+    /// All counts whose names begin so.
+    fn sum(&self, start: &str) -> u64 {
+        self.counts.iter().filter(|(name, _)| name.starts_with(start)).map(|(_, count)| count).sum()
+    }
+}
+
+/// What stands before the names of what a form's inputs reach, where forms are not counted together.
+fn group(form: Form) -> &'static str {
+    match form {
+        Form::Synrun | Form::Host => "",
+        Form::Long => "long ",
     }
 }
 
@@ -100,14 +116,17 @@ fn host_form(line: &[u8]) -> String {
 fn expected() -> Vec<String> {
     let mut names: Vec<String> = (0..=12).map(|code| format!("load {code}")).collect();
     names.extend([0, 21].iter().chain(&ALARMS).map(|code| format!("synrun beat {code}")));
-    names.extend([0, 20, 21, 22].iter().chain(&ALARMS).map(|code| format!("host beat {code}")));
-    for call in ["L", "U", "C"] {
-        names.extend([0, 22, 40].map(|code| format!("host call {call} {code}")));
+    for form in ["host", "long"] {
+        names.extend([0, 20, 21, 22].iter().chain(&ALARMS).map(|code| format!("{form} beat {code}")));
+        for call in ["L", "U", "C"] {
+            names.extend([0, 22, 40].map(|code| format!("{form} call {call} {code}")));
+        }
+        names.extend([0, 22].map(|code| format!("{form} call R {code}")));
+        names.extend(HOST_FORMS.iter().map(|line| format!("{form} line {line}")));
     }
-    names.extend([0, 22].map(|code| format!("host call R {code}")));
-    names.extend(HOST_FORMS.iter().map(|form| format!("host line {form}")));
-    for form in Form::BOTH {
-        names.extend(["E", "END"].map(|end| format!("{} ends with {end}", form.name())));
+    for form in ["synrun", "host"] {
+        names.extend(["E", "END"].map(|end| format!("{form} ends with {end}")));
     }
+    names.extend(["long load 0".into(), "long ends with END".into()]);
     names
 }

@@ -7,8 +7,14 @@ use crate::state::State;
 use crate::token::{Number, Token};
 use crate::value::{Value, UNIT};
 
+/// The places of the state that a history tells of.
+const LINE_FLAGS: &[u8] = b"LCE";
+
 /// Puts a raw value into set or state. None if the set has no such line or token.
 pub fn damage(control: &mut Control, line: &HostLine) -> Option<()> {
+    if !matches!(line, HostLine::Place { letter, .. } if !LINE_FLAGS.contains(letter)) {
+        control.witness.damage();
+    }
     match *line {
         HostLine::Place { letter, index, value } => put(&mut control.state, letter, index, value),
         HostLine::LineNumber { rank, number } => {

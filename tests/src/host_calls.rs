@@ -123,7 +123,7 @@ impl<W: Write, R: Read> HostCalls<'_, W, R> {
     /// Every load keeps set and state.
     fn load(&mut self, bytes: usize) -> io::Result<()> {
         self.request(b'N', &[bytes as u32])?;
-        let [code, line, _] = self.numbers()?;
+        let [code, line, ..] = self.numbers()?;
         self.kept = (self.set()?, self.state()?);
         self.lines = self.kept.0[0] as usize;
         writeln!(self.out, "L {code} {line}")
@@ -134,7 +134,8 @@ impl<W: Write, R: Read> HostCalls<'_, W, R> {
         let mut numbers = vec![mode, beat.word.into(), length as u32, beat.numbers.len() as u32];
         numbers.extend(beat.numbers.iter().map(|number| *number as u32));
         self.request(b'B', &numbers)?;
-        let [code, orders, acted] = self.numbers()?;
+        let [code, orders, low, high] = self.numbers()?;
+        let acted = u64::from(high) << 32 | u64::from(low);
         let buffer = self.bytes(length)?;
         self.count(code, orders);
         writeln!(self.out, "C {number} {code} {orders} {acted} {}", checksum(&buffer))?;
@@ -262,9 +263,9 @@ impl<W: Write, R: Read> HostCalls<'_, W, R> {
     }
 
     /// What a call answers.
-    fn numbers(&mut self) -> io::Result<[u32; 3]> {
-        let numbers = self.places(3)?;
-        Ok([numbers[0], numbers[1], numbers[2]])
+    fn numbers(&mut self) -> io::Result<[u32; 4]> {
+        let numbers = self.places(4)?;
+        Ok([numbers[0], numbers[1], numbers[2], numbers[3]])
     }
 }
 

@@ -2,11 +2,9 @@
 
 use crate::beat_line::BeatLine;
 use crate::code::Code;
-use crate::control::Control;
+use crate::control::{Control, Kept};
 use crate::damage;
 use crate::host_line::HostLine;
-use crate::set::Set;
-use crate::state::State;
 use crate::synrun::{print_orders, Totals};
 use crate::text;
 use std::io::{self, Write};
@@ -30,14 +28,14 @@ struct Session<'a> {
     set_text: &'a [u8],
     control: &'a mut Control,
     out: &'a mut dyn Write,
-    kept: (Set, State),
+    kept: Kept,
     number: usize,
     totals: Totals,
 }
 
 impl<'a> Session<'a> {
     fn new(set_text: &'a [u8], control: &'a mut Control, out: &'a mut dyn Write) -> io::Result<Session<'a>> {
-        let kept = (control.set.clone(), control.state.clone());
+        let kept = control.keep();
         let mut session = Session { set_text, control, out, kept, number: 0, totals: Totals::default() };
         session.load(set_text.len())?;
         Ok(session)
@@ -56,10 +54,8 @@ impl<'a> Session<'a> {
             HostLine::Reset => self.host_call(Control::reset)?,
             HostLine::Load(bytes) if bytes > self.set_text.len() => return Ok(None),
             HostLine::Load(bytes) => self.load(bytes)?,
-            HostLine::Keep => self.keep(),
-            HostLine::GiveBack => {
-                (self.control.set, self.control.state) = self.kept.clone();
-            }
+            HostLine::Keep => self.kept = self.control.keep(),
+            HostLine::GiveBack => self.control.give_back(&self.kept),
             HostLine::Dump => self.dump()?,
             _ => return Ok(damage::damage(self.control, &line)),
         }
@@ -71,12 +67,8 @@ impl<'a> Session<'a> {
             Ok(()) => (Code::Success, 0),
             Err(refusal) => (refusal.code, refusal.line),
         };
-        self.keep();
+        self.kept = self.control.keep();
         writeln!(self.out, "L {} {}", code.number(), line)
-    }
-
-    fn keep(&mut self) {
-        self.kept = (self.control.set.clone(), self.control.state.clone());
     }
 
     fn beat(&mut self, beat: &BeatLine, length: usize) -> io::Result<()> {
@@ -104,7 +96,8 @@ impl<'a> Session<'a> {
     }
 }
 
-/// A checksum of all bytes that small arithmetic can work.
+/// A checksum of all bytes that small arithmetic can work; the rest is taken once for every eight.
 pub fn checksum(bytes: &[u8]) -> u32 {
-    bytes.iter().fold(0, |sum, byte| (sum * 31 + u32::from(*byte)) % 1_000_003)
+    let eight = |sum: u64, bytes: &[u8]| bytes.iter().fold(sum, |sum, byte| sum * 31 + u64::from(*byte));
+    bytes.chunks(8).fold(0, |sum, bytes| eight(sum, bytes) % 1_000_003) as u32
 }

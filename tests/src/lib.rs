@@ -1,7 +1,7 @@
 //! An independent interpreter of set text and beats, and what compares a control with it.
 //!
 //! The interpreter: `token`, `parse`, `tree`, `check`, `load`, `set`, `state`, `fifo`, `beat`, `evaluate`,
-//! `variables`, `control`.
+//! `variables`, `control`. Its flags are held against `history` by `witness`.
 //! The programs: `synrun`, `host_session`. The rest makes inputs for them and compares what they print.
 
 pub mod beat;
@@ -17,6 +17,7 @@ pub mod evaluate;
 pub mod fields;
 pub mod fifo;
 pub mod generate;
+pub mod history;
 pub mod host_calls;
 pub mod host_line;
 pub mod host_session;
@@ -40,3 +41,4 @@ pub mod token;
 pub mod tree;
 pub mod value;
 pub mod variables;
+pub mod witness;

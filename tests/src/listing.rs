@@ -24,7 +24,7 @@ pub fn check(report: &mut Report, cases: &[&Case]) -> io::Result<()> {
 fn name(case: &Case) -> String {
     match case.form {
         Form::Synrun => case.name.clone(),
-        Form::Host => format!("host/{}", case.name),
+        Form::Host | Form::Long => format!("host/{}", case.name),
     }
 }
 

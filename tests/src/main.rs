@@ -3,7 +3,7 @@
 use reference::control::Control;
 use reference::coverage::Coverage;
 use reference::report::Report;
-use reference::runner::{work, External, Form};
+use reference::runner::{work, External, Form, Seeds};
 use reference::seen::Seen;
 use reference::slip::Slip;
 use reference::{cases, compare, generate, large, listing, slips};
@@ -15,16 +15,18 @@ use std::thread;
 
 /// Room for trees as deep as set text can make them.
 const STACK: usize = 256 << 20;
-/// Seeds that the gate compares if none are given, and whose coverage it tests.
-const GATE_SEEDS: Range<u64> = 0..5000;
+/// Seeds that the gate compares if none are given, and those whose coverage it tests.
+const GATE_SEEDS: Seeds = Seeds { synrun: 0..5000, host: 0..5000, long: 0..40 };
+const COVERED_SEEDS: Seeds = Seeds { synrun: 0..1000, host: 0..5000, long: 0..10 };
 
-const USAGE: &str = "reference                              answer standard input as synrun does
-reference host                         answer standard input as a host session
-reference compare [PROGRAMS] FROM..TO  cases and seeds
-reference coverage FROM..TO            what the seeds reach
-reference slips                        every slip must be found
-reference gate [PROGRAMS] [FROM..TO]   all of these
-reference generate synrun|host SEED    print a seed's input
+const USAGE: &str = "reference                           answer standard input as synrun does
+reference host                      answer standard input as a host session
+reference compare [PROGRAMS] SEEDS  cases and seeds
+reference coverage [SEEDS]          what the seeds reach
+reference slips                     every slip must be found
+reference gate [PROGRAMS] [SEEDS]   all of these
+reference generate FORM SEED        print a seed's input
+FORM: synrun, host or long. SEEDS: --FORM FROM..TO for each; FROM..TO is both synrun and host
 PROGRAMS: --program PATH and --host-program PATH";
 
 fn main() -> ExitCode {
@@ -45,8 +47,7 @@ fn command(arguments: &[String]) -> io::Result<ExitCode> {
     match words[..] {
         [] => answer(Form::Synrun),
         ["host"] => answer(Form::Host),
-        ["generate", "synrun", seed] => print_input(Form::Synrun, seed),
-        ["generate", "host", seed] => print_input(Form::Host, seed),
+        ["generate", form, seed] => print_input(form, seed),
         ["coverage", ref rest @ ..] => coverage(&Options::read(rest)?),
         ["compare", ref rest @ ..] => compared(&Options::read(rest)?),
         ["slips"] => found_slips(),
@@ -62,7 +63,7 @@ fn wrong(message: &str) -> io::Error {
 /// Programs and seeds given on the command line.
 struct Options {
     external: External,
-    seeds: Option<Range<u64>>,
+    seeds: Option<Seeds>,
 }
 
 impl Options {
@@ -79,13 +80,22 @@ impl Options {
                     options.external.host = Some(path.into());
                     rest
                 }
+                [form, seeds, rest @ ..] if form.starts_with("--") => {
+                    options.seeds.get_or_insert_default().put(named(&form[2..])?, range(seeds)?);
+                    rest
+                }
                 [seeds, rest @ ..] => {
-                    options.seeds = Some(range(seeds)?);
+                    let given = options.seeds.get_or_insert_default();
+                    (given.synrun, given.host) = (range(seeds)?, range(seeds)?);
                     rest
                 }
             }
         }
     }
+}
+
+fn named(form: &str) -> io::Result<Form> {
+    Form::named(form).ok_or_else(|| wrong(USAGE))
 }
 
 /// Seeds as FROM..TO, TO not among them.
@@ -104,9 +114,9 @@ fn answer(form: Form) -> io::Result<ExitCode> {
     Ok(ExitCode::SUCCESS)
 }
 
-fn print_input(form: Form, seed: &str) -> io::Result<ExitCode> {
+fn print_input(form: &str, seed: &str) -> io::Result<ExitCode> {
     let seed = seed.parse().map_err(|_| wrong(USAGE))?;
-    io::stdout().write_all(&generate::input(form, seed))?;
+    io::stdout().write_all(&generate::input(named(form)?, seed))?;
     Ok(ExitCode::SUCCESS)
 }
 
@@ -114,13 +124,19 @@ fn compared(options: &Options) -> io::Result<ExitCode> {
     let mut report = Report::default();
     compare::compare_cases(&mut report, &cases::all()?, &options.external);
     compare::compare_cases(&mut report, &large::all(), &options.external);
-    compare::compare_seeds(&mut report, options.seeds.clone().unwrap_or_default(), &options.external);
+    compare_seeds(&mut report, &options.seeds.clone().unwrap_or_default(), &options.external);
     Ok(report.end())
+}
+
+fn compare_seeds(report: &mut Report, seeds: &Seeds, external: &External) {
+    for form in Form::ALL {
+        compare::compare_seeds(report, form, seeds.of(form), external);
+    }
 }
 
 fn coverage(options: &Options) -> io::Result<ExitCode> {
     let mut report = Report::default();
-    let coverage = Coverage::of(options.seeds.clone().unwrap_or(GATE_SEEDS));
+    let coverage = Coverage::of(options.seeds.as_ref().unwrap_or(&COVERED_SEEDS));
     coverage.print();
     coverage.test(&mut report);
     Ok(report.end())
@@ -138,8 +154,8 @@ fn gate(options: &Options) -> io::Result<ExitCode> {
     listing::check(&mut report, &cases.iter().chain(&large).collect::<Vec<_>>())?;
     compare::compare_cases(&mut report, &cases, &options.external);
     compare::compare_cases(&mut report, &large, &options.external);
-    compare::compare_seeds(&mut report, options.seeds.clone().unwrap_or(GATE_SEEDS), &options.external);
-    Coverage::of(GATE_SEEDS).test(&mut report);
+    compare_seeds(&mut report, options.seeds.as_ref().unwrap_or(&GATE_SEEDS), &options.external);
+    Coverage::of(&COVERED_SEEDS).test(&mut report);
     slips::find_slips(&mut report, &cases);
     Ok(report.end())
 }

@@ -5,6 +5,7 @@ use crate::seen::Seen;
 use crate::slip::Slip;
 use crate::{host_calls, host_session, synrun};
 use std::io::{self, Read, Write};
+use std::ops::Range;
 use std::path::PathBuf;
 use std::process::{Child, ChildStdin, ChildStdout, Command, Stdio};
 use std::sync::mpsc;
@@ -14,22 +15,55 @@ use std::time::Duration;
 /// An external program that runs longer has failed.
 const PATIENCE: Duration = Duration::from_secs(60);
 
-/// The two forms of input.
+/// The forms of input.
 #[derive(Clone, Copy, PartialEq, Eq, Debug)]
 pub enum Form {
     /// Set text and beats, what `synrun` reads.
     Synrun,
     /// A host session.
     Host,
+    /// A host session of thousands of steps over a full set.
+    Long,
 }
 
 impl Form {
-    pub const BOTH: [Form; 2] = [Form::Synrun, Form::Host];
+    pub const ALL: [Form; 3] = [Form::Synrun, Form::Host, Form::Long];
 
     pub fn name(self) -> &'static str {
         match self {
             Form::Synrun => "synrun",
             Form::Host => "host",
+            Form::Long => "long",
+        }
+    }
+
+    pub fn named(name: &str) -> Option<Form> {
+        Form::ALL.into_iter().find(|form| form.name() == name)
+    }
+}
+
+/// Seeds for each form.
+#[derive(Clone, Default)]
+pub struct Seeds {
+    pub synrun: Range<u64>,
+    pub host: Range<u64>,
+    pub long: Range<u64>,
+}
+
+impl Seeds {
+    pub fn of(&self, form: Form) -> Range<u64> {
+        match form {
+            Form::Synrun => self.synrun.clone(),
+            Form::Host => self.host.clone(),
+            Form::Long => self.long.clone(),
+        }
+    }
+
+    pub fn put(&mut self, form: Form, seeds: Range<u64>) {
+        match form {
+            Form::Synrun => self.synrun = seeds,
+            Form::Host => self.host = seeds,
+            Form::Long => self.long = seeds,
         }
     }
 }
@@ -38,7 +72,7 @@ impl Form {
 pub fn work(form: Form, input: &[u8], control: &mut Control, out: &mut dyn Write) -> io::Result<()> {
     match form {
         Form::Synrun => synrun::run(input, control, out),
-        Form::Host => host_session::run(input, control, out),
+        Form::Host | Form::Long => host_session::run(input, control, out),
     }
 }
 
@@ -47,6 +81,14 @@ pub fn reference(form: Form, input: &[u8], slip: Slip) -> Vec<u8> {
     let mut out = Vec::new();
     work(form, input, &mut Control::new(slip, Seen::default()), &mut out).expect("writing to memory");
     out
+}
+
+/// What the reference prints, and where its flags and its history first decide otherwise.
+pub fn watched(form: Form, input: &[u8], slip: Slip) -> (Vec<u8>, Option<String>) {
+    let mut out = Vec::new();
+    let mut control = Control::watched(slip, Seen::default());
+    work(form, input, &mut control, &mut out).expect("writing to memory");
+    (out, control.witness.difference)
 }
 
 /// The external programs, as far as given.
@@ -61,7 +103,7 @@ impl External {
     pub fn output(&self, form: Form, input: &[u8]) -> Option<Vec<u8>> {
         let program = match form {
             Form::Synrun => self.synrun.as_ref()?,
-            Form::Host => self.host.as_ref()?,
+            Form::Host | Form::Long => self.host.as_ref()?,
         };
         Some(
             answered(program, form, input)
@@ -78,7 +120,7 @@ fn answered(program: &PathBuf, form: Form, input: &[u8]) -> io::Result<Vec<u8>> 
     let watch = Watch::over(child);
     let mut printed = match form {
         Form::Synrun => fed(stdin, stdout, input.to_vec()),
-        Form::Host => host_calls::run(input, stdin, stdout),
+        Form::Host | Form::Long => host_calls::run(input, stdin, stdout),
     };
     printed.extend(watch.failure()?.into_bytes());
     Ok(printed)

@@ -1,35 +1,56 @@
 //! Counts of what happened in the beats, for the coverage report. Counting is off unless asked for.
 
+use crate::beat::Turn;
 use crate::token::{Keyword, Name};
-use crate::tree::Variable;
+use crate::tree::{Line, Variable};
+use crate::witness::Witness;
 use std::cmp::Ordering;
+use std::collections::BTreeMap;
 
-/// Everything that is counted.
-pub const EVENTS: [&str; 48] = [
+/// What is counted by itself.
+const EVENTS: [&str; 34] = [
     "read $A_IN", "read $A_INA", "read $AA_IM", "read $A_OUT", "read $AC_MARKER", "read $AC_PARAM",
     "read $R", "read $R run", "read $AC_TIMER", "read $AC_FIFO[0]", "read $AC_FIFO[1]", "read $AC_FIFO[2]",
     "read $AC_FIFO[3]", "read $AC_FIFO[4]", "write $A_OUT", "write $AC_MARKER", "write $AC_PARAM",
     "write $R", "write $AC_TIMER run", "write $AC_TIMER stop", "write $AC_FIFO[0]", "write $AC_FIFO[4]",
-    "act", "act WHEN", "act WHENEVER", "act FROM", "act EVERY", "no act WHEN", "no act WHENEVER",
-    "no act FROM", "no act EVERY", "act FROM later", "no turn WHEN has acted", "skip by lock",
-    "skip by mode", "skip by cancel", "order POS", "order FA", "order MOV", "order M", "order SETAL", "lock",
-    "unlock", "lock self", "lock later line", "lock earlier line", "unlock cancelled", "lock cancelled",
+    "order POS", "order FA", "order MOV", "order M", "order SETAL", "lock", "unlock", "lock self",
+    "lock later line", "lock earlier line", "unlock cancelled", "lock cancelled",
+];
+/// What is counted for each keyword; the bare word is for lines without.
+const BY_KEYWORD: [(&str, &[&str]); 8] = [
+    ("act", &["", " WHEN", " WHENEVER", " FROM", " EVERY"]),
+    ("no act", &[" WHEN", " WHENEVER", " FROM", " EVERY"]),
+    ("untried", &[" WHEN", " FROM"]),
+    ("skip by lock", &["", " WHEN", " WHENEVER", " FROM", " EVERY"]),
+    ("skip by mode", &["", " WHEN", " WHENEVER", " FROM", " EVERY"]),
+    ("skip by cancel", &["", " WHEN", " WHENEVER", " FROM", " EVERY"]),
+    ("released while true", &[" WHEN", " WHENEVER", " FROM", " EVERY"]),
+    ("undone by an alarm, then act", &["", " WHEN", " WHENEVER", " FROM", " EVERY"]),
 ];
 
 #[derive(Clone, Default)]
 pub struct Seen {
-    counts: Option<Vec<u64>>,
+    counts: Option<BTreeMap<String, u64>>,
+    /// The line under way was locked and released since its turn before, which was true.
+    held_high: bool,
+    /// The lines that acted in alarmed beats since the last good one, bit by rank.
+    undone: u32,
 }
 
 impl Seen {
     pub fn counting() -> Seen {
-        Seen { counts: Some(vec![0; EVENTS.len()]) }
+        let by_keyword =
+            BY_KEYWORD.iter().flat_map(|(way, words)| words.iter().map(move |word| [way, *word].concat()));
+        let names = EVENTS.iter().map(|name| name.to_string()).chain(by_keyword);
+        Seen { counts: Some(names.map(|name| (name, 0)).collect()), ..Seen::default() }
     }
 
     pub fn note(&mut self, event: &str) {
         if let Some(counts) = &mut self.counts {
-            let place = EVENTS.iter().position(|known| *known == event);
-            counts[place.unwrap_or_else(|| panic!("not a counted event: {event}"))] += 1;
+            match counts.get_mut(event) {
+                Some(count) => *count += 1,
+                None => panic!("not a counted event: {event}"),
+            }
         }
     }
 
@@ -40,13 +61,52 @@ impl Seen {
         }
     }
 
-    /// Notes a turn of a line with this keyword.
-    pub fn turn(&mut self, acts: bool, keyword: Option<Keyword>) {
+    fn by_keyword(&mut self, way: &str, keyword: Option<Keyword>) {
+        let keyword = keyword.map_or(String::new(), |keyword| format!(" {keyword:?}").to_uppercase());
+        self.note(&format!("{way}{keyword}"));
+    }
+
+    pub fn skip(&mut self, way: &str, keyword: Option<Keyword>) {
         if self.counts.is_some() {
-            let way = if acts { "act" } else { "no act" };
-            let keyword = keyword.map_or(String::new(), |keyword| format!(" {keyword:?}").to_uppercase());
-            self.note(&format!("{way}{keyword}"));
+            self.by_keyword(way, keyword);
         }
+    }
+
+    /// Looks, before a line's turn, at what befell it since the one before.
+    pub fn held_high(&mut self, witness: &Witness, rank: usize) {
+        self.held_high = self.counts.is_some() && witness.was_held_high(rank);
+    }
+
+    /// Notes a turn of a line with this keyword; `gave` is what its condition gave, if it was worked.
+    pub fn turn(&mut self, turn: Turn, gave: bool, acts: bool, keyword: Option<Keyword>) {
+        if self.counts.is_none() {
+            return;
+        }
+        self.by_keyword(if acts { "act" } else { "no act" }, keyword);
+        let untried = keyword.is_some() && matches!(turn, Turn::Settled { .. });
+        if untried {
+            self.by_keyword("untried", keyword);
+        }
+        if self.held_high && (gave || untried) {
+            self.by_keyword("released while true", keyword);
+        }
+    }
+
+    /// Notes at a beat's end the lines that act and had acted in vain in the alarmed beats just before.
+    pub fn acted(&mut self, lines: &[Line], acted: u32, good: bool) {
+        if self.counts.is_none() {
+            return;
+        }
+        if !good {
+            self.undone |= acted;
+            return;
+        }
+        for (rank, line) in lines.iter().enumerate() {
+            if acted & self.undone & 1 << rank != 0 {
+                self.by_keyword("undone by an alarm, then act", line.keyword());
+            }
+        }
+        self.undone = 0;
     }
 
     /// Notes a LOCK or UNLOCK, where the line it names stands, and whether that is cancelled.
@@ -67,8 +127,8 @@ impl Seen {
     }
 
     /// Each event with its count.
-    pub fn counts(&self) -> impl Iterator<Item = (&'static str, u64)> + '_ {
-        EVENTS.iter().copied().zip(self.counts.iter().flatten().copied())
+    pub fn counts(&self) -> impl Iterator<Item = (&str, u64)> + '_ {
+        self.counts.iter().flatten().map(|(event, count)| (event.as_str(), *count))
     }
 }
 

@@ -4,15 +4,14 @@ use mathlib.Core.Bool.{Bool, true, false, cond}
 use mathlib.Core.List.{List}
 use Prim.Native.Nat.{ℕ, zero, suc, _+_, _<_, _≤_}
 use native.Mathlib.Omega.{arith}
-use native.Mathlib.Decide.{decLt}
 use lib.Dec.{eqb}
-use lib.ListN.{length, drop, getD, List·getD-eq-default}
+use lib.ListN.{drop, getD}
 use borrow.Author.Tests.{eqb-true, leb-true}
 use Rattle.values.specs.Choice.{both}
 use Rattle.tokens.specs.Token.{ID, IDS, isId, EQUALS, OPEN, CLOSE, MINUS, LEFT, RIGHT, X, W, NUMBER, hasAxis, isAxis, isWhole, between}
 use Rattle.tokens.specs.Descent.{isIndex, isIndexed}
 use Rattle.tokens.specs.SingleFault.{bracketsOpen, opensTooMany}
-use Rattle.tokens.proofs.Between.{inside}
+use Rattle.tokens.proofs.Between.{inside, lies-inside}
 use Rattle.tokens.proofs.BracketLaws.{bracket-open, bracket-close, bracket-other}
 use Rattle.checking.specs.SightNumber.{nextOf, depthOf, signsBehind}
 use Rattle.checking.specs.Brackets.{NoBracket, CountsOn, InGrammar, Counted, Onward, InBrackets, SameEnd, Joined}
@@ -50,15 +49,8 @@ index-other w t = go (hasAxis w)
 -- ---- the count from place to place
 
 module _ (s : List ℕ) where
-  within : (p : ℕ) → (getD s p 0 ≡ 0 → ⊥) → p < length s
-  within p ne = go (decLt p (length s))
-    where
-      go : Dec (p < length s) → p < length s
-      go (yes l) = l
-      go (no l) = absurd (ne (List·getD-eq-default s 0 {n = p} (omega (arith, l))))
-
   pub counts-token : (p q : ℕ) {t : ℕ} → t ≡ getD s p 0 → NoBracket t → q ≡ p + 1 → CountsOn s p 0 q
-  counts-token p q {t} e k i n l = rw i (bracket-other s p t n (within p (λ z. k .no-end (e ∙ z))) e n (k .no-end) (k .no-open) (k .no-close) refl)
+  counts-token p q {t} e k i n l = rw i (bracket-other s p t n (lies-inside s p e (k .no-end)) e n (k .no-end) (k .no-open) (k .no-close) refl)
 
   -- one after the other, each at most as deep as m
   pub counts-then : (p q r : ℕ) {d e : ℕ} (m : ℕ) → d ≤ m → e ≤ m → CountsOn s p d q → CountsOn s q e r → CountsOn s p m r
@@ -67,9 +59,9 @@ module _ (s : List ℕ) where
   -- brackets around what is at most d deep
   pub counts-brackets : (p q : ℕ) {d : ℕ} (m : ℕ) → d < m → getD s p 0 ≡ OPEN → getD s q 0 ≡ CLOSE → CountsOn s (p + 1) d q → CountsOn s p m (q + 1)
   counts-brackets p q m l o c f n b =
-      bracket-open s p OPEN n (within p (λ z. omega arith)) (sym o) (n + 1) refl (omega arith) refl ∙
+      bracket-open s p OPEN n (lies-inside s p (sym o) (λ z. omega arith)) (sym o) (n + 1) refl (omega arith) refl ∙
       f (n + 1) (omega arith) ∙
-      bracket-close s q CLOSE (n + 1) (within q (λ z. omega arith)) (sym c) n refl (omega arith)
+      bracket-close s q CLOSE (n + 1) (lies-inside s q (sym c) (λ z. omega arith)) (sym c) n refl (omega arith)
 
   -- the signs behind the one at p
   pub counts-signs : (k p n : ℕ) → n ≡ signsBehind s k p → CountsOn s (p + 1) 0 (p + n + 1)

@@ -8,8 +8,8 @@ use lib.Dec.{eqb}
 use lib.ListN.{getD, drop}
 use borrow.Author.Tests.{not-true, not-false, eq-eqb, ne-eqb}
 use Rattle.values.specs.Codes.{tooDeep, notInGrammar}
-use Rattle.checking.specs.declared.check.Line.{Line}
-use Rattle.tokens.specs.Token.{setSize, FIFO1, FIFO4, END, EQUALS, OPEN, CLOSE, IDS, DO, M, isFactor, isTerm, isFifo, isCall, isKeyword, isWhole, whole}
+use Rattle.checking.specs.declared.line.Line.{Line}
+use Rattle.tokens.specs.Token.{setSize, FIFO1, FIFO4, END, EQUALS, OPEN, CLOSE, IDS, DO, M, isArithmetic, isFifo, isCall, isKeyword, isWhole, whole}
 use Rattle.tokens.specs.Descent.{Read, read, ends, then, isIndexed, indexAt, expressionAt}
 use Rattle.checking.specs.Fault.{sight, faultFor, isRemoval, assignmentAt, commandAt, actionAt, countFault, actionsAt, numberOf, faultyLine, judged, lineParts, bodyAt, restAt}
 use Rattle.tokens.specs.SingleFault.{lower, codeFault, callFault, opensTooMany}
@@ -22,7 +22,7 @@ use Rattle.checking.proofs.BracketCountLaws.{other-high}
 
 -- ---- actions
 
-pub removal : (s : List ℕ) (p w t : ℕ) → w ≡ getD s p 0 → t ≡ getD s (p + 4) 0 → isFifo w && (isIndexed s w p && (eqb (indexAt s w p) 0 && not (isFactor t || isTerm t))) ≡ isRemoval s p
+pub removal : (s : List ℕ) (p w t : ℕ) → w ≡ getD s p 0 → t ≡ getD s (p + 4) 0 → isFifo w && (isIndexed s w p && (eqb (indexAt s w p) 0 && not (isArithmetic t))) ≡ isRemoval s p
 unfolding isRemoval
 removal s p w t e f = rw (e, f)
 

@@ -1,5 +1,4 @@
--- Laws that several proofs cite: SightNumberLaws on what the check sees as one number, BracketCountLaws on the count of brackets, SumLaws on a sum or an expression that begins with an operand, SignLaws on signs one behind the other,
--- FaultLaws on the faults and parts of a line.
+-- Laws that several proofs cite.
 mod SightNumberLaws
 mod BracketCountLaws
 mod SumLaws

@@ -1,24 +1,24 @@
 -- Laws on what the check sees as one number: what it says by the test of the code, and what was made into a number is seen again; its end and depth; what has no fault; faults alone; what the operators of each level join.
 use mathlib.Core.Path.{_≡_, refl, sym, ap, _∙_}
 use mathlib.Core.Bool.{Bool, true, false, cond, not, _||_}
-use Prim.Native.Nat.{ℕ, _+_, _/_, _%_, _<_, _≤_}
+use Prim.Native.Nat.{ℕ, _+_, _/_, _%_, _<_, _≤_, _*_}
 use native.Mathlib.Omega.{arith}
 use lib.Dec.{eqb}
 use borrow.Author.Tests.{eqb-true, eq-eqb, ne-eqb}
 use Rattle.values.specs.Codes.{notInGrammar}
-use Rattle.tokens.specs.Token.{setSize, SAME, ATLEAST, PLUS, MINUS, TIMES, OVER, AND, XOR, isFactor, isTerm, isCompare, isLogic}
+use Rattle.tokens.specs.Token.{room, setSize, SAME, ATLEAST, PLUS, MINUS, TIMES, OVER, AND, XOR, isFactor, isTerm, isArithmetic, isCompare, isLogic}
 use Rattle.tokens.specs.Descent.{Read, read, ends, then}
 use Rattle.tokens.specs.SingleFault.{lower, wantingFault}
 use Rattle.tokens.proofs.AnswerLaws as answers
-use Rattle.tokens.proofs.Between.{inside, outside}
+use Rattle.tokens.proofs.Between.{inside, outside, is-inside, arithmetic-range}
 use Rattle.checking.specs.Fault.{Sight, joinSights, faultFor, lowest}
 use Rattle.checking.specs.SightNumber.{numberSeen, truthSeen, nextOf, truthOf, faultOf, depthOf, deeperOf, isFaultless, sightOf, seen, faulted, signedSight}
 use Rattle.checking.specs.Brackets.{SameEnd, Joined}
 
 -- the number w, whose next place is i
 module _ (w : ℕ) {i : ℕ} (e : i ≡ nextOf w) where
-  pub room : i < 8192
-  room = omega arith
+  pub in-room : i < room
+  in-room = omega arith
 
   pub seen-stop : i ≡ 0 → seen w ≡ ends notInGrammar
   unfolding seen
@@ -50,7 +50,7 @@ pub record Made (f d p x : ℕ) : Type 0 where
   pub fault : faultOf x ≡ f
   pub depth : depthOf x ≡ d
 
-module _ {f d : ℕ} (p : ℕ) {x : ℕ} (b : f < 256) (c : d < 256) (m : p < 8192) where
+module _ {f d : ℕ} (p : ℕ) {x : ℕ} (b : f < 256) (c : d < 256) (m : p < room) where
   pub number-made : x ≡ numberSeen f d p → Made f d p x
   number-made e = record { next = omega arith; fault = omega arith; depth = omega arith }
 
@@ -60,28 +60,28 @@ module _ {f d : ℕ} (p : ℕ) {x : ℕ} (b : f < 256) (c : d < 256) (m : p < 81
   -- f is g
   module _ {g : ℕ} (l : 0 < p) where
     pub seen-number : x ≡ numberSeen f d p → f ≡ g → seen x ≡ read (record { truth = false; fault = g }) p
-    seen-number e h = let k = number-made e in seen-as x p g (sym (k .next)) l (ne-eqb (x / 8192 % 2) 1 (λ z. omega arith)) (k .fault ∙ h)
+    seen-number e h = let k = number-made e in seen-as x p g (sym (k .next)) l (ne-eqb (x / room % 2) 1 (λ z. omega arith)) (k .fault ∙ h)
 
     pub seen-truth : x ≡ truthSeen f d p → f ≡ g → seen x ≡ read (record { truth = true; fault = g }) p
-    seen-truth e h = let k = truth-made e in seen-as x p g (sym (k .next)) l (eq-eqb (x / 8192 % 2) 1 (omega arith)) (k .fault ∙ h)
+    seen-truth e h = let k = truth-made e in seen-as x p g (sym (k .next)) l (eq-eqb (x / room % 2) 1 (omega arith)) (k .fault ∙ h)
 
 -- one more is the next place; and one bracket more goes deeper
 module _ (w : ℕ) {i : ℕ} (e : i ≡ nextOf w) (l : i < setSize) where
   pub seen-next : seen (w + 1) ≡ read (sightOf w) (i + 1)
   seen-next =
-      let b : (w + 1) / 8192 ≡ w / 8192 = omega arith in
+      let b : (w + 1) / room ≡ w / room = omega arith in
       let c : (w + 1) / 16384 ≡ w / 16384 = omega arith in
       seen-as (w + 1) (i + 1) (faultOf w) (omega arith) (omega arith) (ap (λ (n : ℕ). eqb (n % 2) 1) b) (ap (λ (n : ℕ). n % 256) c)
 
   pub next-made : Made (faultOf w) (depthOf w) (i + 1) (w + 1)
   next-made = record { next = omega arith; fault = omega arith; depth = omega arith }
 
-  pub seen-deeper : seen (w + 4194304 + 1) ≡ read (sightOf w) (i + 1)
+  pub seen-deeper : seen (w + 512 * room + 1) ≡ read (sightOf w) (i + 1)
   seen-deeper =
-      let b : (w + 4194304 + 1) / 8192 % 2 ≡ w / 8192 % 2 = omega arith in
-      seen-as (w + 4194304 + 1) (i + 1) (faultOf w) (omega arith) (omega arith) (ap (λ (n : ℕ). eqb n 1) b) (omega arith)
+      let b : (w + 512 * room + 1) / room % 2 ≡ w / room % 2 = omega arith in
+      seen-as (w + 512 * room + 1) (i + 1) (faultOf w) (omega arith) (omega arith) (ap (λ (n : ℕ). eqb n 1) b) (omega arith)
 
-  pub deeper-made : depthOf w ≤ 8 → Made (faultOf w) (depthOf w + 1) (i + 1) (w + 4194304 + 1)
+  pub deeper-made : depthOf w ≤ 8 → Made (faultOf w) (depthOf w + 1) (i + 1) (w + 512 * room + 1)
   deeper-made h = record { next = omega arith; fault = omega arith; depth = omega arith }
 
 -- ---- what the numbers say of the brackets
@@ -106,11 +106,11 @@ pub record Faultless (t : Bool) (w : ℕ) : Type 0 where
 
 module _ (t : Bool) (w : ℕ) {o : Bool} (e : o ≡ isFaultless t w) (h : o ≡ true) where
   pub faultless-seen : Faultless t w
-  faultless-seen = go t (eqb-true (w / 8192 % 512) (cond t 1 0) (sym e ∙ h))
+  faultless-seen = go t (eqb-true (w / room % 512) (cond t 1 0) (sym e ∙ h))
     where
-      go : (t : Bool) → w / 8192 % 512 ≡ cond t 1 0 → Faultless t w
-      go true f = record { truth = eq-eqb (w / 8192 % 2) 1 (omega arith); fault = omega arith }
-      go false f = record { truth = ne-eqb (w / 8192 % 2) 1 (λ z. omega arith); fault = omega arith }
+      go : (t : Bool) → w / room % 512 ≡ cond t 1 0 → Faultless t w
+      go true f = record { truth = eq-eqb (w / room % 2) 1 (omega arith); fault = omega arith }
+      go false f = record { truth = ne-eqb (w / room % 2) 1 (λ z. omega arith); fault = omega arith }
 
 none-wanting : (t : Bool) → wantingFault t t ≡ 0
 unfolding wantingFault
@@ -175,27 +175,23 @@ then-same (read y q) h = h y q
 then-same (ends k) h = refl
 
 -- an operator that is none of + - * / gives a yes/no
-apart : (o : ℕ) → (PLUS ≤ o → o ≤ OVER → ⊥) → not (isFactor o || isTerm o) ≡ true
-apart o h = ap not (ap (λ (f : Bool). f || isTerm o) (outside TIMES OVER o (λ x y. h (omega arith) y)) ∙ outside PLUS MINUS o (λ x y. h x (omega arith)))
+apart : (o : ℕ) → (PLUS ≤ o → o ≤ OVER → ⊥) → not (isArithmetic o) ≡ true
+apart o h = ap not (sym (arithmetic-range o) ∙ outside PLUS OVER o h)
 
 -- x is a, the operator o behind it, and r
 module _ (o : ℕ) (a : Sight) {x : Read Sight} (r : Read Sight) where
-  joins : (l t : Bool) → isLogic o ≡ l → not (isFactor o || isTerm o) ≡ t → x ≡ then r (λ y q. read (record { truth = t; fault = lowest l a y }) q) → x ≡ then r (λ y q. read (joinSights o a y) q)
+  joins : (l t : Bool) → isLogic o ≡ l → not (isArithmetic o) ≡ t → x ≡ then r (λ y q. read (record { truth = t; fault = lowest l a y }) q) → x ≡ then r (λ y q. read (joinSights o a y) q)
   unfolding joinSights
   joins l t e f h = h ∙ then-same r (λ y q. rw (sym e, sym f) refl)
 
-  numbers : isFactor o || isTerm o ≡ true → PLUS ≤ o → o ≤ OVER → x ≡ then r (λ y q. read (record { truth = false; fault = lowest false a y }) q) → x ≡ then r (λ y q. read (joinSights o a y) q)
-  numbers e l m h = joins false false (outside AND XOR o (λ x y. omega arith)) (ap not e) h
+  numbers : PLUS ≤ o → o ≤ OVER → x ≡ then r (λ y q. read (record { truth = false; fault = lowest false a y }) q) → x ≡ then r (λ y q. read (joinSights o a y) q)
+  numbers l m h = joins false false (outside AND XOR o (λ x y. omega arith)) (ap not (sym (arithmetic-range o) ∙ is-inside PLUS OVER o l m)) h
 
   pub joins-factor : isFactor o ≡ true → x ≡ then r (λ y q. read (record { truth = false; fault = lowest false a y }) q) → x ≡ then r (λ y q. read (joinSights o a y) q)
-  joins-factor e h = let i = inside TIMES OVER o e in numbers (ap (λ (f : Bool). f || isTerm o) e) (omega arith) (i .1) h
+  joins-factor e = let i = inside TIMES OVER o e in numbers (omega arith) (i .1)
 
   pub joins-term : isTerm o ≡ true → x ≡ then r (λ y q. read (record { truth = false; fault = lowest false a y }) q) → x ≡ then r (λ y q. read (joinSights o a y) q)
-  joins-term e h = let i = inside PLUS MINUS o e in numbers (ap (λ (f : Bool). isFactor o || f) e ∙ go (isFactor o)) (i .0) (omega arith) h
-    where
-      go : (f : Bool) → f || true ≡ true
-      go true = refl
-      go false = refl
+  joins-term e = let i = inside PLUS MINUS o e in numbers (i .0) (omega arith)
 
   pub joins-compared : isCompare o ≡ true → x ≡ then r (λ y q. read (record { truth = true; fault = lowest false a y }) q) → x ≡ then r (λ y q. read (joinSights o a y) q)
   joins-compared e h =

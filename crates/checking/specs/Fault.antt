@@ -1,12 +1,12 @@
 -- Faults 4 to 10 of a line, from its tokens, and where its parts lie (document 01, "Lines of text" and "Codes"). Definitions only.
-use mathlib.Core.Bool.{Bool, true, false, cond, not, _&&_, _||_}
+use mathlib.Core.Bool.{Bool, true, false, cond, not, _&&_}
 use mathlib.Core.List.{List}
 use Prim.Native.Nat.{ℕ, zero, suc, _+_}
 use lib.Dec.{eqb, leb}
 use lib.ListN.{drop}
 use Rattle.values.specs.Codes.{tooDeep, notInGrammar, tooManyActions}
-use Rattle.checking.specs.declared.check.Line.{Line}
-use Rattle.tokens.specs.Token.{setSize, END, EQUALS, OPEN, CLOSE, IDS, DO, M, isVariable, isFifo, isDrive, isCall, isKeyword, isId, isFactor, isTerm, isLogic, isWhole, whole, maxActions}
+use Rattle.checking.specs.declared.line.Line.{Line}
+use Rattle.tokens.specs.Token.{setSize, END, EQUALS, OPEN, CLOSE, IDS, DO, M, isVariable, isFifo, isDrive, isCall, isKeyword, isId, isArithmetic, isLogic, isWhole, whole, maxActions}
 use Rattle.tokens.specs.Descent.{token, good, Read, read, ends, then, Meaning, isIndexed, indexAt, sumAt, expressionAt}
 use Rattle.tokens.specs.SingleFault.{callFault, codeFault, idFault, lower, numberFault, opensTooMany, readFault, unless, wantingFault, writeFault}
 
@@ -25,7 +25,7 @@ abbrev pub lowest : Bool → Sight → Sight → ℕ
 lowest wanted a b = lower (lower (wanting wanted a) (wanting wanted b)) (lower (a .fault) (b .fault))
 
 unfoldable pub joinSights : ℕ → Sight → Sight → Sight
-joinSights o a b = record { truth = not (isFactor o || isTerm o); fault = lowest (isLogic o) a b }
+joinSights o a b = record { truth = not (isArithmetic o); fault = lowest (isLogic o) a b }
 
 -- behind a sign: a number behind -, a yes/no behind NOT, and it gives the same
 abbrev pub signed : Bool → Sight → Sight
@@ -67,7 +67,7 @@ module _ (s : List ℕ) where
   -- FIFO [0] stands at p as a whole, unbracketed right side
   unfoldable pub isRemoval : ℕ → Bool
   isRemoval p =
-      isFifo (token s p) && (isIndexed s (token s p) p && (eqb (indexAt s (token s p) p) 0 && not (isFactor (token s (p + 4)) || isTerm (token s (p + 4)))))
+      isFifo (token s p) && (isIndexed s (token s p) p && (eqb (indexAt s (token s p) p) 0 && not (isArithmetic (token s (p + 4)))))
 
   -- the right side of an assignment to a variable
   unfoldable pub assignedAt : ℕ → ℕ → Read ℕ

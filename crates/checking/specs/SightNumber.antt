@@ -7,7 +7,7 @@ use lib.ListN.{getD}
 use Rattle.values.specs.Codes.{notInGrammar}
 use Rattle.tokens.specs.Token.{room, MINUS}
 use Rattle.tokens.specs.Descent.{Read, read, ends}
-use Rattle.checking.specs.declared.check.Line.{Line}
+use Rattle.checking.specs.declared.line.Line.{Line}
 use Rattle.checking.specs.Fault.{Sight, signed, bodyAt, faultyLine}
 
 abbrev pub numberSeen : ℕ → ℕ → ℕ → ℕ

@@ -1,9 +1,12 @@
 // The check of a line of a set: its faults 4 to 10, and where its parts lie.
 //
 // No public call asks anything of its caller.
-mod check;
+mod action;
+mod expression;
+mod line;
+mod sight;
 mod sight_number;
 
-pub use check::Line;
-pub use check::is_removal;
-pub use check::line_at;
+pub use action::is_removal;
+pub use line::Line;
+pub use line::line_at;

@@ -4,7 +4,11 @@
 // brackets in it, counted to nine.
 ghost use mathlib.Core.Path.{_≡_};
 ghost use Rattle.checking.specs.SightNumber.{numberSeen, truthSeen, nextOf, truthOf, faultOf, isFaultless, depthOf, deeperOf};
+use tokens::fault::BRACKETS;
 use tokens::token::ROOM;
+
+// How many brackets may be open.
+pub const DEEPEST: u8 = BRACKETS as u8;
 
 // One bracket deeper.
 pub const DEEPER: u64 = 256 * 2 * ROOM;

@@ -1,4 +1,4 @@
--- What one turn by the rule, and the turns of a beat, do to the word of the lines that acted and to what the history says of conditions. Assumes nothing.
+-- What one turn by the rule, and the turns of a beat, do to the word of the lines that acted, to the orders, and to what the history says of conditions. Assumes nothing.
 use mathlib.Core.Path.{_≡_, refl, ap, _∙_}
 use mathlib.Core.Bool.{Bool, true, false, cond, _&&_, _||_, and-true}
 use mathlib.Core.List.{List, [], _∷_, _++_, map}
@@ -14,8 +14,9 @@ use Rattle.values.specs.Numbers.{clash}
 use Rattle.tokens.specs.Descent.{Answer, good, stop, _>>=_}
 use Rattle.working.specs.Operators.{isYes}
 use Rattle.working.specs.Working.{conditionValue}
-use Rattle.checking.specs.declared.check.Line.{Line}
+use Rattle.checking.specs.declared.line.Line.{Line}
 use Rattle.engine.specs.declared.set.Lines.{Lines}
+use Rattle.engine.specs.declared.order.Order.{Order}
 use Rattle.engine.specs.Set.{noLine}
 use Rattle.engine.specs.Action.{World, Note, fromValueOrAlarm}
 use Rattle.engine.specs.Actions.{actionsOf}
@@ -23,9 +24,11 @@ use Rattle.engine.specs.Turn.{Entry, worked, locks, lockEntry, Turned, counted,
 use Rattle.demands.specs.History.{History, after, only, orElse, isAutomatic, wasTrue, everTrue, takesByRule, triesByRule, actsByRule}
 use Rattle.demands.specs.Run.{byRank, cancelledBy, tryByRule, turnByRule, turnsByRule}
 use Rattle.demands.specs.Acts.{isActed, isYesAnswer, conditionNow, triesNow, actsNow}
-use Rattle.soundness.specs.GoodAnswers.{Ok, is-ok, bind-ok}
+use Rattle.tokens.specs.AnswerLaws.{Ok, is-ok, bind-ok}
 use Rattle.demands.specs.ActionRuleLaws.{Fair, actions-fair}
 use Rattle.demands.specs.TurnRuleLaws.{after-append}
+use Rattle.demands.specs.Deed.{Gave, OfActed}
+use Rattle.demands.specs.DeedLaws.{gave-none, gave-more, gave-map, Ends, actions-end}
 
 -- ---- a turn
 
@@ -54,26 +57,30 @@ notes-was : (ns : List Note) (j : ℕ) (r : History) → wasTrue j (after (map l
 notes-was [] j r = refl
 notes-was (n ∷ ns) j r = notes-was ns j (locks (n .0) (n .1) ∷ r)
 
--- the word, and what the history says of conditions, after a turn in which the line of rank k acted or not (a), and worked its condition or not (w), which gave v
-pub record After (k : ℕ) (r : History) (x : World) (a w v : Bool) (t : Turned) : Type 0 where
+-- the word, the orders and what the history says of conditions, after a turn in which the line of rank k and this number acted or not (a), and worked its condition or not (w),
+-- which gave v
+pub record After (number k : ℕ) (r : History) (x : World) (a w v : Bool) (t : Turned) : Type 0 where
   pub word : t .world .acted ≡ x .acted + cond a (2 ^ k) 0
+  pub orders : Gave (λ o. (a ≡ true) × (o .line ≡ number)) (x .orders) (t .world .orders)
   pub ever : (j : ℕ) → everTrue j (after (t .entries) r) ≡ w && (eqb k j && v) || everTrue j r
   pub was : (j : ℕ) → wasTrue j (after (t .entries) r) ≡ cond (w && eqb k j) v (wasTrue j r)
 
 module _ (s : List ℕ) (ls : Lines) (l : Line) (k : ℕ) (r : History) (x : World) where
   do-after : (es : List Entry) (a w v : Bool) → ((j : ℕ) → everTrue j (after es r) ≡ w && (eqb k j && v) || everTrue j r) → ((j : ℕ) → wasTrue j (after es r) ≡ cond (w && eqb k j) v (wasTrue j r)) →
-      Ok (After k r x a w v) (doTurn s (ls .numbers) (byRank (cancelledBy ls r)) (isAutomatic r) l k x es a)
+      Ok (After (l .number) k r x a w v) (doTurn s (ls .numbers) (byRank (cancelledBy ls r)) (isAutomatic r) l k x es a)
   unfolding doTurn
-  do-after es false w v f g = record { word = omega arith; ever = f; was = g }
+  do-after es false w v f g = record { word = omega arith; orders = gave-none _ (x .orders); ever = f; was = g }
   do-after es true w v f g =
-      bind-ok (After k r x true w v) (actionsOf s (ls .numbers) (byRank (cancelledBy ls r)) (l .number) 8 (counted x k) (l .actions)) _
+      bind-ok (After (l .number) k r x true w v) (actionsOf s (ls .numbers) (byRank (cancelledBy ls r)) (l .number) 8 (counted x k) (l .actions)) _
       (λ d q. record {
         word = is-ok (Fair s (ls .numbers) (byRank (cancelledBy ls r)) (l .number) (counted x k)) _ d q (actions-fair s (ls .numbers) (byRank (cancelledBy ls r)) (l .number) 8 (counted x k) (l .actions)) .1;
+        orders = gave-map (λ o. o .line ≡ l .number) _ (x .orders) (d .world .orders) (λ o e. (refl, e))
+            (is-ok (Ends s (ls .numbers) (byRank (cancelledBy ls r)) (l .number) (counted x k)) _ d q (actions-end s (ls .numbers) (byRank (cancelledBy ls r)) (l .number) 8 (counted x k) (l .actions)) .0);
         ever = λ j. rw (after-append es (map lockEntry (d .notes)) r) (notes-ever (d .notes) j (after es r) ∙ f j);
         was = λ j. rw (after-append es (map lockEntry (d .notes)) r) (notes-was (d .notes) j (after es r) ∙ g j);
       })
 
-  try-after : Ok (After k r x (actsByRule (l .keyword) k r (triesByRule (l .keyword) k r && conditionNow s l x)) (triesByRule (l .keyword) k r) (conditionNow s l x)) (tryByRule s ls l k r x)
+  try-after : Ok (After (l .number) k r x (actsByRule (l .keyword) k r (triesByRule (l .keyword) k r && conditionNow s l x)) (triesByRule (l .keyword) k r) (conditionNow s l x)) (tryByRule s ls l k r x)
   unfolding tryByRule
   try-after = go (triesByRule (l .keyword) k r) (fromValueOrAlarm (conditionValue s (x .vars .r) (x .vars .cells) (l .condition)))
     where
@@ -84,20 +91,20 @@ module _ (s : List ℕ) (ls : Lines) (l : Line) (k : ℕ) (r : History) (x : Wor
           let a : Answer Turned = elim w [
             | true ↦ g >>= λ a. doTurn s (ls .numbers) (byRank (cancelledBy ls r)) (isAutomatic r) l k x (worked k (isYes (a .0)) ∷ []) (acted (isYes (a .0)))
             | false ↦ doTurn s (ls .numbers) (byRank (cancelledBy ls r)) (isAutomatic r) l k x [] (acted false)
-          ] in Ok (After k r x (acted (w && isYesAnswer g)) w (isYesAnswer g)) a
+          ] in Ok (After (l .number) k r x (acted (w && isYesAnswer g)) w (isYesAnswer g)) a
       go true (good a) = do-after (worked k (isYes (a .0)) ∷ []) (acted (isYes (a .0))) true (isYes (a .0)) (λ j. ever-step (eqb k j && isYes (a .0)) (everTrue j r)) (λ j. was-step (eqb k j) (isYes (a .0)) (wasTrue j r))
       go true (stop c) = tt
       go false g = do-after [] (acted false) false (isYesAnswer g) (λ j. refl) (λ j. refl)
 
   -- a turn by the rule
-  pub turn-after : Ok (After k r x (actsNow s l k r x) (triesNow l k r) (conditionNow s l x)) (turnByRule s ls l k r x)
+  pub turn-after : Ok (After (l .number) k r x (actsNow s l k r x) (triesNow l k r) (conditionNow s l x)) (turnByRule s ls l k r x)
   unfolding turnByRule
   turn-after = go (takesByRule l k r)
     where
       go : (b : Bool) → let a : Answer Turned = elim b [ true ↦ tryByRule s ls l k r x | false ↦ good (record { world = x; entries = [] }) ] in
-          Ok (After k r x (b && actsByRule (l .keyword) k r (triesByRule (l .keyword) k r && conditionNow s l x)) (b && triesByRule (l .keyword) k r) (conditionNow s l x)) a
+          Ok (After (l .number) k r x (b && actsByRule (l .keyword) k r (triesByRule (l .keyword) k r && conditionNow s l x)) (b && triesByRule (l .keyword) k r) (conditionNow s l x)) a
       go true = try-after
-      go false = record { word = omega arith; ever = λ j. refl; was = λ j. refl }
+      go false = record { word = omega arith; orders = gave-none _ (x .orders); ever = λ j. refl; was = λ j. refl }
 
 -- ---- bits
 
@@ -193,7 +200,7 @@ module _ (s : List ℕ) (ls : Lines) where
       go (stop c) p e = clash (cc)
 
   -- seen from the line of rank i, which is j lines on: the turns before it, its own, and those after it
-  record FifoValue (j k i : ℕ) (r : History) (x : World) (t : Turned) : Type 0 where
+  record Around (j k i : ℕ) (r : History) (x : World) (t : Turned) : Type 0 where
     before : Turned
     own : Turned
     rest : Turned
@@ -204,13 +211,13 @@ module _ (s : List ℕ) (ls : Lines) where
     world : t .world ≡ rest .world
     written : after (t .entries) r ≡ after (rest .entries) (after (own .entries) (after (before .entries) r))
 
-  seen-first : (n k : ℕ) (r : History) (x : World) (t : Turned) → First n k r x t → FifoValue zero k k r x t
+  seen-first : (n k : ℕ) (r : History) (x : World) (t : Turned) → First n k r x t → Around zero k k r x t
   unfolding turnsByRule
   seen-first n k r x t f =
       record { before = record { world = x; entries = [] }; own = f .own; rest = f .rest; left = n; come = refl; taken = f .taken; gone = f .gone; world = f .world; written = f .written }
 
   seen-later : (j k i : ℕ) (r : History) (x : World) (t own rest : Turned) → turnByRule s ls (lineOf k) k r x ≡ good own → t .world ≡ rest .world →
-      after (t .entries) r ≡ after (rest .entries) (after (own .entries) r) → FifoValue j (k + 1) i (after (own .entries) r) (own .world) rest → FifoValue (suc j) k i r x t
+      after (t .entries) r ≡ after (rest .entries) (after (own .entries) r) → Around j (k + 1) i (after (own .entries) r) (own .world) rest → Around (suc j) k i r x t
   unfolding turnsByRule
   seen-later j k i r x t own rest p w h f =
       let b = f .before in
@@ -227,7 +234,7 @@ module _ (s : List ℕ) (ls : Lines) where
         written = rw e (h ∙ f .written);
       }
 
-  seen : (n j k i : ℕ) (r : History) (x : World) (t : Turned) → i ≡ k + j → j < n → turnsByRule s ls n k r x ≡ good t → FifoValue j k i r x t
+  seen : (n j k i : ℕ) (r : History) (x : World) (t : Turned) → i ≡ k + j → j < n → turnsByRule s ls n k r x ≡ good t → Around j k i r x t
   seen zero j k i r x t p h e = absurd (omega arith)
   seen (suc n) zero k i r x t p h e = let q : i ≡ k = omega arith in rw q (seen-first n k r x t (first n k r x t e))
   seen (suc n) (suc j) k i r x t p h e =
@@ -238,6 +245,9 @@ module _ (s : List ℕ) (ls : Lines) where
   pub record Done (i : ℕ) (r : History) (x : World) (t : Turned) : Type 0 where
     pub before : Turned
     pub come : turnsByRule s ls i 0 r x ≡ good before
+    pub own : Turned
+    pub taken : turnByRule s ls (lineOf i) i (after (before .entries) r) (before .world) ≡ good own
+    pub word : own .world .acted ≡ before .world .acted + cond (actsNow s (lineOf i) i (after (before .entries) r) (before .world)) (2 ^ i) 0
     pub acted : isActed (t .world .acted) i ≡ actsNow s (lineOf i) i (after (before .entries) r) (before .world)
     pub ever-before : everTrue i (after (before .entries) r) ≡ everTrue i r
     pub was-before : wasTrue i (after (before .entries) r) ≡ wasTrue i r
@@ -247,7 +257,7 @@ module _ (s : List ℕ) (ls : Lines) where
   pub done : (n i : ℕ) (r : History) (x : World) (t : Turned) → i < n → x .acted ≡ 0 → turnsByRule s ls n 0 r x ≡ good t → Done i r x t
   done n i r x t h z e = go (seen n i 0 i r x t (omega arith) h e)
     where
-      go : FifoValue i 0 i r x t → Done i r x t
+      go : Around i 0 i r x t → Done i r x t
       go f =
           let r′ : History = after (f .before .entries) r in
           let a = is-ok _ _ (f .own) (f .taken) (turn-after s ls (lineOf i) i r′ (f .before .world)) in
@@ -258,12 +268,31 @@ module _ (s : List ℕ) (ls : Lines) where
           record {
             before = f .before;
             come = f .come;
+            own = f .own;
+            taken = f .taken;
+            word = a .word;
             acted = rw (f .world) (the-bit (actsNow s (lineOf i) i r′ (f .before .world)) i (f .before .world .acted) (f .own .world .acted) (f .rest .world .acted) (high .0) low (a .word) (high .1));
             ever-before = earlier .0;
             was-before = earlier .1;
             ever = rw (f .written) (later .0 ∙ a .ever i ∙ rw (eq-eqb i i refl, earlier .0));
             was = rw (f .written) (later .1 ∙ a .was i ∙ rw (eq-eqb i i refl, earlier .1, and-true));
           }
+
+  -- each order that the turns give carries the number of a line that acted in them
+  pub turns-gave : (n k : ℕ) (r : History) (x : World) (t : Turned) → k + n ≤ ls .count → x .acted < 2 ^ k → turnsByRule s ls n k r x ≡ good t → Gave (OfActed ls (t .world .acted)) (x .orders) (t .world .orders)
+  unfolding turnsByRule
+  turns-gave zero k r x t h low e = let p : record { world = x; entries = [] } ≡ t = cc in rw (← p) (gave-none _ (x .orders))
+  turns-gave (suc n) k r x t h low e =
+      let f : First n k r x t = first n k r x t e in
+      let r′ : History = after (f .own .entries) r in
+      let a = is-ok _ _ (f .own) (f .taken) (turn-after s ls (lineOf k) k r x) in
+      let high = is-ok (λ t. (c : ℕ) × (t .world .acted ≡ f .own .world .acted + 2 ^ (k + 1) * c)) _ (f .rest) (f .gone) (turns-high n (k + 1) r′ (f .own .world)) in
+      let acts = actsNow s (lineOf k) k r x in
+      let bit : isActed (f .rest .world .acted) k ≡ acts = the-bit acts k (x .acted) (f .own .world .acted) (f .rest .world .acted) (high .0) low (a .word) (high .1) in
+      rw (f .world)
+      (gave-more (OfActed ls (f .rest .world .acted)) (x .orders) (f .own .world .orders) (f .rest .world .orders)
+      (gave-map (λ (o : Order). (acts ≡ true) × (o .line ≡ lineOf k .number)) _ (x .orders) (f .own .world .orders) (λ o q. record { rank = k; inSet = omega arith; acted = bit ∙ q .0; number = q .1 }) (a .orders))
+      (turns-gave n (k + 1) r′ (f .own .world) (f .rest) (omega arith) (next-bit acts k (x .acted) (f .own .world .acted) low (a .word)) (f .gone)))
 
   -- no line beyond the set's has its bit
   pub no-other : (n i : ℕ) (r : History) (x : World) (t : Turned) → n ≤ i → x .acted ≡ 0 → turnsByRule s ls n 0 r x ≡ good t → isActed (t .world .acted) i ≡ false

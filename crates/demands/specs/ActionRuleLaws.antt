@@ -10,32 +10,14 @@ use borrow.Author.Tests.{ltb-true}
 use Rattle.values.specs.Choice.{either}
 use Rattle.tokens.specs.Token.{END, M, SETAL, LOCK, isVariable, isDrive, whole, maxLines}
 use Rattle.tokens.specs.Descent.{Answer, good, stop, _>>=_, indexAt}
+use Rattle.tokens.specs.ChooseLaws.{through, choose}
 use Rattle.working.specs.Working.{rightValue}
 use Rattle.engine.specs.Set.{rankIn}
 use Rattle.engine.specs.Action.{World, Note, Did, fromValueOrAlarm, takenAt, assignmentOf, lockOf, commandOf, driveOf, actionOf}
 use Rattle.engine.specs.Actions.{actionsOf}
 use Rattle.engine.specs.Drive.{driveOrder}
 use Rattle.engine.specs.Write.{writeTo}
-use Rattle.soundness.specs.GoodAnswers.{Ok, is-ok, bind-ok}
-
--- ---- answers
-
--- one answer and then another: what is made of the first goes through to the last
-pub through : {A B C : Type 0} (g : A → Answer B) (m : Answer C) (f : C → Answer B) (e : C → Answer A) → ((c : C) → f c ≡ (e c >>= g)) → (m >>= f) ≡ (m >>= e >>= g)
-through g (good c) f e h = h c
-through g (stop k) f e h = refl
-
-pub choose : {A B : Type 0} (g : A → Answer B) (b : Bool) (x y : Answer B) (u v : Answer A) → x ≡ (u >>= g) → y ≡ (v >>= g) →
-    let p : Answer B = elim b [ true ↦ x | false ↦ y ] in let q : Answer A = elim b [ true ↦ u | false ↦ v ] in p ≡ (q >>= g)
-choose g true x y u v p q = p
-choose g false x y u v p q = q
-
-pub choose-by : {A B : Type 0} (g : A → Answer B) (b c : Bool) (x y : Answer B) (u v : Answer A) → b ≡ c → (c ≡ true → x ≡ (u >>= g)) → (c ≡ false → y ≡ (v >>= g)) →
-    let p : Answer B = elim b [ true ↦ x | false ↦ y ] in let q : Answer A = elim c [ true ↦ u | false ↦ v ] in p ≡ (q >>= g)
-choose-by g true true x y u v e p q = p refl
-choose-by g true false x y u v e p q = cc
-choose-by g false true x y u v e p q = cc
-choose-by g false false x y u v e p q = q refl
+use Rattle.tokens.specs.AnswerLaws.{Ok, is-ok, bind-ok}
 
 -- ---- a world in other flags
 

@@ -7,7 +7,7 @@ use lib.IntN.{ℤ}
 use Rattle.tokens.specs.Descent.{Answer, good, stop}
 use Rattle.working.specs.Operators.{isYes}
 use Rattle.working.specs.Working.{conditionValue}
-use Rattle.checking.specs.declared.check.Line.{Line}
+use Rattle.checking.specs.declared.line.Line.{Line}
 use Rattle.engine.specs.Action.{World, fromValueOrAlarm}
 use Rattle.demands.specs.History.{History, takesByRule, triesByRule, actsByRule}
 use Rattle.soundness.specs.Call.{Call, doBeat, doLock, doUnlock, doCancel, doReset}

@@ -19,7 +19,7 @@ use Rattle.engine.specs.Set.{linesFrom, linesRead, rankIn, namesKnown, allKnown
 use Rattle.engine.specs.State.{powerOn}
 use Rattle.engine.specs.Timers.{grownCells}
 use Rattle.engine.specs.Cells.{inputCells, beatCells}
-use Rattle.engine.specs.Sound.{allRanged, isCell, areCells, allZero, isFifoSound, isFlag, areFlags, stateSound, isSound}
+use Rattle.engine.specs.Sound.{allRanged, isCell, areCells, allZero, isFifoSound, areFifos, isFlag, areFlags, stateSound, isSound}
 use Rattle.engine.specs.Write.{writeCell, writeInside, writeTo}
 use Rattle.engine.specs.Action.{lockOf, takenAt, assignmentOf, commandOf, actionOf}
 use Rattle.engine.specs.Actions.{actionsOf}
@@ -31,14 +31,14 @@ use Rattle.engine.specs.Calls.{called, lockedCall, lockCall, unlockCall, cancel
 use Rattle.soundness.specs.Call.{Call, doBeat, doLock, doUnlock, doCancel, doReset}
 use Rattle.demands.specs.Run.{run, step, runFrom}
 
-abbrev n : ℕ → ℕ
+abbrev pub n : ℕ → ℕ
 n = wholeToken
 
 -- ID=1 EVERY $A_IN[1]==1 DO M=7
 -- ID=2 WHEN $A_IN[1]==1 DO M=8
 -- IDS=3 FROM $A_IN[1]==1 DO $A_OUT[1]=1
 -- IDS=4 WHENEVER $A_IN[2]==1 DO LOCK(1)
-abbrev lines : List ℕ
+abbrev pub lines : List ℕ
 lines =
     4 ∷ 5 ∷ 20 ∷ 35 ∷ 53 ∷
     ID ∷ EQUALS ∷ n 1 ∷ EVERY ∷ IN ∷ LEFT ∷ n 1 ∷ RIGHT ∷ SAME ∷ n 1 ∷ DO ∷ M ∷ EQUALS ∷ n 7 ∷ END ∷
@@ -48,11 +48,11 @@ lines =
     []
 
 -- a beat in AUTOMATIC with this input word
-abbrev beat : ℕ → Call
+abbrev pub beat : ℕ → Call
 beat word = doBeat true word (replicate 14 (pos 0)) (replicate 2048 0)
 
 -- the code and the word of the lines that acted, newest first
-abbrev words : List Call → List (ℕ × ℕ)
+abbrev pub words : List Call → List (ℕ × ℕ)
 words cs = map (λ c. (c .1 .code, c .1 .acted)) (run lines cs .told)
 
 -- 1. input 1 on, on, off, on: EVERY (1) acts in beats 1 and 4, WHEN (2) in 1, FROM (4) in 1 to 4
@@ -60,11 +60,11 @@ words cs = map (λ c. (c .1 .code, c .1 .acted)) (run lines cs .told)
 -- 3. a reset cancels the ID lines for good and starts the IDS line anew
 -- 4. LOCK in text (8): line 1 acts before it in the same beat, and is locked from the next on; released by the host, it acts at its next rise only
 -- 5. without AUTOMATIC the ID lines take no turn; a beat with a short buffer gives 20 and leaves all as it was
-runs :
+pub runs :
     (words (beat 1 ∷ beat 1 ∷ beat 0 ∷ beat 1 ∷ []) ≡ (0, 5) ∷ (0, 4) ∷ (0, 4) ∷ (0, 7) ∷ [])
     × (words (beat 1 ∷ doLock 1 ∷ beat 0 ∷ beat 1 ∷ doUnlock 1 ∷ beat 1 ∷ doLock 9 ∷ []) ≡ (40, 0) ∷ (0, 4) ∷ (0, 0) ∷ (0, 4) ∷ (0, 4) ∷ (0, 0) ∷ (0, 7) ∷ [])
     × (words (beat 1 ∷ beat 0 ∷ doReset ∷ beat 0 ∷ beat 1 ∷ doLock 1 ∷ doCancel 3 ∷ beat 1 ∷ doReset ∷ beat 1 ∷ []) ≡ (0, 0) ∷ (0, 0) ∷ (0, 0) ∷ (0, 0) ∷ (40, 0) ∷ (0, 4) ∷ (0, 0) ∷ (0, 0) ∷ (0, 4) ∷ (0, 7) ∷ [])
     × (words (beat 3 ∷ beat 0 ∷ doUnlock 1 ∷ beat 1 ∷ beat 0 ∷ beat 1 ∷ []) ≡ (0, 5) ∷ (0, 4) ∷ (0, 4) ∷ (0, 0) ∷ (0, 4) ∷ (0, 15) ∷ [])
     × (words (doBeat false 1 (replicate 14 (pos 0)) (replicate 2048 0) ∷ doBeat true 1 (replicate 14 (pos 0)) [] ∷ beat 1 ∷ []) ≡ (0, 7) ∷ (20, 0) ∷ (0, 4) ∷ [])
-unfolding inRange valued lessThan equalTo wholeUnits outputOf grownTimer isIndex indexOf isIndexed indexAt joined more readProduct readSum readRest readExpression readVariable operandFrom readOperand sumAt expressionAt isInside cellOf variableValue lower opensTooMany wantingFault numberFault readFault joinSights sight isWritable writeFault codeFault idFault callFault countFault numberOf isRemoval assignedAt assignmentAt commandAt actionAt actionsAt lineParts bodyAt restAt lineAt joinTruths joinValues valueOver conditionValue rightValue linesFrom linesRead rankIn namesKnown allKnown namedLines soundLines powerOn grownCells inputCells beatCells allRanged isCell areCells allZero isFifoSound isFlag areFlags stateSound isSound writeCell writeInside writeTo lockOf takenAt assignmentOf commandOf actionOf actionsOf tries acts remembers takesTurn doTurn tryTurn turnOf turnsFrom areInputs begun ended beatOf beatAnswer beatBuffer foundAt found called lockedCall lockCall unlockCall cancelCall resetCancelled zeroed resetState resetCall step runFrom
+unfolding inRange valued lessThan equalTo wholeUnits outputOf grownTimer isIndex indexOf isIndexed indexAt joined more readProduct readSum readRest readExpression readVariable operandFrom readOperand sumAt expressionAt isInside cellOf variableValue lower opensTooMany wantingFault numberFault readFault joinSights sight isWritable writeFault codeFault idFault callFault countFault numberOf isRemoval assignedAt assignmentAt commandAt actionAt actionsAt lineParts bodyAt restAt lineAt joinTruths joinValues valueOver conditionValue rightValue linesFrom linesRead rankIn namesKnown allKnown namedLines soundLines powerOn grownCells inputCells beatCells allRanged isCell areCells allZero isFifoSound areFifos isFlag areFlags stateSound isSound writeCell writeInside writeTo lockOf takenAt assignmentOf commandOf actionOf actionsOf tries acts remembers takesTurn doTurn tryTurn turnOf turnsFrom areInputs begun ended beatOf beatAnswer beatBuffer foundAt found called lockedCall lockCall unlockCall cancelCall resetCancelled zeroed resetState resetCall step runFrom
 runs = (refl, refl, refl, refl, refl)

@@ -9,13 +9,14 @@ use native.Mathlib.Nat.{zero-div}
 use lib.Dec.{eqb, ltb}
 use lib.IntN.{ℤ}
 use lib.ListN.{length, getD}
+use Rattle.values.specs.Codes.{shortBuffer, wrongNumbers, unsound}
 use Rattle.values.specs.Numbers.{clash}
 use Rattle.values.specs.Choice.{either}
 use Rattle.tokens.specs.Token.{WHEN, EVERY}
 use Rattle.tokens.specs.Descent.{Answer, good, stop, _>>=_}
 use Rattle.working.specs.Operators.{isYes}
 use Rattle.working.specs.Working.{conditionValue}
-use Rattle.checking.specs.declared.check.Line.{Line}
+use Rattle.checking.specs.declared.line.Line.{Line}
 use Rattle.engine.specs.declared.set.Lines.{Lines}
 use Rattle.engine.specs.declared.state.State.{State}
 use Rattle.engine.specs.declared.named_line.Found.{Found}
@@ -25,18 +26,18 @@ use Rattle.engine.specs.Sound.{isSound}
 use Rattle.engine.specs.Write.{Vars}
 use Rattle.engine.specs.Action.{World, Note, Did, fromValueOrAlarm}
 use Rattle.engine.specs.Actions.{actionsOf}
-use Rattle.engine.specs.Turn.{Entry, beatIn, worked, locks, cancels, resets, Turned, counted, doTurn, turnsFrom}
+use Rattle.engine.specs.Turn.{Entry, beatIn, worked, locks, cancels, resets, Turned, counted, takesTurn, doTurn, turnOf, turnsFrom}
 use Rattle.engine.specs.Beat.{bufferSize, areInputs, begun, beatOf, answered, beatAnswer}
 use Rattle.engine.specs.NamedLine.{found}
 use Rattle.engine.specs.Calls.{withLocked, called, lockedCall, lockCall, unlockCall}
-use Rattle.engine.proofs.SetLaws.{sound-count}
+use Rattle.engine.specs.SetCountLaws.{sound-count}
 use Rattle.demands.specs.History.{History, after, isAutomatic, everTrue, wasTrue, takesByRule, triesByRule, actsByRule}
 use Rattle.soundness.specs.Call.{Call, doBeat, doLock, doUnlock, doCancel, doReset}
 use Rattle.demands.specs.Run.{Now, coded, noted, rankOf, codeByRule, cleared, run, stateBy, begunBy, byRank, cancelledBy, tryByRule, turnByRule, turnsByRule, beatByRule, stepByRule, resetByRule, runByRuleFrom, runByRule, beatenByRule}
 use Rattle.demands.specs.Acts.{isActed, conditionNow, triesNow, actsNow, actedSince}
-use Rattle.soundness.specs.GoodAnswers.{Ok, is-ok, bind-ok}
+use Rattle.tokens.specs.AnswerLaws.{Ok, is-ok, bind-ok}
 use Rattle.demands.specs.ActionRuleLaws.{noteAll, Noted, actions-noted}
-use Rattle.demands.specs.TurnRuleLaws.{flagged, flaggedTurn, turns-same}
+use Rattle.demands.specs.TurnRuleLaws.{flagged, flaggedTurn, Quiet, takes-same, turn-same, turns-same, turns-quiet}
 use Rattle.demands.specs.ActLaws.{Done, done, no-other}
 use Rattle.demands.specs.Demand3.{beat-same, demand-3}
 
@@ -44,15 +45,15 @@ use Rattle.demands.specs.Demand3.{beat-same, demand-3}
 
 module _ (s : List ℕ) (v : Vars) (r : History) (m : Bool) (word : ℕ) (lent : List ℤ) (size : ℕ) where
   -- it is its mode and the turns of all the lines
-  beat-turns : (t : Turned) → beatByRule s v r m word lent size ≡ good t →
+  pub beat-turns : (t : Turned) → beatByRule s v r m word lent size ≡ good t →
       (u : Turned) × (turnsByRule s (soundLines s) (soundLines s .count) 0 (beatIn m ∷ r) (begunBy v word lent) ≡ good u) × (t ≡ record { world = u .world; entries = beatIn m ∷ u .entries })
   unfolding beatByRule
   beat-turns t = go (isSound s (stateBy (soundLines s) v r)) (ltb size bufferSize) (areInputs lent) (turnsByRule s (soundLines s) (soundLines s .count) 0 (beatIn m ∷ r) (begunBy v word lent))
     where
       go : (a b c : Bool) (d : Answer Turned) →
           (let x : Answer Turned = elim a [
-            | true ↦ elim b [ true ↦ stop 20 | false ↦ elim c [ true ↦ d >>= λ t. good (record { world = t .world; entries = beatIn m ∷ t .entries }) | false ↦ stop 21 ] ]
-            | false ↦ stop 22
+            | true ↦ elim b [ true ↦ stop shortBuffer | false ↦ elim c [ true ↦ d >>= λ t. good (record { world = t .world; entries = beatIn m ∷ t .entries }) | false ↦ stop wrongNumbers ] ]
+            | false ↦ stop unsound
           ] in x ≡ good t) → (u : Turned) × (d ≡ good u) × (t ≡ record { world = u .world; entries = beatIn m ∷ u .entries })
       go true true c d e = clash (cc)
       go true false true (good u) e = (u, refl, cc)
@@ -70,13 +71,19 @@ module _ (s : List ℕ) (v : Vars) (r : History) (m : Bool) (word : ℕ) (lent :
 
 -- ---- the engine's beat
 
--- a beat of the engine, in the state st and after the history r, that came to t; for the line of rank k: what the turns of the lines before it came to (`before`, `come`);
--- the line acted just where the rule, over the history so far and in the world in which its turn came, says so (`acted`); until then nothing was said of its condition in
+-- a beat of the engine, in the state st and after the history r, that came to t; for the line of rank k: what the turns of the lines before it came to (`before`, `come`)
+-- and its own (`own`, `taken`); it took a turn just where the rule, over the history so far, says so (`takes`), and acted just where the rule, over the history so far and in
+-- the world in which its turn came, says so (`acted`), which is when its turn added its bit (`added`); until then nothing was said of its condition in
 -- this beat (`ever-before`, `was-before`); and after the beat the history says of it what it gave in that world, if it was worked, and else what it said before (`ever`, `was`)
 pub record Came (s : List ℕ) (st : State) (r : History) (m : Bool) (word : ℕ) (lent : List ℤ) (k : ℕ) (t : Turned) : Type 0 where
   pub before : Turned
   pub come : turnsFrom s (soundLines s .numbers) (st .cancelled) m (soundLines s .items) k 0 (begun st word lent) ≡ good before
+  pub own : Turned
+  pub taken : turnOf s (soundLines s .numbers) (st .cancelled) m (getD (soundLines s .items) k noLine) k (before .world) ≡ good own
+  pub takes : takesTurn s (soundLines s .numbers) (st .cancelled) m (getD (soundLines s .items) k noLine) k (before .world)
+      ≡ takesByRule (getD (soundLines s .items) k noLine) k (after (before .entries) (beatIn m ∷ r))
   pub acted : isActed (t .world .acted) k ≡ actsNow s (getD (soundLines s .items) k noLine) k (after (before .entries) (beatIn m ∷ r)) (before .world)
+  pub added : own .world .acted ≡ before .world .acted + cond (isActed (t .world .acted) k) (2 ^ k) 0
   pub ever-before : everTrue k (after (before .entries) (beatIn m ∷ r)) ≡ everTrue k r
   pub was-before : wasTrue k (after (before .entries) (beatIn m ∷ r)) ≡ wasTrue k r
   pub ever : everTrue k (after (t .entries) r) ≡
@@ -84,17 +91,29 @@ pub record Came (s : List ℕ) (st : State) (r : History) (m : Bool) (word : ℕ
   pub was : wasTrue k (after (t .entries) r) ≡
       cond (triesNow (getD (soundLines s .items) k noLine) k (after (before .entries) (beatIn m ∷ r))) (conditionNow s (getD (soundLines s .items) k noLine) (before .world)) (wasTrue k r)
 
+-- a turn of the engine where the history gives the locks and the memory, and says these cancels and this mode
+module _ (s : List ℕ) (k : ℕ) (h : k < soundLines s .count) (r : History) (x : World) (cancelled : List Bool) (m : Bool) (p : byRank (cancelledBy (soundLines s) r) ≡ cancelled) (q : isAutomatic r ≡ m) where
+  abbrev line : Line
+  line = getD (soundLines s .items) k noLine
+
+  takes-said : takesTurn s (soundLines s .numbers) cancelled m line k (flagged (soundLines s) r x) ≡ takesByRule line k r
+  takes-said = rw (← p, ← q) (takes-same (soundLines s) s k r x (omega (arith, sound-count s)) h)
+
+  turn-said : (t : Turned) → turnByRule s (soundLines s) line k r x ≡ good t →
+      turnOf s (soundLines s .numbers) cancelled m line k (flagged (soundLines s) r x) ≡ good (record { world = flagged (soundLines s) (after (t .entries) r) (t .world); entries = t .entries })
+  turn-said t e = rw (← p, ← q) (turn-same (soundLines s) s k r x (omega (arith, sound-count s)) h ∙ rw e)
+
 module _ (s : List ℕ) (v : Vars) (r : History) (m : Bool) (word : ℕ) (lent : List ℤ) (size : ℕ) (t : Turned) where
   -- the beat of the engine is the beat by the rule, in flags
-  unflagged : beatOf s (stateBy (soundLines s) v r) m word lent size ≡ good t →
-      (u : Turned) × (beatByRule s v r m word lent size ≡ good u) × (t .world .acted ≡ u .world .acted) × (t .entries ≡ u .entries)
+  pub unflagged : beatOf s (stateBy (soundLines s) v r) m word lent size ≡ good t →
+      (u : Turned) × (beatByRule s v r m word lent size ≡ good u) × (t .world .acted ≡ u .world .acted) × (t .entries ≡ u .entries) × (t .world .orders ≡ u .world .orders)
   unflagged e = go (beatByRule s v r m word lent size) refl (sym (beat-same s v r m word lent size) ∙ e)
     where
       go : (a : Answer Turned) → beatByRule s v r m word lent size ≡ a → (a >>= flaggedTurn (soundLines s) r) ≡ good t →
-          (u : Turned) × (beatByRule s v r m word lent size ≡ good u) × (t .world .acted ≡ u .world .acted) × (t .entries ≡ u .entries)
+          (u : Turned) × (beatByRule s v r m word lent size ≡ good u) × (t .world .acted ≡ u .world .acted) × (t .entries ≡ u .entries) × (t .world .orders ≡ u .world .orders)
       go (good u) p q =
           let h : t ≡ record { world = flagged (soundLines s) (after (u .entries) r) (u .world); entries = u .entries } = cc in
-          (u, p, ap (λ y. y .world .acted) h, ap (λ y. y .entries) h)
+          (u, p, ap (λ y. y .world .acted) h, ap (λ y. y .entries) h, ap (λ y. y .world .orders) h)
       go (stop c) p q = clash (cc)
 
   came : (k : ℕ) → k < soundLines s .count → beatOf s (stateBy (soundLines s) v r) m word lent size ≡ good t → Came s (stateBy (soundLines s) v r) r m word lent k t
@@ -103,18 +122,26 @@ module _ (s : List ℕ) (v : Vars) (r : History) (m : Bool) (word : ℕ) (lent :
     where
       go : (w : Turned) → t .world .acted ≡ w .world .acted → t .entries ≡ w .entries → (u : Turned) → Done s (soundLines s) k (beatIn m ∷ r) (begunBy v word lent) u →
           w ≡ record { world = u .world; entries = beatIn m ∷ u .entries } → Came s (stateBy (soundLines s) v r) r m word lent k t
-      go w p a u d q = record {
-        before = record { world = flagged (soundLines s) (after (d .before .entries) (beatIn m ∷ r)) (d .before .world); entries = d .before .entries };
-        come = turns-same (soundLines s) s k 0 (beatIn m ∷ r) (begunBy v word lent) (sound-count s) (omega arith) ∙ rw (d .come);
-        acted = ap (λ n. isActed n k) (p ∙ ap (λ y. y .world .acted) q) ∙ d .acted;
-        ever-before = d .ever-before;
-        was-before = d .was-before;
-        ever = ap (λ es. everTrue k (after es r)) (a ∙ ap (λ y. y .entries) q) ∙ d .ever;
-        was = ap (λ es. wasTrue k (after es r)) (a ∙ ap (λ y. y .entries) q) ∙ d .was;
-      }
+      go w p a u d q =
+          let r′ : History = after (d .before .entries) (beatIn m ∷ r) in
+          let quiet = is-ok (Quiet (soundLines s) (beatIn m ∷ r)) _ (d .before) (d .come) (turns-quiet (soundLines s) s k 0 (beatIn m ∷ r) (begunBy v word lent)) in
+          let bit = ap (λ n. isActed n k) (p ∙ ap (λ y. y .world .acted) q) ∙ d .acted in
+          record {
+            before = record { world = flagged (soundLines s) r′ (d .before .world); entries = d .before .entries };
+            come = turns-same (soundLines s) s k 0 (beatIn m ∷ r) (begunBy v word lent) (sound-count s) (omega arith) ∙ rw (d .come);
+            own = record { world = flagged (soundLines s) (after (d .own .entries) r′) (d .own .world); entries = d .own .entries };
+            taken = turn-said s k h r′ (d .before .world) _ m (quiet .0) (quiet .1) (d .own) (d .taken);
+            takes = takes-said s k h r′ (d .before .world) _ m (quiet .0) (quiet .1);
+            acted = bit;
+            added = d .word ∙ ap (λ b. d .before .world .acted + cond b (2 ^ k) 0) (sym bit);
+            ever-before = d .ever-before;
+            was-before = d .was-before;
+            ever = ap (λ es. everTrue k (after es r)) (a ∙ ap (λ y. y .entries) q) ∙ d .ever;
+            was = ap (λ es. wasTrue k (after es r)) (a ∙ ap (λ y. y .entries) q) ∙ d .was;
+          }
 
 -- no reply of a failed beat has a bit
-no-bit : (k : ℕ) → isActed 0 k ≡ false
+pub no-bit : (k : ℕ) → isActed 0 k ≡ false
 no-bit k = rw (zero-div (2 ^ k))
 
 acted-good : (st : State) (k : ℕ) (a : Answer Turned) → isActed (answered st a .acted) k ≡ true → (t : Turned) × (a ≡ good t) × (isActed (t .world .acted) k ≡ true)

@@ -24,13 +24,13 @@ use Rattle.engine.specs.Turn.{Entry, beatIn, locks, cancels, resets, Turned}
 use Rattle.engine.specs.Beat.{bufferSize, areInputs, begun, ended, beatOf, answered, buffered, beatAnswer, beatBuffer}
 use Rattle.engine.specs.NamedLine.{foundAt, found}
 use Rattle.engine.specs.Calls.{withLocked, withCancelled, called, lockedCall, lockCall, unlockCall, cancelCall, resetState, resetCall}
-use Rattle.engine.proofs.SetLaws.{sound-count}
+use Rattle.engine.specs.SetCountLaws.{sound-count}
 use Rattle.demands.specs.History.{History, after, isCancelled, isLocked}
 use Rattle.soundness.specs.Call.{Call, doBeat, doLock, doUnlock, doCancel, doReset}
 use Rattle.demands.specs.Run.{Now, coded, entriesOf, rankOf, hosted, beaten, step, runFrom, run, byRank, cancelledBy, lockedBy, remembersBy, memoryBy, variablesOf, stateBy, begunBy, endedBy, turnsByRule, beatByRule, codeByRule, hostedByRule, beatenByRule, cleared, resetByRule, stepByRule, runByRuleFrom, runByRule}
 use Rattle.demands.specs.FlagLaws.{byRank-at, lock-locked, cancel-cancelled, cancel-locked, cancel-memory, reset-locked, reset-cancelled, reset-memory, new-locked, new-cancelled, new-memory}
-use Rattle.soundness.specs.GoodAnswers.{Ok, is-ok, bind-ok}
-use Rattle.demands.specs.ActionRuleLaws.{choose}
+use Rattle.tokens.specs.AnswerLaws.{Ok, is-ok, bind-ok}
+use Rattle.tokens.specs.ChooseLaws.{choose}
 use Rattle.demands.specs.TurnRuleLaws.{flaggedTurn, turns-same, turns-quiet}
 
 -- ---- a beat
@@ -186,7 +186,7 @@ unfolding runFrom runByRuleFrom
 run-same s [] n = refl
 run-same s (c ∷ cs) n = rw (step-same s n c) (run-same s cs (stepByRule s c n))
 
-load-same : (s : List ℕ) → powerOn ≡ stateBy (soundLines s) (variablesOf powerOn) []
+pub load-same : (s : List ℕ) → powerOn ≡ stateBy (soundLines s) (variablesOf powerOn) []
 unfolding powerOn stateBy
 load-same s = in-flags _ (new-locked (soundLines s)) (new-cancelled (soundLines s)) (new-memory (soundLines s))
 

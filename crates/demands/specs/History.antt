@@ -8,7 +8,7 @@ use mathlib.Core.Option.{Option, none, some}
 use Prim.Native.Nat.{ℕ}
 use lib.Dec.{eqb}
 use Rattle.tokens.specs.Token.{WHEN, WHENEVER, FROM, EVERY}
-use Rattle.checking.specs.declared.check.Line.{Line}
+use Rattle.checking.specs.declared.line.Line.{Line}
 use Rattle.engine.specs.Turn.{Entry, beatIn, worked, locks, cancels, resets}
 
 -- newest entry first

@@ -1,4 +1,5 @@
--- Demand 3. History, Run and Acts are the definitions; Demand3, Consequences, Refusals and Unique the theorems, in their order; the files named ..Laws hold what these need; Cases are computed.
+-- Demand 3. History, Run, Acts and Deed are the definitions; Demand3, Consequences, WhatWasDone, Refusals and EngineUnique the theorems, in their order; the files named ..Laws
+-- hold what these need; Cases and PTable are computed.
 pub mod History
 pub mod Run
 pub mod FlagLaws
@@ -6,8 +7,14 @@ pub mod ActionRuleLaws
 pub mod TurnRuleLaws
 pub mod Demand3
 pub mod Acts
+pub mod Deed
+pub mod DeedLaws
 pub mod ActLaws
 pub mod Consequences
+pub mod WhatWasDone
+pub mod Asks
+pub mod AskLaws
+pub mod FromALoadOn
 pub mod Refusals
 pub mod EngineUnique
 pub mod Cases

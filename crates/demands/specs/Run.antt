@@ -11,7 +11,7 @@ use Rattle.tokens.specs.Token.{WHEN, FROM, EVERY, maxLines}
 use Rattle.tokens.specs.Descent.{Answer, good, stop, _>>=_}
 use Rattle.working.specs.Operators.{isYes}
 use Rattle.working.specs.Working.{conditionValue}
-use Rattle.checking.specs.declared.check.Line.{Line}
+use Rattle.checking.specs.declared.line.Line.{Line}
 use Rattle.engine.specs.declared.set.Lines.{Lines}
 use Rattle.engine.specs.declared.state.State.{State}
 use Rattle.engine.specs.declared.one_beat.Beaten.{Beaten}

@@ -12,18 +12,19 @@ use Rattle.tokens.specs.Token.{WHEN, WHENEVER, FROM, EVERY, maxLines}
 use Rattle.tokens.specs.Descent.{Answer, good, stop, _>>=_}
 use Rattle.working.specs.Operators.{isYes}
 use Rattle.working.specs.Working.{conditionValue}
-use Rattle.checking.specs.declared.check.Line.{Line}
+use Rattle.checking.specs.declared.line.Line.{Line}
 use Rattle.engine.specs.declared.set.Lines.{Lines}
 use Rattle.engine.specs.Set.{noLine}
 use Rattle.engine.specs.Action.{World, Note, Did, fromValueOrAlarm}
 use Rattle.engine.specs.Actions.{actionsOf}
 use Rattle.engine.specs.Turn.{Entry, worked, locks, lockEntry, Turned, counted, takesTurn, doTurn, tryTurn, turnOf, turnsFrom}
 use Rattle.engine.specs.Keyword.{tries, acts}
+use Rattle.tokens.specs.ChooseLaws.{through, choose-by}
 use Rattle.demands.specs.History.{History, after, isAutomatic, isCancelled, isLocked, wasTrue, everTrue, takesByRule, triesByRule, actsByRule}
 use Rattle.demands.specs.Run.{byRank, cancelledBy, lockedBy, remembersBy, memoryBy, tryByRule, turnByRule, turnsByRule}
 use Rattle.demands.specs.FlagLaws.{byRank-at, worked-memory, lock-locked}
-use Rattle.soundness.specs.GoodAnswers.{Ok, is-ok, bind-ok}
-use Rattle.demands.specs.ActionRuleLaws.{through, choose-by, dress, noteAll, dressDid, Live, Fair, actions-dress, actions-fair}
+use Rattle.tokens.specs.AnswerLaws.{Ok, is-ok, bind-ok}
+use Rattle.demands.specs.ActionRuleLaws.{dress, noteAll, dressDid, Live, Fair, actions-dress, actions-fair}
 
 pub after-append : (es fs : List Entry) (r : History) → after (es ++ fs) r ≡ after fs (after es r)
 after-append [] fs r = refl
@@ -159,7 +160,7 @@ module _ (ls : Lines) where
 
     -- the turn of a line of the set
     module _ (b : k < maxLines) (n : k < ls .count) where
-      takes-same : takesTurn s (ls .numbers) (byRank (cancelledBy ls r)) (isAutomatic r) (getD (ls .items) k noLine) k (flagged r x) ≡ takesByRule (getD (ls .items) k noLine) k r
+      pub takes-same : takesTurn s (ls .numbers) (byRank (cancelledBy ls r)) (isAutomatic r) (getD (ls .items) k noLine) k (flagged r x) ≡ takesByRule (getD (ls .items) k noLine) k r
       unfolding takesTurn
       takes-same =
           rw (byRank-at (cancelledBy ls r) k b, byRank-at (lockedBy ls r) k b, lt-ltb k (ls .count) n)

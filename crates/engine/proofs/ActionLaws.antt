@@ -1,4 +1,4 @@
--- Laws of one action: what a byte can hold, the bytes of one order more, and room for it.
+-- Laws of one action: what a byte can hold, what is removed, and the bytes of one order more.
 use mathlib.Core.Path.{_≡_}
 use mathlib.Core.Bool.{true, false}
 use mathlib.Core.List.{List, _++_, append-assoc}
@@ -11,17 +11,14 @@ use lib.Seq.{length-take-le, take-at}
 use lib.Signed.{ltZ, nonNeg}
 use mir.Syntax.{w8}
 use mir.Val.{Fits}
-use borrow.Author.Tests.{ltb-false, lt-ltb, le-ltb, le-leb}
-use Rattle.values.specs.Codes.{unsound}
+use borrow.Author.Tests.{ltb-false}
 use Rattle.values.specs.Numbers.{clash}
 use Rattle.values.specs.Choice.{both}
-use Rattle.engine.specs.Order.{orderBytes, hasRoom, withOrder}
+use Rattle.engine.specs.Order.{orderBytes, withOrder}
 use Rattle.engine.specs.OrderLaws.{eight-bytes}
 use Rattle.engine.specs.declared.order.Order.{Order}
 use Rattle.tokens.specs.Token.{isFifo}
-use Rattle.tokens.specs.Descent.{Answer, stop}
 use Rattle.checking.specs.Fault.{isRemoval}
-use Rattle.engine.specs.Action.{Did, roomForOne}
 
 -- a number that is not below 1 and not above 255 is a byte
 pub byte : (z : ℤ) → ltZ z (pos 1) ≡ false → ltZ (pos 255) z ≡ false → T (nonNeg z) × Fits w8 (natAbs z)
@@ -35,18 +32,7 @@ removal-fifo s p h = both (isFifo (getD s p 0)) _ h .0
 
 -- the orders are eight bytes more
 pub one-more : (out : List ℕ) (n : ℕ) (o : Order) → 8 * n + 8 ≤ length out → take (8 * (n + 1)) (withOrder out (n * 8) o) ≡ take (8 * n) out ++ orderBytes o
-unfolding withOrder hasRoom
 one-more out n o h =
     let m : n * 8 ≡ 8 * n = omega arith in
     let l : length (take (8 * n) out ++ orderBytes o) ≡ 8 * (n + 1) = rw (length-append, length-take-le (8 * n) out (omega arith), eight-bytes o) (omega arith) in
-    rw (m, le-leb (8 * n + 8) (length out) h, ← append-assoc, take-at (take (8 * n) out ++ orderBytes o) (drop (8 * n + 8) out) (8 * (n + 1)) l)
-
--- ---- room for one more order
-
-pub no-more : (n : ℕ) (a : Answer Did) → 256 ≤ n → roomForOne n a ≡ stop unsound
-unfolding roomForOne
-no-more n a h = simp (roomForOne, le-ltb n 256 h)
-
-pub one-fits : (n : ℕ) (a : Answer Did) → n < 256 → roomForOne n a ≡ a
-unfolding roomForOne
-one-fits n a h = simp (roomForOne, lt-ltb n 256 h)
+    rw (m, ← append-assoc, take-at (take (8 * n) out ++ orderBytes o) (drop (8 * n + 8) out) (8 * (n + 1)) l)

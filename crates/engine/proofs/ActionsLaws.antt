@@ -1,4 +1,4 @@
--- Laws of actions in a row: room for their orders, and what each turn of the loop comes to.
+-- Laws of actions in a row: what each turn of the loop comes to.
 use mathlib.Core.Path.{_≡_, refl, ap, _∙_}
 use mathlib.Core.Bool.{Bool, true, false}
 use mathlib.Core.List.{List, _++_}
@@ -7,27 +7,15 @@ use native.Mathlib.Omega.{arith}
 use lib.Dec.{eqb}
 use lib.IntN.{ℤ}
 use lib.ListN.{getD}
-use borrow.Author.Tests.{lt-ltb, le-ltb, ne-eqb}
+use borrow.Author.Tests.{ne-eqb}
 use Rattle.values.specs.Codes.{unsound}
 use Rattle.values.specs.Numbers.{clash}
 use Rattle.tokens.specs.Token.{END}
 use Rattle.tokens.specs.Descent.{Answer, good, stop, _>>=_}
 use Rattle.engine.specs.declared.action.Done.{Done}
 use Rattle.engine.specs.Action.{World, Did, actionOf}
-use Rattle.engine.specs.Actions.{actionsOf, withRoom}
+use Rattle.engine.specs.Actions.{actionsOf}
 use Rattle.engine.specs.ActionAnswers.{IsDone}
-
--- ---- room for orders
-
-pub no-room : (n : ℕ) (a : Answer Did) → 248 < n → withRoom n a ≡ stop unsound
-unfolding withRoom
-no-room n a h = simp (withRoom, lt-ltb 248 n h)
-
-pub with-room : (n : ℕ) (a : Answer Did) → n ≤ 248 → withRoom n a ≡ a
-unfolding withRoom
-with-room n a h = simp (withRoom, le-ltb 248 n h)
-
--- ---- actions in a row
 
 -- what they come to, apart from what is written down
 abbrev pub came : Answer Did → Answer (World × ℕ)

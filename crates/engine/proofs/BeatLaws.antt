@@ -4,11 +4,10 @@ use mathlib.Core.Bool.{Bool, true, false}
 use mathlib.Core.List.{List, _∷_, _++_}
 use Prim.Native.Nat.{ℕ, _*_, _/_, _<_, _≤_}
 use native.Mathlib.Omega.{arith}
-use borrow.Author.Tests.{eqb-true, lt-ltb, le-ltb}
+use borrow.Author.Tests.{lt-ltb, le-ltb}
 use lib.IntN.{ℤ}
 use lib.ListN.{length, take, drop}
 use Rattle.values.specs.Codes.{shortBuffer, wrongNumbers, unsound}
-use Rattle.values.specs.Choice.{both}
 use Rattle.tokens.specs.Descent.{Answer, good, stop, _>>=_}
 use Rattle.engine.specs.declared.action.Flags.{Flags}
 use Rattle.engine.specs.declared.one_beat.Beaten.{Beaten}
@@ -18,10 +17,6 @@ use Rattle.engine.specs.Sound.{stateSound, isSound}
 use Rattle.engine.specs.Turn.{Entry, beatIn, Turned, turnsFrom}
 use Rattle.engine.specs.Beat.{bufferSize, areInputs, begun, ended, beatOf, answered, buffered}
 use Rattle.engine.specs.ActionAnswers.{worldOf}
-
-pub inputs-length : (lent : List ℤ) → areInputs lent ≡ true → length lent ≡ 14
-unfolding areInputs
-inputs-length lent h = eqb-true _ _ (both _ _ h .0)
 
 module _ (s : List ℕ) (st : State) (automatic : Bool) (word : ℕ) (lent : List ℤ) (size : ℕ) where
   -- all turns, as the beat begins

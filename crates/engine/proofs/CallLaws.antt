@@ -2,21 +2,23 @@
 use mathlib.Core.Path.{_≡_, refl, sym, ap, _∙_}
 use mathlib.Core.Bool.{Bool, true, false, or-true, or-false}
 use mathlib.Core.List.{List, _++_, append-assoc}
-use Prim.Native.Nat.{ℕ, zero, suc, _+_, _-_, _<_, _≤_}
+use Prim.Native.Nat.{ℕ, _+_, _-_, _<_, _≤_}
 use native.Mathlib.Omega.{arith}
 use native.Mathlib.Numerals.{add-one}
 use lib.IntN.{ℤ, pos}
 use lib.ListN.{length, take, drop, getD, set, replicate, length-append, length-replicate, take-append-drop}
-use lib.Seq.{length-take-le, set-getD, getD-set-other}
+use lib.Seq.{length-take-le, set-getD}
 use borrow.Author.Tests.{eq-eqb, ne-eqb}
+use Rattle.values.specs.Codes.{unsound}
 use Rattle.values.proofs.Lists.{put, replicate-more}
-use Rattle.checking.specs.declared.check.Line.{Line}
+use Rattle.checking.specs.declared.line.Line.{Line}
 use Rattle.engine.specs.declared.set.Lines.{Lines}
 use Rattle.engine.specs.declared.state.State.{State}
 use Rattle.engine.specs.declared.calls.Called.{Called}
 use Rattle.engine.specs.declared.named_line.Found.{Found}
 use Rattle.engine.specs.Set.{noLine, soundLines}
 use Rattle.engine.specs.Sound.{isSound}
+use Rattle.engine.specs.ResetLaws.{reset-keeps}
 use Rattle.engine.specs.Calls.{called, resetCancelled, zeroed, resetState, resetCall}
 
 -- ---- what a call answers
@@ -38,12 +40,6 @@ module _ (st : State) (f g : Found) (e : f ≡ g) (change : ℕ → State) where
   called-done z = sym (does st f change z) ∙ ap (λ (x : Found). called st x change) e
 
 -- ---- reset
-
--- what reset has not come to is as it was
-pub reset-keeps : (ls : List Line) (cs : List Bool) (n m : ℕ) → n ≤ m → getD (resetCancelled ls cs n) m false ≡ getD cs m false
-unfolding resetCancelled
-reset-keeps ls cs zero m h = refl
-reset-keeps ls cs (suc n) m h = getD-set-other (resetCancelled ls cs n) n m _ false (λ z. omega arith) ∙ reset-keeps ls cs n m (omega arith)
 
 module _ (ls : List Line) (cs : List Bool) where
   pub reset-none : cs ≡ resetCancelled ls cs 0
@@ -83,7 +79,7 @@ module _ (c : List ℤ) where
       rw (e, ← append-assoc) (put p i n c l (pos 0) (pos 0) ∙ rw (append-assoc, replicate-more, m))
 
 module _ (s : List ℕ) (st : State) where
-  pub reset-unsound : isSound s st ≡ false → resetCall s st ≡ record { code = 22; state = st }
+  pub reset-unsound : isSound s st ≡ false → resetCall s st ≡ record { code = unsound; state = st }
   unfolding resetCall
   reset-unsound z = rw (resetCall, z)
 

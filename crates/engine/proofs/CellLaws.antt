@@ -1,19 +1,19 @@
--- Laws of cells that a loop writes: a list copied into another, inputs put in front; and the cells of a beat, part by part and by the count of numbers.
+-- Laws of cells that a loop writes: a list copied into another, inputs put in front; and the cells of a beat, part by part.
 use mathlib.Core.Path.{_≡_, refl, sym, _∙_}
-use mathlib.Core.Bool.{Bool, cond}
+use mathlib.Core.Bool.{cond}
 use mathlib.Core.List.{List, [], _++_, append-assoc, append-nil}
-use Prim.Native.Nat.{ℕ, zero, suc, _+_, _-_, _/_, _%_, _^_, _<_}
+use Prim.Native.Nat.{ℕ, _+_, _-_, _/_, _%_, _^_, _<_}
 use native.Mathlib.Omega.{arith}
 use native.Mathlib.Numerals.{add-one}
 use native.Mathlib.Nat.{pow-suc, div-div-eq-div-mul}
-use borrow.Author.Tests.{eq-eqb, ne-eqb}
 use lib.Dec.{eqb}
 use lib.IntN.{ℤ, pos}
-use lib.ListN.{length, replicate, take, drop, getD, set, length-append, length-drop, drop-of-length-le}
+use lib.ListN.{length, take, drop, getD, set, length-append, length-drop, drop-of-length-le}
 use lib.Seq.{paste, paste-suc, take-all, take-length, take-at, append-snoc}
 use Rattle.values.specs.Value.{unit}
 use Rattle.values.proofs.Lists.{put}
-use Rattle.engine.specs.Cells.{inputCell, inputCells, beatCells, cellsOf}
+use Rattle.engine.specs.Cells.{inputCell, inputCells}
+use Rattle.engine.specs.InputLaws.{length-inputs}
 
 -- ---- a list copied into another
 
@@ -25,11 +25,6 @@ module _ (d : List ℤ) (at : ℕ) (s : List ℤ) where
   copied n to e g = e ∙ rw (g, take-length, append-assoc)
 
 -- ---- inputs
-
-pub length-inputs : (word n : ℕ) → length (inputCells word n) ≡ n
-unfolding inputCells
-length-inputs word zero = refl
-length-inputs word (suc n) = simp (length-append, length-inputs word n) (omega arith)
 
 pub input-none : (word : ℕ) (d : List ℤ) → d ≡ inputCells word 0 ++ drop 0 d
 unfolding inputCells
@@ -69,14 +64,3 @@ kept d z ld lz =
     let t : take (length d - 30) (drop 30 d) ≡ drop 30 d = take-all (length d - 30) (drop 30 d) (rw length-drop (omega arith)) in
     let n : drop (0 + length (drop 30 d)) z ≡ [] = drop-of-length-le z {i = 0 + length (drop 30 d)} (rw length-drop (omega arith)) in
     rw (t, n, append-nil)
-
--- ---- what the call answers, by the count of numbers
-
-module _ (word : ℕ) (lent : List ℤ) (runs : List Bool) (c : List ℤ) where
-  pub cells-told : length lent ≡ 14 → cellsOf word lent runs c ≡ beatCells word lent runs c
-  unfolding cellsOf
-  cells-told h = rw (cellsOf, eq-eqb _ _ h)
-
-  pub cells-none : (length lent ≡ 14 → ⊥) → cellsOf word lent runs c ≡ replicate 122 (pos 0)
-  unfolding cellsOf
-  cells-none h = rw (cellsOf, ne-eqb _ _ h)

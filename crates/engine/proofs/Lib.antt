@@ -1,25 +1,16 @@
--- Laws that several proofs cite: SetLaws on the lines of a set.
--- SoundTestLaws: tests of each element and of each rank. NamedLineLaws: the line that a call names.
--- Laws that several proofs cite: CallLaws on the host's calls.
--- DriveAnswerLaws: what an answer says of the definition's.
--- Laws that several proofs cite: WriteAnswerLaws on the code's answers, WriteLaws on writes.
--- Laws that several proofs cite: ActionAnswerLaws on how the code holds a beat under way, ActionLaws on an action.
--- Laws that several proofs cite: ActionsLaws on actions in a row.
--- TimerLaws: timers that a loop grows.
--- CellLaws: cells that a loop writes, and the cells of a beat.
--- Laws that several proofs cite: TurnLaws on turns.
--- Laws that several proofs cite: BeatLaws on the beat.
+-- Laws that several proofs cite, each file beside the definitions it is about. Set and state: SetLaws, SoundTestLaws. The host's calls: NamedLineLaws, CallLaws.
+-- Orders and writes: DriveAnswerLaws, WriteAnswerLaws, WriteLaws. Actions: ActionAnswerLaws, ActionLaws, ActionsLaws. Turns: TurnLaws. The beat: TimerLaws, CellLaws, BeatLaws.
 pub mod SetLaws
 mod SoundTestLaws
 mod NamedLineLaws
-pub mod CallLaws
+mod CallLaws
 mod DriveAnswerLaws
 mod WriteAnswerLaws
 mod WriteLaws
 mod ActionAnswerLaws
 mod ActionLaws
 mod ActionsLaws
-mod TimerLaws
-pub mod CellLaws
 mod TurnLaws
-pub mod BeatLaws
+mod TimerLaws
+mod CellLaws
+mod BeatLaws

@@ -7,23 +7,24 @@ use native.Mathlib.Omega.{arith}
 use lib.Dec.{ltb}
 use lib.ListN.{getD}
 use borrow.Author.Tests.{ltb-true, ltb-false, lt-ltb, le-ltb}
+use Rattle.values.specs.Codes.{unsound, unknownLine}
 use Rattle.engine.specs.declared.set.Lines.{Lines}
 use Rattle.engine.specs.declared.state.State.{State}
 use Rattle.engine.specs.declared.named_line.Found.{Found}
 use Rattle.engine.specs.Set.{rankIn, soundLines}
 use Rattle.engine.specs.Sound.{isSound}
 use Rattle.engine.specs.NamedLine.{foundAt, found}
-use Rattle.engine.proofs.SetLaws.{sound-count}
+use Rattle.engine.specs.SetCountLaws.{sound-count}
 
 abbrev refused : ℕ → Found
 refused k = record { code = k; rank = 0 }
 
 module _ (count : ℕ) (cancelled : List Bool) (k : ℕ) where
-  at-none : count ≤ k → foundAt count cancelled k ≡ refused 40
+  at-none : count ≤ k → foundAt count cancelled k ≡ refused unknownLine
   unfolding foundAt
   at-none h = rw (foundAt, le-ltb k count h)
 
-  at-cancelled : k < count → getD cancelled k false ≡ true → foundAt count cancelled k ≡ refused 40
+  at-cancelled : k < count → getD cancelled k false ≡ true → foundAt count cancelled k ≡ refused unknownLine
   unfolding foundAt
   at-cancelled h z = simp (foundAt, lt-ltb k count h, z)
 
@@ -32,7 +33,7 @@ module _ (count : ℕ) (cancelled : List Bool) (k : ℕ) where
   at-rank h z = simp (foundAt, lt-ltb k count h, z)
 
 module _ (s : List ℕ) (st : State) (n : ℕ) where
-  pub found-unsound : isSound s st ≡ false → found s st n ≡ refused 22
+  pub found-unsound : isSound s st ≡ false → found s st n ≡ refused unsound
   unfolding found
   found-unsound z = rw (found, z)
 
@@ -42,10 +43,10 @@ module _ (s : List ℕ) (st : State) (n : ℕ) where
     unfolding found
     at = rw (e, g ∙ ap (λ (y : Lines). rankIn (y .numbers) n 0) e) (rw (found, z))
 
-    pub found-none : l .count ≤ k → found s st n ≡ refused 40
+    pub found-none : l .count ≤ k → found s st n ≡ refused unknownLine
     found-none h = at ∙ at-none (l .count) (st .cancelled) k h
 
-    pub found-cancelled : k < l .count → getD (st .cancelled) k false ≡ true → found s st n ≡ refused 40
+    pub found-cancelled : k < l .count → getD (st .cancelled) k false ≡ true → found s st n ≡ refused unknownLine
     found-cancelled h c = at ∙ at-cancelled (l .count) (st .cancelled) k h c
 
     pub found-rank : k < l .count → getD (st .cancelled) k false ≡ false → found s st n ≡ record { code = 0; rank = k }

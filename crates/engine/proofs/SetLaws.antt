@@ -1,20 +1,21 @@
--- Laws of the lines of a set: a turn of each loop over them, and how many there are.
+-- Laws of the lines of a set: a turn of each loop over them or over the tokens of one.
 use mathlib.Core.Path.{_≡_, refl, sym, ap, _∙_}
 use mathlib.Core.Bool.{Bool, true, false}
-use mathlib.Core.List.{List}
+use mathlib.Core.List.{List, map}
 use Prim.Native.Nat.{ℕ, zero, suc, _+_, _-_, _<_, _≤_}
 use native.Mathlib.Omega.{arith}
 use native.Mathlib.Nat.{sub-zero}
 use native.Mathlib.Numerals.{add-one}
-use lib.Dec.{eqb, ltb}
+use lib.Dec.{eqb}
 use lib.ListN.{length, drop, getD, set, replicate, drop-of-length-le}
 use lib.Seq.{drop-cons}
-use borrow.Author.Tests.{ltb-true, ltb-false, lt-ltb, le-ltb, eq-eqb, ne-eqb}
-use Rattle.checking.specs.declared.check.Line.{Line}
+use borrow.Author.Tests.{lt-ltb, le-ltb, eq-eqb, ne-eqb}
+use Rattle.checking.specs.declared.line.Line.{Line}
 use Rattle.tokens.specs.Token.{END, whole, setSize}
 use Rattle.checking.specs.Fault.{lineAt}
 use Rattle.engine.specs.declared.set.Lines.{Lines}
-use Rattle.engine.specs.Set.{lineCount, lineOf, noLine, noLines, linesFrom, linesRead, rankIn, isLock, namesKnown, allKnown, namedLines, soundLines}
+use Rattle.values.specs.PutAt.{putAt}
+use Rattle.engine.specs.Set.{lineCount, withoutMark, ended, lineOf, noLine, noLines, linesFrom, linesRead, rankIn, isLock, namesKnown, allKnown, namedLines, soundLines}
 
 one-less : (k : ℕ) → suc k - 1 ≡ k
 one-less k = omega arith
@@ -22,6 +23,15 @@ one-less k = omega arith
 -- what is left of n before rank k
 pub turn : (n k : ℕ) → k < n → n - k ≡ suc (n - (k + 1))
 turn n k h = omega arith
+
+-- ---- tokens that are put into a set: those from place i on at place p
+
+module _ (ts s : List ℕ) (p i : ℕ) where
+  pub tokens-next : i < length ts → putAt s p (ended (map withoutMark (drop i ts))) ≡ putAt (set s p (withoutMark (getD ts i 0))) (p + 1) (ended (map withoutMark (drop (i + 1) ts)))
+  tokens-next h = rw (drop-cons ts i 0 h, add-one i)
+
+  pub tokens-end : length ts ≤ i → putAt s p (ended (map withoutMark (drop i ts))) ≡ set s p END
+  tokens-end h = rw (drop-of-length-le ts {i = i} h)
 
 -- ---- the rank of a number
 
@@ -126,37 +136,6 @@ read-many s h = rw (linesRead, lt-ltb 32 (lineCount s) h)
 pub read-few : (s : List ℕ) (n : ℕ) → n ≡ lineCount s → n ≤ 32 → linesFrom s (n - 0) 0 0 (replicate 32 0) (replicate 32 noLine) ≡ linesRead s
 unfolding linesRead
 read-few s n e h = rw (sub-zero, e, linesRead, le-ltb 32 (lineCount s) (rw e at h))
-
--- ---- there are at most 32 lines
-
-abbrev choose : Bool → Lines → Lines → Lines
-choose b x y = elim b [ true ↦ x | false ↦ y ]
-
-few : (b : Bool) (x y : Lines) → x .count ≤ 32 → y .count ≤ 32 → choose b x y .count ≤ 32
-few true x y h k = h
-few false x y h k = k
-
-from-count : (s : List ℕ) (m k last : ℕ) (ns : List ℕ) (ls : List Line) → k + m ≤ 32 → linesFrom s m k last ns ls .count ≤ 32
-unfolding linesFrom
-from-count s zero k last ns ls h = omega arith
-from-count s (suc m) k last ns ls h =
-    few (eqb (lineOf s k .fault) 0) _ noLines
-    (few (ltb last (lineOf s k .number)) _ noLines
-    (from-count s m (k + 1) (lineOf s k .number) (set ns k (lineOf s k .number)) (set ls k (lineOf s k)) (omega arith))
-    (omega arith)) (omega arith)
-
-pub read-count : (s : List ℕ) → linesRead s .count ≤ 32
-read-count s = go (ltb 32 (lineCount s)) refl
-  where
-    go : (b : Bool) → ltb 32 (lineCount s) ≡ b → linesRead s .count ≤ 32
-    go true e = rw (read-many s (ltb-true 32 (lineCount s) e)) (omega arith)
-    go false e =
-        let h = ltb-false 32 (lineCount s) e in
-        rw (← read-few s (lineCount s) refl h) (from-count s (lineCount s - 0) 0 0 (replicate 32 0) (replicate 32 noLine) (omega arith))
-
-pub sound-count : (s : List ℕ) → soundLines s .count ≤ 32
-unfolding soundLines namedLines
-sound-count s = few (allKnown s (linesRead s .numbers) (linesRead s .count) 0) (linesRead s) noLines (read-count s) (omega arith)
 
 -- ---- the lines of a set that passes each check
 

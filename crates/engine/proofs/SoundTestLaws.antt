@@ -1,4 +1,4 @@
--- Laws of soundness: a turn of a loop that tests each element of a list, and of the one over the ranks.
+-- Laws of soundness: a turn of a loop that tests each element of a list, and of one that counts, over the ranks or the FIFOs.
 use mathlib.Core.Path.{_≡_, refl, sym, ap, _∙_}
 use mathlib.Core.Bool.{Bool, true, false, cond, _&&_, _||_}
 use mathlib.Core.List.{List, _∷_}
@@ -8,10 +8,13 @@ use native.Mathlib.Numerals.{add-one}
 use lib.IntN.{ℤ, pos}
 use lib.ListN.{length, drop, getD, drop-of-length-le}
 use lib.Seq.{drop-cons}
+use Rattle.values.specs.Codes.{notAllowed}
 use Rattle.values.specs.Numbers.{clash}
 use Rattle.values.specs.Value.{inRange, equalTo, outputOf}
 use Rattle.values.specs.declared.arithmetic.Worked.the-variants.{Value, Alarm}
-use Rattle.engine.specs.Sound.{allRanged, isCell, areCells, allZero, isFlag, areFlags, stateSound, isSound}
+use Rattle.engine.specs.Sound.{allRanged, isCell, areCells, allZero, isFifoSound, areFifos, isFlag, areFlags, stateSound, isSound}
+use Rattle.tokens.specs.Token.{maxLines}
+use Rattle.engine.specs.State.{fifos}
 use Rattle.engine.specs.Set.{soundLines}
 use Rattle.engine.specs.declared.set.Lines.{Lines}
 use Rattle.engine.specs.declared.state.State.{State}
@@ -67,17 +70,46 @@ module _ (xs : List ℤ) (i : ℕ) where
     unfolding areCells
     cells-none = rw (drop-of-length-le xs {i = i} l)
 
--- ---- the ranks from k on
+-- ---- a rule f for m numbers from k on: the test p of the first, and the rule for the rest; x is what the test of k said
+
+module _ (p : ℕ → Bool) (f : ℕ → ℕ → Bool) (some : (m k : ℕ) → f (suc m) k ≡ (p k && f m (k + 1))) (n k : ℕ) (l : k < n) (x : Bool) (e : x ≡ p k) where
+  counts : f (n - k) k ≡ (x && f (n - (k + 1)) (k + 1))
+  counts = rw (turn n k l, e) (some (n - (k + 1)) k)
+
+  number-not : x ≡ false → f (n - k) k ≡ false
+  number-not z = counts ∙ rw z
+
+  number-on : x ≡ true → f (n - k) k ≡ f (n - (k + 1)) (k + 1)
+  number-on z = counts ∙ rw z
+
+module _ (r c : List ℤ) (k : ℕ) where
+  module _ (l : k < fifos) (x : Bool) where
+    pub fifos-not : x ≡ isFifoSound r c k → x ≡ false → areFifos r c (fifos - k) k ≡ false
+    unfolding areFifos
+    fifos-not = number-not (isFifoSound r c) (areFifos r c) (λ m k. refl) fifos k l x
+
+    pub fifos-on : x ≡ isFifoSound r c k → x ≡ true → areFifos r c (fifos - k) k ≡ areFifos r c (fifos - (k + 1)) (k + 1)
+    unfolding areFifos
+    fifos-on = number-on (isFifoSound r c) (areFifos r c) (λ m k. refl) fifos k l x
+
+  pub fifos-none : (m : ℕ) → m ≤ 0 → areFifos r c m k ≡ true
+  unfolding areFifos
+  fifos-none zero h = refl
+  fifos-none (suc m) h = absurd (omega arith)
 
 module _ (count : ℕ) (locked cancelled memory : List Bool) (k : ℕ) where
-  module _ (l : k < 32) (x : Bool) (e : x ≡ isFlag count k (getD locked k false) (getD cancelled k false) (getD memory k false)) where
-    pub flags-not : x ≡ false → areFlags count locked cancelled memory (32 - k) k ≡ false
-    unfolding areFlags
-    flags-not z = rw (turn 32 k l) (simp (areFlags, sym e ∙ z))
+  -- what is tested of a rank
+  abbrev flag : ℕ → Bool
+  flag i = isFlag count i (getD locked i false) (getD cancelled i false) (getD memory i false)
 
-    pub flags-on : x ≡ true → areFlags count locked cancelled memory (32 - k) k ≡ areFlags count locked cancelled memory (32 - (k + 1)) (k + 1)
+  module _ (l : k < maxLines) (x : Bool) where
+    pub flags-not : x ≡ flag k → x ≡ false → areFlags count locked cancelled memory (maxLines - k) k ≡ false
     unfolding areFlags
-    flags-on z = rw (turn 32 k l) (simp (areFlags, sym e ∙ z))
+    flags-not = number-not flag (areFlags count locked cancelled memory) (λ m k. refl) maxLines k l x
+
+    pub flags-on : x ≡ flag k → x ≡ true → areFlags count locked cancelled memory (maxLines - k) k ≡ areFlags count locked cancelled memory (maxLines - (k + 1)) (k + 1)
+    unfolding areFlags
+    flags-on = number-on flag (areFlags count locked cancelled memory) (λ m k. refl) maxLines k l x
 
   pub flags-none : (m : ℕ) → m ≤ 0 → areFlags count locked cancelled memory m k ≡ true
   unfolding areFlags
@@ -90,9 +122,9 @@ pub output-alarm : (v : ℤ) (k : ℕ) → outputOf v ≡ Alarm k → k ≡ 0 �
 unfolding outputOf
 output-alarm v k e z = go (equalTo v (pos 0) || equalTo v (pos 1000)) e
   where
-    go : (b : Bool) → cond b (Value v) (Alarm 34) ≡ Alarm k → ⊥
+    go : (b : Bool) → cond b (Value v) (Alarm notAllowed) ≡ Alarm k → ⊥
     go true q = clash (cc)
-    go false q = let y : 34 ≡ k = cc in omega arith
+    go false q = let y : notAllowed ≡ k = cc in omega arith
 
 -- ---- a set, whose lines are l, and a state, of which x was said
 

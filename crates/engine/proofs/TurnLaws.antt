@@ -6,22 +6,22 @@ use Prim.Native.Nat.{ℕ, zero, suc, _+_, _-_, _*_, _^_, _<_, _≤_}
 use native.Mathlib.Nat.{pow-le-pow-right, two-pow-succ}
 use native.Mathlib.Numerals.{add-one}
 use native.Mathlib.Omega.{arith}
-use borrow.Author.Tests.{lt-ltb, le-ltb}
 use lib.IntN.{ℤ}
 use lib.ListN.{getD}
-use Rattle.values.specs.Codes.{unsound}
 use Rattle.values.specs.Numbers.{clash}
+use Rattle.tokens.specs.Token.{maxLines}
 use Rattle.tokens.specs.Descent.{Answer, good, stop, _>>=_}
 use Rattle.working.specs.Operators.{isYes}
 use Rattle.working.specs.Working.{conditionValue}
-use Rattle.checking.specs.declared.check.Line.{Line}
+use Rattle.checking.specs.declared.line.Line.{Line}
+use Rattle.engine.specs.declared.action.Flags.{Flags}
 use Rattle.engine.specs.declared.action.Done.{Done}
 use Rattle.engine.specs.Set.{noLine}
 use Rattle.engine.specs.Action.{World, Did, fromValueOrAlarm}
 use Rattle.engine.specs.Turn.{Entry, worked, Turned, lockEntry, remembered, doTurn, tryTurn, turnOf, turnsFrom}
 use Rattle.engine.specs.Keyword.{tries, acts, remembers}
 use Rattle.engine.specs.ActionAnswers.{worldOf, IsDone}
-use Rattle.engine.specs.TurnAnswers.{IsTurned, withLines}
+use Rattle.engine.specs.TurnAnswers.{IsTurned, BeforeTurn}
 use Rattle.values.specs.Choice.{contrary}
 
 -- what actions did is what their turn comes to
@@ -31,20 +31,20 @@ done-turned x r c out (stop k) es h = h
 
 -- ---- the bits of the word
 
-pub doubled : (k : ℕ) → k < 32 → 2 ^ k + 2 ^ k ≤ 4294967296
-doubled k h = omega (arith, pow-le-pow-right {n = 2} (omega arith) {i = suc k} {j = 32} (omega arith), two-pow-succ k)
+-- a bit is half of the next
+pub next-bit : (k : ℕ) → 2 ^ (k + 1) ≡ 2 ^ k + 2 ^ k
+next-bit k = rw (add-one k, two-pow-succ k)
 
--- a line's bit, and the bits of those before it
-pub room : (k : ℕ) {bit acted : ℕ} → k < 32 → bit ≡ 2 ^ k → acted < bit → acted + bit < 4294967296
-room k h e f = omega (arith, doubled k h)
+-- the bits of any line, and so their word, fit 64 bits
+pub word-fits : (k : ℕ) → k ≤ maxLines → 2 ^ k ≤ 2 ^ maxLines
+word-fits k h = pow-le-pow-right {n = 2} (omega arith) {i = k} {j = maxLines} h
 
--- the word of at most 32 lines
-pub word-fits : (k : ℕ) → k ≤ 32 → 2 ^ k ≤ 4294967296
-word-fits k h = omega (arith, pow-le-pow-right {n = 2} (omega arith) {i = k} {j = 32} h)
+-- a turn may leave all as it was, and what is left before one turn is no more than may be before a later
+pub same-turn : (k : ℕ) (f : Flags) → BeforeTurn k f → BeforeTurn (k + 1) f
+same-turn k f h = (omega arith, omega (arith, next-bit k))
 
--- the next bit is twice as much
-pub next-bit : (k : ℕ) {bit : ℕ} → bit ≡ 2 ^ k → bit * 2 ≡ 2 ^ (k + 1)
-next-bit k e = rw (e, add-one k, two-pow-succ k) (omega arith)
+pub last-turn : (k : ℕ) (f : Flags) → k ≤ maxLines → BeforeTurn k f → BeforeTurn maxLines f
+last-turn k f l h = (omega arith, omega (arith, word-fits k l))
 
 -- ---- the turn of a line that is tried
 
@@ -111,13 +111,3 @@ module _ (s numbers : List ℕ) (cancelled : List Bool) (automatic : Bool) (ls :
         go : (y : Answer Turned) → passed y ≡ passed (y >>= λ u. good (record { world = u .world; entries = t .entries ++ u .entries }))
         go (good u) = refl
         go (stop a) = refl
-
--- ---- the lines of a set
-
-pub few-lines : (n : ℕ) (a : Answer Turned) → n ≤ 32 → withLines n a ≡ a
-unfolding withLines
-few-lines n a h = simp (withLines, le-ltb 32 n h)
-
-pub many-lines : (n : ℕ) (a : Answer Turned) → 32 < n → withLines n a ≡ stop unsound
-unfolding withLines
-many-lines n a h = simp (withLines, lt-ltb 32 n h)

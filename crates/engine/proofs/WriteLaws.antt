@@ -1,31 +1,18 @@
--- Laws of writes: what a change of a FIFO comes to, and what is taken from one.
+-- Laws of writes: what a change of a FIFO comes to.
 use mathlib.Core.Path.{_≡_, _∙_}
-use mathlib.Core.Bool.{true, false}
 use mathlib.Core.List.{List}
 use Prim.Native.Nat.{ℕ, _+_, _-_}
 use lib.IntN.{ℤ, pos}
 use lib.ListN.{getD}
 use mir.Syntax.{w32}
 use mir.Val.{SFits, toZ, ofZ}
-use Rattle.values.specs.Codes.{unsound}
 use Rattle.values.specs.declared.fifo.Moved.{Moved}
 use Rattle.values.proofs.Signed.{back}
-use Rattle.tokens.specs.Token.{FIFO1, isFifo}
-use Rattle.tokens.specs.Descent.{stop}
+use Rattle.tokens.specs.Token.{FIFO1}
 use Rattle.working.specs.Variables.{counts, countAt, asCount, run}
-use Rattle.engine.specs.Write.{changeAnswer, changed, moved, changeFifo, takeOldest}
+use Rattle.engine.specs.Write.{changeAnswer, changed, moved, changeFifo}
 
 -- a FIFO is changed by what its cell says as a count
 pub fifo-changes : (r c : List ℤ) (op w n : ℕ) (v : ℤ) {m : Moved} → SFits w32 (getD c (counts + (w - FIFO1)) (pos 0)) → n ≡ asCount (toZ w32 (ofZ w32 (getD c (counts + (w - FIFO1)) (pos 0)))) → m ≡ changeAnswer op (run r w) n v → changeFifo r c op w v ≡ moved r c w (changed op (run r w) n v) m
 unfolding changeFifo countAt
 fifo-changes r c op w n v h e f = let g : n ≡ asCount (getD c (counts + (w - FIFO1)) (pos 0)) = e ∙ rw (back w32 h) in rw (f, g)
-
--- what is taken from a FIFO
-pub oldest-taken : (r c : List ℤ) (w : ℕ) → isFifo w ≡ true → takeOldest r c w ≡ changeFifo r c 1 w (pos 0)
-unfolding takeOldest
-oldest-taken r c w h = simp (takeOldest, h)
-
--- another word takes nothing
-pub none-taken : (r c : List ℤ) (w : ℕ) → isFifo w ≡ false → takeOldest r c w ≡ stop unsound
-unfolding takeOldest
-none-taken r c w h = simp (takeOldest, h)

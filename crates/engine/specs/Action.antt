@@ -7,7 +7,7 @@ use lib.IntN.{ℤ, pos, natAbs}
 use lib.ListN.{getD, set}
 use Rattle.values.specs.Codes.{unsound}
 use Rattle.values.specs.Value.{lessThan}
-use Rattle.engine.specs.Order.{orderBytes, maxOrders}
+use Rattle.engine.specs.Order.{orderBytes}
 use Rattle.engine.specs.declared.order.Order.{Order}
 use Rattle.engine.specs.declared.order.Kind.the-variants as K
 use Rattle.tokens.specs.Token.{END, M, SETAL, LOCK, isVariable, isDrive, whole, maxLines}
@@ -128,7 +128,3 @@ module _ (s numbers : List ℕ) (cancelled : List Bool) (number : ℕ) where
               | false ↦ elim (isDrive (token s p)) [ true ↦ driveOf s number x (token s p) p | false ↦ commandOf x (token s p) p ]
             ]
       ]
-
--- an action is taken only where the n orders so far leave room for one more: those of a beat always do
-unfoldable pub roomForOne : ℕ → Answer Did → Answer Did
-roomForOne n a = elim (ltb n maxOrders) [ true ↦ a | false ↦ stop unsound ]

@@ -9,12 +9,13 @@ use Rattle.tokens.specs.Descent.{Answer, good, stop}
 use Rattle.engine.specs.declared.action.Flags.{Flags}
 use Rattle.engine.specs.declared.action.RightSide.{RightSide}
 use Rattle.engine.specs.declared.action.Done.{Done}
+use Rattle.engine.specs.Order.{orderSize}
 use Rattle.engine.specs.Action.{World, Taken, Did}
 use Rattle.engine.specs.WriteAnswers.{varsOf}
 
--- the orders are the bytes written so far, eight for each
+-- the orders are the bytes written so far
 abbrev pub worldOf : List ℤ → List ℤ → List ℕ → Flags → World
-worldOf r c out f = record { vars = varsOf r c (f .runs); locked = f .locked; memory = f .memory; acted = f .acted; orders = take (8 * f .count) out }
+worldOf r c out f = record { vars = varsOf r c (f .runs); locked = f .locked; memory = f .memory; acted = f .acted; orders = take (orderSize * f .count) out }
 
 abbrev pub IsWorked : RightSide → Answer (ℤ × ℕ) → Type 0
 IsWorked x (good a) = (x .good ≡ true) × ((x .value ≡ a .0) × (x .next ≡ a .1))

@@ -1,13 +1,12 @@
 -- The actions of a line in a row (document 01, "A beat"): each finds the world as the one before it left it, and the first alarm ends them. Definitions only.
 use mathlib.Core.Bool.{Bool, true, false}
 use mathlib.Core.List.{List, _++_}
-use Prim.Native.Nat.{ℕ, zero, suc, _-_}
-use lib.Dec.{eqb, ltb}
+use Prim.Native.Nat.{ℕ, zero, suc}
+use lib.Dec.{eqb}
 use Rattle.values.specs.Codes.{unsound}
-use Rattle.tokens.specs.Token.{END, maxActions}
+use Rattle.tokens.specs.Token.{END}
 use Rattle.tokens.specs.Descent.{token, Answer, good, stop, _>>=_}
 use Rattle.engine.specs.Action.{World, Did, actionOf}
-use Rattle.engine.specs.Order.{maxOrders}
 
 module _ (s numbers : List ℕ) (cancelled : List Bool) (number : ℕ) where
   -- the actions from p on, left to right, at most j of them
@@ -19,7 +18,3 @@ module _ (s numbers : List ℕ) (cancelled : List Bool) (number : ℕ) where
         | true ↦ good d
         | false ↦ actionsOf j (d .world) (d .next) >>= λ e. good (record { world = e .world; next = e .next; notes = d .notes ++ e .notes })
       ]
-
--- actions are taken only where the n orders so far leave room for those of one more line: those of a beat always do
-unfoldable pub withRoom : ℕ → Answer Did → Answer Did
-withRoom n a = elim (ltb (maxOrders - maxActions) n) [ true ↦ stop unsound | false ↦ a ]

@@ -1,7 +1,7 @@
 -- A beat: its checks 22, 20, 21 in that order, the turns, and the undoing of all by the first alarm (document 01, "A beat" and "Codes"). Definitions only.
 use mathlib.Core.Bool.{Bool, true, false, _&&_}
 use mathlib.Core.List.{List, [], _∷_, _++_}
-use Prim.Native.Nat.{ℕ, _/_}
+use Prim.Native.Nat.{ℕ, _*_, _/_}
 use lib.Dec.{eqb, ltb}
 use lib.IntN.{ℤ}
 use lib.ListN.{length, drop}
@@ -10,18 +10,19 @@ use Rattle.tokens.specs.Descent.{Answer, good, stop, _>>=_}
 use Rattle.engine.specs.declared.state.State.{State}
 use Rattle.engine.specs.declared.one_beat.Beaten.{Beaten}
 use Rattle.engine.specs.Set.{soundLines}
-use Rattle.engine.specs.Cells.{inputCount, beatCells}
+use Rattle.engine.specs.Order.{orderSize, maxOrders}
+use Rattle.engine.specs.Cells.{inputCount, numberCount, beatCells}
 use Rattle.engine.specs.Sound.{isSound, allRanged}
 use Rattle.engine.specs.Action.{World}
 use Rattle.engine.specs.Turn.{beatIn, Turned, turnsFrom}
 
--- the order buffer
+-- the bytes of the order buffer
 abbrev pub bufferSize : ℕ
-bufferSize = 2048
+bufferSize = maxOrders * orderSize
 
 -- 14 numbers, each within range
 unfoldable pub areInputs : List ℤ → Bool
-areInputs lent = eqb (length lent) 14 && allRanged lent
+areInputs lent = eqb (length lent) numberCount && allRanged lent
 
 -- the beat as it begins
 unfoldable pub begun : State → ℕ → List ℤ → World
@@ -64,7 +65,7 @@ beatOf s st automatic word lent size =
 
 -- what the call answers
 abbrev pub answered : State → Answer Turned → Beaten
-answered st (good t) = record { code = 0; orders = length (t .world .orders) / 8; acted = t .world .acted; state = ended st (t .world) }
+answered st (good t) = record { code = 0; orders = length (t .world .orders) / orderSize; acted = t .world .acted; state = ended st (t .world) }
 answered st (stop k) = record { code = k; orders = 0; acted = 0; state = st }
 
 -- the order buffer afterwards

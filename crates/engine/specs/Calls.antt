@@ -1,17 +1,18 @@
 -- The host's calls lock, unlock, cancel and reset (document 01, "A beat" and "Codes"). Definitions only.
 use mathlib.Core.Bool.{Bool, true, false, not, _||_}
 use mathlib.Core.List.{List, _++_}
-use Prim.Native.Nat.{ℕ, zero, suc}
+use Prim.Native.Nat.{ℕ, zero, suc, _-_}
 use lib.Dec.{eqb}
 use lib.IntN.{ℤ, pos}
 use lib.ListN.{getD, set, take, drop, replicate}
 use Rattle.values.specs.Codes.{unsound}
-use Rattle.checking.specs.declared.check.Line.{Line}
+use Rattle.checking.specs.declared.line.Line.{Line}
 use Rattle.engine.specs.declared.state.State.{State}
 use Rattle.engine.specs.declared.calls.Called.{Called}
 use Rattle.engine.specs.declared.named_line.Found.{Found}
 use Rattle.engine.specs.NamedLine.{found}
 use Rattle.tokens.specs.Token.{maxLines}
+use Rattle.engine.specs.State.{timerCount, markerCells, countCells}
 use Rattle.engine.specs.Set.{noLine, soundLines}
 use Rattle.engine.specs.Sound.{isSound}
 
@@ -52,14 +53,14 @@ resetCancelled ls cs (suc n) = set (resetCancelled ls cs n) n (getD cs n false |
 
 -- markers, parameters and timers 0
 unfoldable pub zeroed : List ℤ → List ℤ
-zeroed c = take 16 c ++ (replicate 72 (pos 0) ++ drop 88 c)
+zeroed c = take markerCells c ++ (replicate (countCells - markerCells) (pos 0) ++ drop countCells c)
 
 -- reset cancels every ID line, unlocks and clears the memory of IDS lines, zeroes markers and parameters, stops timers at 0; R, FIFOs and outputs stay
 unfoldable pub resetState : List Line → ℕ → State → State
 resetState ls count st = record {
   r = st .r;
   cells = zeroed (st .cells);
-  runs = replicate 8 false;
+  runs = replicate timerCount false;
   locked = replicate maxLines false;
   cancelled = resetCancelled ls (st .cancelled) count;
   memory = replicate maxLines false;

@@ -1,15 +1,22 @@
--- The cells of a beat: 30 input cells, then those of the state, whose running timers have grown. Definitions only.
-use mathlib.Core.Bool.{Bool, true, false, cond}
+-- The cells of a beat: those of its inputs, then those of the state, whose running timers have grown. Definitions only.
+use mathlib.Core.Bool.{Bool, cond}
 use mathlib.Core.List.{List, [], _∷_, _++_}
 use Prim.Native.Nat.{ℕ, zero, suc, _+_, _/_, _%_, _^_}
 use lib.Dec.{eqb}
 use lib.IntN.{ℤ, pos}
-use lib.ListN.{length, replicate}
 use Rattle.values.specs.Value.{unit}
+use Rattle.engine.specs.State.{timerCount}
 use Rattle.engine.specs.Timers.{grownCells}
 
+-- the bits of the input word, and the numbers that the host lends
+abbrev pub bitCount : ℕ
+bitCount = 16
+
+abbrev pub numberCount : ℕ
+numberCount = 14
+
 abbrev pub inputCount : ℕ
-inputCount = 30
+inputCount = bitCount + numberCount
 
 -- bit i-1 of the input word is $A_IN[i]
 abbrev pub inputCell : ℕ → ℕ → ℤ
@@ -19,14 +26,6 @@ unfoldable pub inputCells : ℕ → ℕ → List ℤ
 inputCells word zero = []
 inputCells word (suc n) = inputCells word n ++ (inputCell word n ∷ [])
 
--- the cells of a beat: inputs, the 14 numbers, the state's cells with the timers grown
+-- the cells of a beat: inputs, the numbers, the state's cells with the timers grown
 unfoldable pub beatCells : ℕ → List ℤ → List Bool → List ℤ → List ℤ
-beatCells word lent runs c = inputCells word 16 ++ (lent ++ grownCells runs c 8)
-
--- what the call answers: these cells for 14 numbers, and for another count of them cells that are all 0
-unfoldable pub cellsOf : ℕ → List ℤ → List Bool → List ℤ → List ℤ
-cellsOf word lent runs c =
-    elim (eqb (length lent) 14) [
-      | true ↦ beatCells word lent runs c
-      | false ↦ replicate 122 (pos 0)
-    ]
+beatCells word lent runs c = inputCells word bitCount ++ (lent ++ grownCells runs c timerCount)

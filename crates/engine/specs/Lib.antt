@@ -1,21 +1,14 @@
--- Set: what the array of a set holds, and when that is sound. Definitions only.
--- State what a state is, Sound when it is sound with its set, NamedLine the line that a call names. Definitions only.
--- Calls: the host's calls, in document 01's order. Definitions only.
--- The bytes of an order, and how many a beat may have. Order is the definitions, OrderLaws the laws that follow from them.
--- Drive the orders of POS, FA and MOV, DriveAnswers how the code holds an answer. Definitions only.
--- Write what a write makes of the variables, WriteAnswers how the code holds it. Definitions only.
--- Action what one action of a line makes of the beat under way, ActionAnswers how the code holds it. Definitions only.
--- Actions what the actions of a line in a row make of the beat under way. Definitions only.
--- Keyword: when a line tries its condition, when it acts, what it remembers. Definitions only.
--- Timers: the timers among the cells. Definitions only.
--- Cells: the cells of a beat. Definitions only.
--- Turn what a turn makes of the beat under way, and all turns by rising number; TurnAnswers how the code answers one. Definitions only.
--- What the beat's promise means: Beat its checks, its answer and its orders. Definitions only.
+-- In the order in which they are read. Files ending in Answers say how the code holds what a definition gives, files ending in Laws what follows from them.
+-- Set and state: Set, State, Sound. The host's calls: NamedLine, Calls. Orders and writes: Order, Drive, Write.
+-- Actions: Action, Actions. Turns: Keyword, Turn. The beat: Timers, Cells, Beat.
 pub mod Set
+pub mod SetCountLaws
+pub mod SetLinesLaws
 pub mod State
 pub mod Sound
 pub mod NamedLine
 pub mod Calls
+pub mod ResetLaws
 pub mod Order
 pub mod OrderLaws
 pub mod Drive
@@ -26,8 +19,9 @@ pub mod Action
 pub mod ActionAnswers
 pub mod Actions
 pub mod Keyword
-pub mod Timers
-pub mod Cells
 pub mod Turn
 pub mod TurnAnswers
+pub mod Timers
+pub mod Cells
 pub mod Beat
+pub mod InputLaws

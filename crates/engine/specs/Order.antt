@@ -1,9 +1,7 @@
 -- The bytes of an order, and how many orders a beat may have (document 01, "A beat"). Definitions only; OrderLaws has what follows from them.
-use mathlib.Core.Bool.{Bool, cond}
 use mathlib.Core.List.{List, [], _∷_, _++_}
 use Prim.Native.Nat.{ℕ, _+_, _*_, _/_, _%_}
-use lib.Dec.{leb}
-use lib.ListN.{length, take, drop}
+use lib.ListN.{take, drop}
 use Rattle.tokens.specs.Token.{maxLines, maxActions}
 use Rattle.values.specs.Complement.{twosComplement}
 use Rattle.engine.specs.declared.order.Kind.{Kind}
@@ -33,10 +31,6 @@ fourBytes b = b % 256 ∷ b / 256 % 256 ∷ b / 65536 % 256 ∷ b / 16777216 ∷
 unfoldable pub orderBytes : Order → List ℕ
 orderBytes o = kindNumber (o .kind) ∷ o .line ∷ o .target ∷ 0 ∷ fourBytes (twosComplement (o .value))
 
--- there are eight bytes from place `at` on
-unfoldable pub hasRoom : List ℕ → ℕ → Bool
-hasRoom xs at = leb (at + orderSize) (length xs)
-
--- the buffer with the order's bytes from place `at` on; where they do not fit, as it was
-unfoldable pub withOrder : List ℕ → ℕ → Order → List ℕ
-withOrder xs at o = cond (hasRoom xs at) (take at xs ++ (orderBytes o ++ drop (at + orderSize) xs)) xs
+-- the buffer with the order's bytes from place `at` on
+abbrev pub withOrder : List ℕ → ℕ → Order → List ℕ
+withOrder xs at o = take at xs ++ (orderBytes o ++ drop (at + orderSize) xs)

@@ -1,24 +1,52 @@
--- A set in its array: the number of lines, where each begins, their tokens; and its lines, by rising number, if they are sound (document 01, "Codes").
+-- A set in its array, and one line put into it; and its lines, by rising number, if they are sound (document 01, "Codes").
 -- Definitions only.
 use mathlib.Core.Bool.{Bool, true, false}
-use mathlib.Core.List.{List, [], _∷_}
-use Prim.Native.Nat.{ℕ, zero, suc, _+_}
+use mathlib.Core.List.{List, [], _∷_, _++_, map}
+use Prim.Native.Nat.{ℕ, zero, suc, _+_, _-_, _%_}
 use lib.Dec.{eqb, ltb}
 use lib.ListN.{getD, set, replicate}
-use Rattle.tokens.specs.Token.{END, LOCK, UNLOCK, between, whole, maxLines, setSize}
+use Rattle.values.specs.PutAt.{putAt}
+use Rattle.tokens.specs.Token.{END, LOCK, UNLOCK, between, isNumber, whole, maxLines, setSize}
 use Rattle.checking.specs.Fault.{lineAt, faultyLine}
-use Rattle.checking.specs.declared.check.Line.{Line}
+use Rattle.checking.specs.declared.line.Line.{Line}
 use Rattle.engine.specs.declared.set.Lines.{Lines}
+
+-- ---- the array
+
+-- place 0 has the number of lines, the places from 1 on where each begins, those behind them the tokens
+abbrev pub startPlace : ℕ → ℕ
+startPlace k = 1 + k
+
+abbrev pub firstPlace : ℕ
+firstPlace = startPlace maxLines
 
 abbrev pub lineCount : List ℕ → ℕ
 lineCount s = getD s 0 0
 
--- the line of a rank, as its tokens have it
+-- where the line of a rank begins
+abbrev pub startOf : List ℕ → ℕ → ℕ
+startOf s k = getD s (startPlace k) 0
+
+-- that line, as its tokens have it
 abbrev pub lineOf : List ℕ → ℕ → Line
-lineOf s k = lineAt s (getD s (1 + k) 0)
+lineOf s k = lineAt s (startOf s k)
 
 unfoldable pub emptySet : List ℕ
 emptySet = replicate setSize 0
+
+-- a number's token without the mark of a written point
+unfoldable pub withoutMark : ℕ → ℕ
+withoutMark t = elim (isNumber t) [ true ↦ t - t % 2 | false ↦ t ]
+
+-- the tokens of a line and the 0 that ends it
+abbrev pub ended : List ℕ → List ℕ
+ended ts = ts ++ (END ∷ [])
+
+-- one line more, of rank k: it begins at the place `at`, and from there on its tokens stand without marks, and their end; what would lie past the array is left off
+unfoldable pub withLine : List ℕ → ℕ → ℕ → List ℕ → List ℕ
+withLine s k at ts = putAt (set (set s 0 (k + 1)) (startPlace k) at) at (ended (map withoutMark ts))
+
+-- ---- the lines
 
 abbrev pub noLine : Line
 noLine = faultyLine 0
@@ -69,7 +97,7 @@ namesKnown s ns (suc left) p =
 -- so for m lines from rank k on
 unfoldable pub allKnown : List ℕ → List ℕ → ℕ → ℕ → Bool
 allKnown s ns zero k = true
-allKnown s ns (suc m) k = elim (namesKnown s ns setSize (getD s (1 + k) 0)) [ true ↦ allKnown s ns m (k + 1) | false ↦ false ]
+allKnown s ns (suc m) k = elim (namesKnown s ns setSize (startOf s k)) [ true ↦ allKnown s ns m (k + 1) | false ↦ false ]
 
 -- the lines of a set that passes each loading check from 4 on; else none
 unfoldable pub namedLines : List ℕ → Lines → Lines

@@ -9,6 +9,8 @@ use Rattle.values.specs.Value.{inRange, lessThan, equalTo, wholeUnits, outputOf
 use Rattle.values.specs.Fifo.{places}
 use Rattle.working.specs.Variables.{asCount}
 use Rattle.engine.specs.declared.state.State.{State}
+use Rattle.tokens.specs.Token.{maxLines}
+use Rattle.engine.specs.State.{fifos, markerCells, paramCells, timerCells, countCells}
 use Rattle.engine.specs.Set.{soundLines}
 
 -- all values within range
@@ -23,16 +25,15 @@ isOutput v = eqb (codeOf (outputOf v)) 0
 unfoldable pub isCell : ℕ → ℤ → Bool
 isCell i v =
     inRange v &&
-    cond (ltb i 16) (isOutput v)
-    (cond (ltb i 48) (equalTo (wholeUnits v) v)
-    (cond (ltb i 80) true
-    (cond (ltb i 88) (not (lessThan v (pos 0))) (leb (asCount v) places))))
+    cond (ltb i markerCells) (isOutput v)
+    (cond (ltb i paramCells) (equalTo (wholeUnits v) v)
+    (cond (ltb i timerCells) true
+    (cond (ltb i countCells) (not (lessThan v (pos 0))) (leb (asCount v) places))))
 
 unfoldable pub areCells : List ℤ → ℕ → Bool
 areCells [] i = true
 areCells (v ∷ vs) i = isCell i v && areCells vs (i + 1)
 
--- unused places 0: of FIFO k, from 0, in R and with its count
 unfoldable pub allZero : List ℤ → Bool
 allZero [] = true
 allZero (v ∷ vs) = equalTo v (pos 0) && allZero vs
@@ -40,8 +41,14 @@ allZero (v ∷ vs) = equalTo v (pos 0) && allZero vs
 abbrev pub fifoRun : List ℤ → ℕ → List ℤ
 fifoRun r k = take places (drop (100 + places * k) r)
 
+-- unused places 0: of FIFO k, from 0, in R and with its count
 unfoldable pub isFifoSound : List ℤ → List ℤ → ℕ → Bool
-isFifoSound r c k = allZero (drop (asCount (getD c (88 + k) (pos 0))) (fifoRun r k))
+isFifoSound r c k = allZero (drop (asCount (getD c (countCells + k) (pos 0))) (fifoRun r k))
+
+-- so for m FIFOs from k on
+unfoldable pub areFifos : List ℤ → List ℤ → ℕ → ℕ → Bool
+areFifos r c zero k = true
+areFifos r c (suc m) k = isFifoSound r c k && areFifos r c m (k + 1)
 
 -- cancelled lines without lock or memory; nothing for a rank that the set does not have
 unfoldable pub isFlag : ℕ → ℕ → Bool → Bool → Bool → Bool
@@ -56,8 +63,7 @@ areFlags count locked cancelled memory (suc m) k =
 
 unfoldable pub stateSound : ℕ → State → Bool
 stateSound count st =
-    allRanged (st .r) && (areCells (st .cells) 0 && (isFifoSound (st .r) (st .cells) 0 && (isFifoSound (st .r) (st .cells) 1
-    && (isFifoSound (st .r) (st .cells) 2 && (isFifoSound (st .r) (st .cells) 3 && areFlags count (st .locked) (st .cancelled) (st .memory) 32 0)))))
+    allRanged (st .r) && (areCells (st .cells) 0 && (areFifos (st .r) (st .cells) fifos 0 && areFlags count (st .locked) (st .cancelled) (st .memory) maxLines 0))
 
 -- a set and a state are sound
 unfoldable pub isSound : List ℕ → State → Bool

@@ -5,9 +5,7 @@ use Prim.Native.Nat.{ℕ, zero, suc, _+_}
 use lib.IntN.{ℤ, pos}
 use lib.ListN.{getD, set}
 use Rattle.values.specs.Time.{timer, grownTimer}
-
-abbrev pub timerCells : ℕ
-timerCells = 80
+use Rattle.engine.specs.State.{timerCells}
 
 -- a running timer grows at the start of each beat, before any turn: the first n timers have grown
 unfoldable pub grownCells : List Bool → List ℤ → ℕ → List ℤ

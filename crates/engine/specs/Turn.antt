@@ -7,7 +7,7 @@ use Rattle.tokens.specs.Token.{maxActions}
 use Rattle.tokens.specs.Descent.{Answer, good, _>>=_}
 use Rattle.working.specs.Operators.{isYes}
 use Rattle.working.specs.Working.{conditionValue}
-use Rattle.checking.specs.declared.check.Line.{Line}
+use Rattle.checking.specs.declared.line.Line.{Line}
 use Rattle.engine.specs.Set.{noLine}
 use Rattle.engine.specs.Action.{World, Note, fromValueOrAlarm}
 use Rattle.engine.specs.Actions.{actionsOf}

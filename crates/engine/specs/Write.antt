@@ -8,7 +8,7 @@ use lib.ListN.{getD, set, take, drop}
 use Rattle.values.specs.Codes.{unsound}
 use Rattle.values.specs.Value.{wholeUnits, outputOf}
 use Rattle.values.specs.Time.{timer, writtenTimer}
-use Rattle.values.specs.Fifo.{places, appendAnswer, appended, removeAnswer, removed, emptyAnswer, emptied}
+use Rattle.values.specs.Fifo.{places, movedCode, appendAnswer, appended, removeAnswer, removed, emptyAnswer, emptied}
 use Rattle.values.specs.declared.fifo.Moved.{Moved}
 use Rattle.values.specs.declared.fifo.Moved.the-variants as M
 use Rattle.tokens.specs.Token.{OUT, MARKER, PARAM, R, TIMER, FIFO1, M, isFifo}
@@ -39,8 +39,8 @@ withRunAt a r xs = take a r ++ (xs ++ drop (a + places) r)
 -- what a change of the FIFO with the word w gives, where xs is its part afterwards
 abbrev pub moved : List ℤ → List ℤ → ℕ → List ℤ → Moved → Answer Changed
 moved r c w xs (M.Done v n) = good (record { value = v; r = withRunAt (runStart w) r xs; cells = set c (counts + (w - FIFO1)) (pos n) })
-moved r c w xs (M.Alarm k) = stop k
-moved r c w xs M.Unfit = stop unsound
+moved r c w xs (M.Alarm k) = stop (movedCode (M.Alarm k))
+moved r c w xs M.Unfit = stop (movedCode M.Unfit)
 
 -- a change of a FIFO: 0 appends, 1 removes, else empties by a written value
 unfoldable pub changeAnswer : ℕ → List ℤ → ℕ → ℤ → Moved
@@ -51,10 +51,6 @@ changed op xs n v = cond (eqb op 0) (appended xs n v) (cond (eqb op 1) (removed 
 
 unfoldable pub changeFifo : List ℤ → List ℤ → ℕ → ℕ → ℤ → Answer Changed
 changeFifo r c op w v = moved r c w (changed op (run r w) (countAt c w) v) (changeAnswer op (run r w) (countAt c w) v)
-
--- the oldest value of the FIFO with the word w is removed; no other word names a FIFO
-unfoldable pub takeOldest : List ℤ → List ℤ → ℕ → Answer Changed
-takeOldest r c w = elim (isFifo w) [ true ↦ changeFifo r c 1 w (pos 0) | false ↦ stop unsound ]
 
 abbrev pub withChanged : Vars → Changed → Vars
 withChanged x a = record { r = a .r; cells = a .cells; runs = x .runs }

@@ -7,14 +7,13 @@ ghost use Prim.Native.Nat.{ℕ, _+_, _<_};
 ghost use mathlib.Core.List.{List};
 ghost use lib.IntN.{ℤ, pos};
 ghost use Rattle.working.specs.Working.{rightValue};
-ghost use Rattle.engine.specs.Action.{fromValueOrAlarm, alarmOf, did, ordered, takenAt, assignmentOf, driveOf, lockOf, commandOf, actionOf, roomForOne};
+ghost use Rattle.engine.specs.Action.{fromValueOrAlarm, alarmOf, did, ordered, takenAt, assignmentOf, driveOf, lockOf, commandOf, actionOf};
 ghost use Rattle.engine.specs.Order.{maxOrders};
 ghost use Rattle.engine.specs.WriteAnswers.{varsOf};
 ghost use Rattle.engine.specs.ActionAnswers.{worldOf, IsWorked, IsTaken, IsDone, Within};
 ghost use Rattle.tokens.specs.Token.{setSize};
 use crate::drive::drive_order;
 use crate::order::Kind;
-use crate::order::MAX_ORDERS;
 use crate::order::ORDER_BYTES;
 use crate::order::ORDERS;
 use crate::order::Order;
@@ -291,7 +290,7 @@ fn command(
     set_lock(cancelled, flags, w == LOCK, rank_in(numbers, n), p + 4)
 }
 
-// The action at place p, of the line with that number; where one more order has no room, no sound set and no beat is so.
+// The action at place p, of the line with that number.
 pub fn action(
     set: &[u32; SIZE],
     numbers: &[u8; LINES],
@@ -303,11 +302,9 @@ pub fn action(
     number: u8,
     p: usize,
 ) -> Done
-    ensures { λ x. ⌜ IsDone x (now (r .exit)) (now (cells .exit)) (now (out .exit)) (roomForOne (flags .count) (actionOf (now (set .entry)) (now (numbers .entry)) (now (cancelled .entry)) number (worldOf (now (r .entry)) (now (cells .entry)) (now (out .entry)) flags) p)) × Within 1 x flags ⌝ }
+    requires { ⌜ flags .count < maxOrders ⌝ }
+    ensures { λ x. ⌜ IsDone x (now (r .exit)) (now (cells .exit)) (now (out .exit)) (actionOf (now (set .entry)) (now (numbers .entry)) (now (cancelled .entry)) number (worldOf (now (r .entry)) (now (cells .entry)) (now (out .entry)) flags) p) × Within 1 x flags ⌝ }
 {
-    if MAX_ORDERS <= flags.count {
-        return not_done(UNSOUND, flags);
-    }
     let w = token_at(set, p);
     if w == END {
         return not_done(UNSOUND, flags);

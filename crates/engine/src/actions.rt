@@ -2,7 +2,7 @@
 //
 // R, the cells of the beat and the orders so far are lent and written in place; a beat that ends in an alarm throws them away.
 ghost use Prim.Native.Nat.{_+_, _≤_};
-ghost use Rattle.engine.specs.Actions.{actionsOf, withRoom};
+ghost use Rattle.engine.specs.Actions.{actionsOf};
 ghost use Rattle.engine.specs.Order.{maxOrders};
 ghost use Rattle.engine.specs.ActionAnswers.{worldOf, IsDone, Within};
 ghost use Rattle.tokens.specs.Token.{maxActions};
@@ -10,7 +10,6 @@ use crate::action::Done;
 use crate::action::Flags;
 use crate::action::action;
 use crate::action::not_done;
-use crate::order::MAX_ORDERS;
 use crate::order::ORDERS;
 use tokens::token::ACTIONS;
 use tokens::token::END;
@@ -21,11 +20,8 @@ use values::codes::UNSOUND;
 use working::variables::CELLS;
 use working::variables::RS;
 
-// The most orders that leave room for those of one more line.
-const ROOM: usize = MAX_ORDERS - ACTIONS;
-
 // The actions from place p on, left to right: at most eight.
-fn all_actions(
+pub fn actions(
     set: &[u32; SIZE],
     numbers: &[u8; LINES],
     cancelled: &[bool; LINES],
@@ -58,24 +54,4 @@ fn all_actions(
         left -= 1;
     }
     not_done(UNSOUND, f)
-}
-
-// The same, for any count of orders so far: where eight more have no room, no sound set and no beat is so.
-pub fn actions(
-    set: &[u32; SIZE],
-    numbers: &[u8; LINES],
-    cancelled: &[bool; LINES],
-    r: &mut [i32; RS],
-    cells: &mut [i32; CELLS],
-    out: &mut [u8; ORDERS],
-    flags: Flags,
-    number: u8,
-    p: usize,
-) -> Done
-    ensures { λ x. ⌜ IsDone x (now (r .exit)) (now (cells .exit)) (now (out .exit)) (withRoom (flags .count) (actionsOf (now (set .entry)) (now (numbers .entry)) (now (cancelled .entry)) number maxActions (worldOf (now (r .entry)) (now (cells .entry)) (now (out .entry)) flags) p)) × Within maxActions x flags ⌝ }
-{
-    if ROOM < flags.count {
-        return not_done(UNSOUND, flags);
-    }
-    all_actions(set, numbers, cancelled, r, cells, out, flags, number, p)
 }

@@ -7,19 +7,19 @@ ghost use mathlib.Core.Bool.{cond};
 ghost use lib.Dec.{eqb};
 ghost use lib.IntN.{pos};
 ghost use Rattle.values.specs.Value.{unit};
-ghost use Rattle.engine.specs.Cells.{inputCells, cellsOf};
+ghost use Rattle.engine.specs.Cells.{bitCount, numberCount, inputCount, inputCells, beatCells};
 use crate::timers::grow_timers;
 use values::arithmetic::UNIT;
 use working::variables::CELLS;
 use working::variables::STATE_CELLS;
 use working::variables::TIMERS;
 
-const INPUT_CELLS: usize = 30;
+// The bits of the input word, and the numbers that the host lends.
+const BITS: usize = 16;
 
-const INPUTS: usize = 16;
-
-// The numbers that the host lends.
 pub const NUMBERS: usize = 14;
+
+const INPUTS: usize = BITS + NUMBERS;
 
 // All of `from` is copied to the places of `to` from `at` on.
 fn copy_at(to: &mut [i32], at: usize, from: &[i32])
@@ -42,12 +42,12 @@ fn input_cell(bit: u16) -> i32
 
 // Bit i-1 of the input word becomes the cell of $A_IN[i].
 fn put_inputs(cells: &mut [i32], word: u16)
-    requires { ⌜ 16 ≤ length (now cells) ⌝ }
-    ensures { λ x. ⌜ now (cells .exit) ≡ inputCells word 16 ++ drop 16 (now (cells .entry)) ⌝ }
+    requires { ⌜ bitCount ≤ length (now cells) ⌝ }
+    ensures { λ x. ⌜ now (cells .exit) ≡ inputCells word bitCount ++ drop bitCount (now (cells .entry)) ⌝ }
 {
     let mut rest = word;
     let mut i: usize = 0;
-    while i < INPUTS {
+    while i < BITS {
         let v = input_cell(rest % 2);
         cells[i] = v;
         rest /= 2;
@@ -55,33 +55,31 @@ fn put_inputs(cells: &mut [i32], word: u16)
     }
 }
 
-// The cells of a beat: inputs, the 14 numbers, the state's cells with the timers grown. Another count of numbers gives cells that are all 0.
+// The cells of a beat: inputs, the 14 numbers, the state's cells with the timers grown.
 pub fn beat_cells(
     word: u16,
     lent: &[i32],
     runs: [bool; TIMERS],
     state_cells: [i32; STATE_CELLS],
 ) -> [i32; CELLS]
-    ensures { λ x. ⌜ x ≡ cellsOf word (now (lent .entry)) runs «state_cells» ⌝ }
+    requires { ⌜ length (now lent) ≡ numberCount ⌝ }
+    ensures { λ x. ⌜ x ≡ beatCells word (now (lent .entry)) runs «state_cells» ⌝ }
 {
-    if lent.len() != NUMBERS {
-        return [0i32; CELLS];
-    }
     let mut grown_cells = state_cells;
     grow_timers(&mut grown_cells, &runs);
     let mut cells = [0i32; CELLS];
     put_inputs(&mut cells, word);
-    copy_at(&mut cells, INPUTS, lent);
-    copy_at(&mut cells, INPUT_CELLS, &grown_cells);
+    copy_at(&mut cells, BITS, lent);
+    copy_at(&mut cells, INPUTS, &grown_cells);
     cells
 }
 
 // The state's part of the cells of a beat.
 pub fn kept_cells(cells: &[i32; CELLS]) -> [i32; STATE_CELLS]
-    ensures { λ x. ⌜ x ≡ drop 30 (now (cells .entry)) ⌝ }
+    ensures { λ x. ⌜ x ≡ drop inputCount (now (cells .entry)) ⌝ }
 {
     let mut kept = [0i32; STATE_CELLS];
     let all = &cells[..];
-    copy_at(&mut kept, 0, &all[INPUT_CELLS..]);
+    copy_at(&mut kept, 0, &all[INPUTS..]);
     kept
 }

@@ -1,8 +1,9 @@
 // A beat: its checks 22, 20, 21 in that order, the timers' growth, the turns by rising number, and the undoing of all by the first alarm.
 ghost use mathlib.Core.Path.{_≡_};
 ghost use mathlib.Core.List.{_++_};
-ghost use Prim.Native.Nat.{_≤_, _<_};
+ghost use Prim.Native.Nat.{_≤_};
 ghost use lib.ListN.{length, take, drop};
+ghost use Rattle.engine.specs.Cells.{numberCount};
 ghost use Rattle.engine.specs.Turn.{turnsFrom};
 ghost use Rattle.engine.specs.Beat.{areInputs, begun, answered, buffered, beatAnswer, beatBuffer, bufferSize};
 ghost use Rattle.engine.specs.Order.{maxOrders};
@@ -11,6 +12,7 @@ use crate::action::Flags;
 use crate::cells::NUMBERS;
 use crate::cells::beat_cells;
 use crate::cells::kept_cells;
+use crate::order::ORDER_BYTES;
 use crate::order::ORDERS;
 use crate::set::Lines;
 use crate::set::sound_lines;
@@ -30,7 +32,7 @@ use working::variables::STATE_CELLS;
 pub struct Beaten {
     pub code: u8,
     pub orders: u32,
-    pub acted: u32,
+    pub acted: u64,
     pub state: State,
 }
 
@@ -87,13 +89,13 @@ fn next_state(r: [i32; RS], cells: [i32; STATE_CELLS], cancelled: [bool; LINES],
 
 // The answer of a beat that came to its end.
 fn finished(state: State, f: Flags) -> Beaten
-    requires { ⌜ (f .count ≤ maxOrders) × (f .acted < 4294967296) ⌝ }
+    requires { ⌜ f .count ≤ maxOrders ⌝ }
     ensures { λ x. ⌜ x ≡ record { code = 0; orders = f .count; acted = f .acted; state = state } ⌝ }
 {
     Beaten {
         code: 0,
         orders: f.count as u32,
-        acted: f.acted as u32,
+        acted: f.acted,
         state: state,
     }
 }
@@ -108,7 +110,7 @@ fn all_turns(
     lent: &[i32],
     orders: &mut [u8],
 ) -> Beaten
-    requires { ⌜ (lines .count ≤ maxLines) × ((length (now lent) ≡ 14) × (bufferSize ≤ length (now orders))) ⌝ }
+    requires { ⌜ (lines .count ≤ maxLines) × ((length (now lent) ≡ numberCount) × (bufferSize ≤ length (now orders))) ⌝ }
     ensures { λ x. ⌜ x ≡ answered state (turnsFrom (now (set .entry)) (lines .numbers) (state .cancelled) automatic (lines .items) (lines .count) 0 (begun state inputs (now (lent .entry)))) ⌝ }
     ensures { λ x. ⌜ now (orders .exit) ≡ buffered (now (orders .entry)) (turnsFrom (now (set .entry)) (lines .numbers) (state .cancelled) automatic (lines .items) (lines .count) 0 (begun state inputs (now (lent .entry)))) ⌝ }
 {
@@ -126,7 +128,7 @@ fn all_turns(
     if !good {
         return refused(d.alarm, state);
     }
-    copy_orders(orders, &out, f.count * 8);
+    copy_orders(orders, &out, f.count * ORDER_BYTES);
     finished(next, f)
 }
 

@@ -1,7 +1,8 @@
 // Orders: eight bytes each, written at a place of a buffer that is lent; and how many a beat may have.
 ghost use mathlib.Core.Path.{_≡_};
+ghost use Prim.Native.Nat.{_+_, _≤_};
 ghost use lib.ListN.{length};
-ghost use Rattle.engine.specs.Order.{kindNumber, orderBytes, hasRoom, withOrder};
+ghost use Rattle.engine.specs.Order.{kindNumber, orderSize, orderBytes, withOrder};
 use tokens::token::ACTIONS;
 use tokens::token::LINES;
 use values::complement::twos_complement;
@@ -31,7 +32,7 @@ pub struct Order {
 }
 
 // Document 01's number of a kind.
-pub fn kind_number(kind: Kind) -> u8
+fn kind_number(kind: Kind) -> u8
     ensures { λ r. ⌜ r ≡ kindNumber kind ⌝ }
 {
     match kind {
@@ -44,7 +45,7 @@ pub fn kind_number(kind: Kind) -> u8
 }
 
 fn store(part: &mut [u8], order: Order)
-    requires { ⌜ length (now part) ≡ 8 ⌝ }
+    requires { ⌜ length (now part) ≡ orderSize ⌝ }
     ensures { λ r. ⌜ now (part .exit) ≡ orderBytes order ⌝ }
 {
     let kind = order.kind;
@@ -59,18 +60,11 @@ fn store(part: &mut [u8], order: Order)
     part[7] = (bits / 16777216) as u8;
 }
 
-// The order is written from place `at` on, and the answer is true; where its eight bytes do not fit there, nothing is written.
-pub fn put(buffer: &mut [u8], at: usize, order: Order) -> bool
-    ensures { λ r. ⌜ r ≡ hasRoom (now (buffer .entry)) at ⌝ }
+// The order is written from place `at` on.
+pub fn put(buffer: &mut [u8], at: usize, order: Order)
+    requires { ⌜ at + orderSize ≤ length (now buffer) ⌝ }
     ensures { λ r. ⌜ now (buffer .exit) ≡ withOrder (now (buffer .entry)) at order ⌝ }
 {
-    if buffer.len() < at {
-        return false;
-    }
-    if buffer.len() - at < ORDER_BYTES {
-        return false;
-    }
     let end = at + ORDER_BYTES;
     store(&mut buffer[at..end], order);
-    true
 }

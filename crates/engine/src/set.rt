@@ -1,20 +1,27 @@
-// A set in its array: how many lines, where each begins, their tokens. The lines are read once a call, by rising number.
+// A set in its array: how many lines, where each begins, their tokens. A line is put into it; the lines are read once a call, by rising number.
 ghost use mathlib.Core.Path.{_≡_};
+ghost use mathlib.Core.List.{map};
 ghost use Prim.Native.Nat.{_≤_};
-ghost use Rattle.engine.specs.Set.{noLine, noLines, linesRead, rankIn, isLock, namesKnown, allKnown, soundLines, emptySet};
+ghost use lib.ListN.{set};
+ghost use Rattle.values.specs.PutAt.{putAt};
+ghost use Rattle.engine.specs.Set.{ended, withoutMark, withLine, noLine, noLines, linesRead, rankIn, isLock, namesKnown, allKnown, soundLines, emptySet};
 ghost use Rattle.tokens.specs.Token.{setSize, maxLines};
 use checking::Line;
 use checking::line_at;
 use tokens::token::END;
 use tokens::token::LINES;
 use tokens::token::LOCK;
+use tokens::token::NUMBER;
 use tokens::token::SIZE;
 use tokens::token::UNLOCK;
 use tokens::token::token_at;
 use tokens::token::whole_of;
 
 // The place where the first line's start stands; place 0 has the number of lines.
-pub const STARTS: usize = 1;
+const STARTS: usize = 1;
+
+// The place of the first line's tokens.
+pub const FIRST_PLACE: usize = STARTS + LINES;
 
 // The lines of a set as its tokens have them, by rising number, if they are sound; else none.
 pub struct Lines {
@@ -29,6 +36,49 @@ pub fn empty_set() -> [u32; SIZE]
     ensures { λ x. ⌜ x ≡ emptySet ⌝ }
 {
     [0u32; SIZE]
+}
+
+// A number's token without the mark of a written point.
+fn without_mark(t: u32) -> u32
+    ensures { λ x. ⌜ x ≡ withoutMark t ⌝ }
+{
+    if t < NUMBER {
+        return t;
+    }
+    t - t % 2
+}
+
+// A token is written at a place; past the end nothing is.
+fn put(array: &mut [u32; SIZE], at: usize, t: u32)
+    ensures { λ x. ⌜ now (array .exit) ≡ set (now (array .entry)) at t ⌝ }
+{
+    let all = &array[..];
+    if at < all.len() {
+        array[at] = t;
+    }
+}
+
+// Tokens without their marks from a place on, and their end.
+fn put_tokens(set: &mut [u32; SIZE], at: u32, tokens: &[u32])
+    ensures { λ x. ⌜ now (set .exit) ≡ putAt (now (set .entry)) at (ended (map withoutMark (now (tokens .entry)))) ⌝ }
+{
+    let mut p = at as usize;
+    let mut i: usize = 0;
+    while i < tokens.len() {
+        put(set, p, without_mark(tokens[i]));
+        p += 1;
+        i += 1;
+    }
+    put(set, p, END);
+}
+
+// One line more, of a rank: it begins at the place `at`. What would lie past the array is left off.
+pub fn put_line(set: &mut [u32; SIZE], rank: u8, at: u32, tokens: &[u32])
+    ensures { λ x. ⌜ now (set .exit) ≡ withLine (now (set .entry)) rank at (now (tokens .entry)) ⌝ }
+{
+    set[0] = rank as u32 + 1;
+    set[STARTS + rank as usize] = at;
+    put_tokens(set, at, tokens);
 }
 
 fn no_line() -> Line

@@ -2,7 +2,8 @@
 ghost use mathlib.Core.Path.{_≡_};
 ghost use Prim.Native.Nat.{_<_};
 ghost use lib.ListN.{drop};
-ghost use Rattle.engine.specs.Sound.{allRanged, isOutput, isCell, areCells, allZero, isFifoSound, isFlag, areFlags, stateSound, isSound};
+ghost use Rattle.engine.specs.Sound.{allRanged, isOutput, isCell, areCells, allZero, isFifoSound, areFifos, isFlag, areFlags, stateSound, isSound};
+ghost use Rattle.engine.specs.State.{fifos};
 ghost use Rattle.tokens.specs.Token.{maxLines};
 use crate::set::sound_lines;
 use crate::state::State;
@@ -24,6 +25,8 @@ use working::variables::TIMER_AT;
 use working::variables::count_of;
 
 const PARAM_AT: usize = 48;
+
+const FIFOS: usize = 4;
 
 // Whether all are values.
 pub fn all_ranged(xs: &[i32]) -> bool
@@ -99,7 +102,7 @@ fn all_zero(xs: &[i32], n: usize) -> bool
 
 // Whether the unused places of FIFO k, from 0, are 0.
 fn is_fifo_sound(r: &[i32; RS], cells: &[i32; STATE_CELLS], k: usize) -> bool
-    requires { ⌜ k < 4 ⌝ }
+    requires { ⌜ k < fifos ⌝ }
     ensures { λ x. ⌜ x ≡ isFifoSound (now (r .entry)) (now (cells .entry)) k ⌝ }
 {
     let start = RUNS + PLACES * k;
@@ -107,6 +110,19 @@ fn is_fifo_sound(r: &[i32; RS], cells: &[i32; STATE_CELLS], k: usize) -> bool
     let count = count_of(cells[COUNT_AT + k]) as usize;
     let all = &r[..];
     all_zero(&all[start..end], count)
+}
+
+fn are_fifos(r: &[i32; RS], cells: &[i32; STATE_CELLS]) -> bool
+    ensures { λ x. ⌜ x ≡ areFifos (now (r .entry)) (now (cells .entry)) fifos 0 ⌝ }
+{
+    let mut k: usize = 0;
+    while k < FIFOS {
+        if !is_fifo_sound(r, cells, k) {
+            return false;
+        }
+        k += 1;
+    }
+    true
 }
 
 // Whether lock, cancel and memory of rank k go together, in a set of so many lines.
@@ -161,16 +177,7 @@ pub fn is_state_sound(count: usize, state: State) -> bool
     if !are_cells(&cells) {
         return false;
     }
-    if !is_fifo_sound(&r, &cells, 0) {
-        return false;
-    }
-    if !is_fifo_sound(&r, &cells, 1) {
-        return false;
-    }
-    if !is_fifo_sound(&r, &cells, 2) {
-        return false;
-    }
-    if !is_fifo_sound(&r, &cells, 3) {
+    if !are_fifos(&r, &cells) {
         return false;
     }
     let locked = state.locked;

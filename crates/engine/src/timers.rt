@@ -1,6 +1,7 @@
 // The timers among the cells of a state.
 ghost use mathlib.Core.Path.{_≡_};
 ghost use Prim.Native.Nat.{_+_};
+ghost use Rattle.engine.specs.State.{timerCount};
 ghost use Rattle.engine.specs.Timers.{grownCells};
 use values::time::Millis;
 use values::time::Timer;
@@ -11,7 +12,7 @@ use working::variables::TIMERS;
 
 // The running timers grow.
 pub fn grow_timers(cells: &mut [i32; STATE_CELLS], runs: &[bool; TIMERS])
-    ensures { λ x. ⌜ now (cells .exit) ≡ grownCells (now (runs .entry)) (now (cells .entry)) 8 ⌝ }
+    ensures { λ x. ⌜ now (cells .exit) ≡ grownCells (now (runs .entry)) (now (cells .entry)) timerCount ⌝ }
 {
     let mut i: usize = 0;
     while i < TIMERS {

@@ -2,10 +2,10 @@
 ghost use mathlib.Core.Path.{_≡_};
 ghost use mathlib.Core.Bool.{Bool};
 ghost use mathlib.Core.List.{List};
-ghost use Prim.Native.Nat.{ℕ, _+_, _*_, _^_, _≤_, _<_};
+ghost use Prim.Native.Nat.{_+_, _^_, _≤_, _<_};
 ghost use Rattle.engine.specs.Turn.{Entry, doTurn, tryTurn, turnOf, turnsFrom};
 ghost use Rattle.engine.specs.ActionAnswers.{worldOf};
-ghost use Rattle.engine.specs.TurnAnswers.{IsTurned, firstFlags, withLines};
+ghost use Rattle.engine.specs.TurnAnswers.{IsTurned, BeforeTurn, firstFlags};
 ghost use Rattle.tokens.specs.Token.{maxLines};
 use crate::action::Done;
 use crate::action::Flags;
@@ -23,12 +23,19 @@ use checking::Line;
 use tokens::token::LINES;
 use tokens::token::SIZE;
 use values::arithmetic::is_equal;
-use values::codes::UNSOUND;
 use working::condition;
 use working::variables::CELLS;
 use working::variables::RS;
 
-// The actions of the line of rank k, if it acts; `bit` is its bit in the word.
+// The bit of the line of rank k in the word of the lines that acted.
+fn line_bit(k: usize) -> u64
+    requires { ⌜ k < maxLines ⌝ }
+    ensures { λ x. ⌜ x ≡ 2 ^ k ⌝ }
+{
+    1 << k
+}
+
+// The actions of the line of rank k, if it acts.
 fn act(
     set: &[u32; SIZE],
     numbers: &[u8; LINES],
@@ -38,17 +45,17 @@ fn act(
     out: &mut [u8; ORDERS],
     flags: Flags,
     l: Line,
-    bit: u64,
+    k: usize,
     yes: bool,
 ) -> Done
-    requires { ⌜ (flags .count ≤ 248) × (flags .acted + bit < 4294967296) ⌝ }
-    ensures { λ x. ⌜ ((k : ℕ) (es : List Entry) (automatic : Bool) → bit ≡ 2 ^ k → IsTurned x (now (r .exit)) (now (cells .exit)) (now (out .exit)) (doTurn (now (set .entry)) (now (numbers .entry)) (now (cancelled .entry)) automatic l k (worldOf (now (r .entry)) (now (cells .entry)) (now (out .entry)) flags) es yes)) × ((x .flags .count ≤ flags .count + 8) × (x .flags .acted ≤ flags .acted + bit)) ⌝ }
+    requires { ⌜ (k < maxLines) × BeforeTurn k flags ⌝ }
+    ensures { λ x. ⌜ ((es : List Entry) (automatic : Bool) → IsTurned x (now (r .exit)) (now (cells .exit)) (now (out .exit)) (doTurn (now (set .entry)) (now (numbers .entry)) (now (cancelled .entry)) automatic l k (worldOf (now (r .entry)) (now (cells .entry)) (now (out .entry)) flags) es yes)) × BeforeTurn (k + 1) (x .flags) ⌝ }
 {
     if !yes {
         return did_all(0, flags);
     }
     let mut f = flags;
-    f.acted = flags.acted + bit;
+    f.acted = flags.acted + line_bit(k);
     let number = l.number;
     actions(set, numbers, cancelled, r, cells, out, f, number, l.actions)
 }
@@ -64,17 +71,16 @@ fn try_line(
     flags: Flags,
     l: Line,
     k: usize,
-    bit: u64,
 ) -> Done
-    requires { ⌜ (k < maxLines) × ((bit ≡ 2 ^ k) × ((flags .count ≤ 8 * k) × (flags .acted < bit))) ⌝ }
-    ensures { λ x. ⌜ ((automatic : Bool) → IsTurned x (now (r .exit)) (now (cells .exit)) (now (out .exit)) (tryTurn (now (set .entry)) (now (numbers .entry)) (now (cancelled .entry)) automatic l k (worldOf (now (r .entry)) (now (cells .entry)) (now (out .entry)) flags))) × ((x .flags .count ≤ flags .count + 8) × (x .flags .acted ≤ flags .acted + bit)) ⌝ }
+    requires { ⌜ (k < maxLines) × BeforeTurn k flags ⌝ }
+    ensures { λ x. ⌜ ((automatic : Bool) → IsTurned x (now (r .exit)) (now (cells .exit)) (now (out .exit)) (tryTurn (now (set .entry)) (now (numbers .entry)) (now (cancelled .entry)) automatic l k (worldOf (now (r .entry)) (now (cells .entry)) (now (out .entry)) flags))) × BeforeTurn (k + 1) (x .flags) ⌝ }
 {
     let memories = flags.memory;
     let memory = memories[k];
     let keyword = l.keyword;
     if !tries_now(keyword, memory) {
         let yes = acts_now(keyword, memory, false);
-        return act(set, numbers, cancelled, r, cells, out, flags, l, bit, yes);
+        return act(set, numbers, cancelled, r, cells, out, flags, l, k, yes);
     }
     let g = condition(set, r, cells, l.condition);
     let good = g.good;
@@ -86,7 +92,7 @@ fn try_line(
     let mut f = flags;
     f.memory[k] = remembered;
     let yes = acts_now(keyword, memory, v);
-    act(set, numbers, cancelled, r, cells, out, f, l, bit, yes)
+    act(set, numbers, cancelled, r, cells, out, f, l, k, yes)
 }
 
 // The turn of the line of rank k: none if it is cancelled or locked at that moment; an ID line also needs AUTOMATIC.
@@ -101,10 +107,9 @@ fn turn(
     flags: Flags,
     l: Line,
     k: usize,
-    bit: u64,
 ) -> Done
-    requires { ⌜ (k < maxLines) × ((bit ≡ 2 ^ k) × ((flags .count ≤ 8 * k) × (flags .acted < bit))) ⌝ }
-    ensures { λ x. ⌜ IsTurned x (now (r .exit)) (now (cells .exit)) (now (out .exit)) (turnOf (now (set .entry)) (now (numbers .entry)) (now (cancelled .entry)) automatic l k (worldOf (now (r .entry)) (now (cells .entry)) (now (out .entry)) flags)) × ((x .flags .count ≤ flags .count + 8) × (x .flags .acted ≤ flags .acted + bit)) ⌝ }
+    requires { ⌜ (k < maxLines) × BeforeTurn k flags ⌝ }
+    ensures { λ x. ⌜ IsTurned x (now (r .exit)) (now (cells .exit)) (now (out .exit)) (turnOf (now (set .entry)) (now (numbers .entry)) (now (cancelled .entry)) automatic l k (worldOf (now (r .entry)) (now (cells .entry)) (now (out .entry)) flags)) × BeforeTurn (k + 1) (x .flags) ⌝ }
 {
     if cancelled[k] {
         return did_all(0, flags);
@@ -117,59 +122,12 @@ fn turn(
     if !free {
         return did_all(0, flags);
     }
-    try_line(set, numbers, cancelled, r, cells, out, flags, l, k, bit)
-}
-
-// The turns of all lines, by rising number.
-fn all_lines(
-    set: &[u32; SIZE],
-    lines: Lines,
-    cancelled: &[bool; LINES],
-    automatic: bool,
-    r: &mut [i32; RS],
-    cells: &mut [i32; CELLS],
-    out: &mut [u8; ORDERS],
-    flags: Flags,
-) -> Done
-    requires { ⌜ (lines .count ≤ maxLines) × ((flags .count ≡ 0) × (flags .acted ≡ 0)) ⌝ }
-    ensures { λ x. ⌜ IsTurned x (now (r .exit)) (now (cells .exit)) (now (out .exit)) (turnsFrom (now (set .entry)) (lines .numbers) (now (cancelled .entry)) automatic (lines .items) (lines .count) 0 (worldOf (now (r .entry)) (now (cells .entry)) (now (out .entry)) flags)) × ((x .flags .count ≤ 256) × (x .flags .acted < 4294967296)) ⌝ }
-{
-    let numbers = lines.numbers;
-    let items = lines.items;
-    let count = lines.count;
-    let mut f = flags;
-    let mut bit: u64 = 1;
-    let mut k: usize = 0;
-    while k < count {
-        let l = items[k];
-        let d = turn(
-            set,
-            &numbers,
-            cancelled,
-            automatic,
-            r,
-            cells,
-            out,
-            f,
-            l,
-            k,
-            bit,
-        );
-        let good = d.good;
-        if !good {
-            return d;
-        }
-        let g = d.flags;
-        f = g;
-        bit *= 2;
-        k += 1;
-    }
-    did_all(0, f)
+    try_line(set, numbers, cancelled, r, cells, out, flags, l, k)
 }
 
 // The flags as a beat begins.
 fn first_flags(state: State) -> Flags
-    ensures { λ x. ⌜ x ≡ record { runs = state .runs; locked = state .locked; memory = state .memory; acted = 0; count = 0 } ⌝ }
+    ensures { λ x. ⌜ x ≡ firstFlags state ⌝ }
 {
     let runs = state.runs;
     let locked = state.locked;
@@ -183,7 +141,7 @@ fn first_flags(state: State) -> Flags
     }
 }
 
-// The turns of a beat, from a state: with more lines than a set has, which no sound set says, there is none.
+// The turns of a beat, from a state: those of all lines, by rising number.
 pub fn turns(
     set: &[u32; SIZE],
     lines: Lines,
@@ -193,12 +151,25 @@ pub fn turns(
     cells: &mut [i32; CELLS],
     out: &mut [u8; ORDERS],
 ) -> Done
-    ensures { λ x. ⌜ IsTurned x (now (r .exit)) (now (cells .exit)) (now (out .exit)) (withLines (lines .count) (turnsFrom (now (set .entry)) (lines .numbers) (state .cancelled) automatic (lines .items) (lines .count) 0 (worldOf (now (r .entry)) (now (cells .entry)) (now (out .entry)) (firstFlags state)))) × ((x .flags .count ≤ 256) × (x .flags .acted < 4294967296)) ⌝ }
+    requires { ⌜ lines .count ≤ maxLines ⌝ }
+    ensures { λ x. ⌜ IsTurned x (now (r .exit)) (now (cells .exit)) (now (out .exit)) (turnsFrom (now (set .entry)) (lines .numbers) (state .cancelled) automatic (lines .items) (lines .count) 0 (worldOf (now (r .entry)) (now (cells .entry)) (now (out .entry)) (firstFlags state))) × BeforeTurn maxLines (x .flags) ⌝ }
 {
+    let numbers = lines.numbers;
     let cancelled = state.cancelled;
-    let flags = first_flags(state);
-    if LINES < lines.count {
-        return not_done(UNSOUND, flags);
+    let items = lines.items;
+    let count = lines.count;
+    let mut f = first_flags(state);
+    let mut k: usize = 0;
+    while k < count {
+        let l = items[k];
+        let d = turn(set, &numbers, &cancelled, automatic, r, cells, out, f, l, k);
+        let good = d.good;
+        if !good {
+            return d;
+        }
+        let g = d.flags;
+        f = g;
+        k += 1;
     }
-    all_lines(set, lines, &cancelled, automatic, r, cells, out, flags)
+    did_all(0, f)
 }

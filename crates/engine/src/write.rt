@@ -1,11 +1,16 @@
 // Writes to variables: a FIFO, a cell, R.
 ghost use mathlib.Core.Path.{_≡_};
 ghost use mathlib.Core.Bool.{true, false};
-ghost use Prim.Native.Nat.{_+_, _≤_};
+ghost use Prim.Native.Nat.{_+_, _≤_, _<_};
+ghost use lib.IntN.{pos};
 ghost use lib.ListN.{length};
+ghost use Rattle.tokens.specs.Token as T;
 ghost use Rattle.tokens.specs.Token.{isFifo};
 ghost use Rattle.tokens.specs.Index.{isInside};
-ghost use Rattle.engine.specs.Write.{changeAnswer, changed, runAt, withRunAt, changeFifo, takeOldest, writeFifo, writeCell, writeTo};
+ghost use Rattle.tokens.specs.Descent.{good};
+ghost use Rattle.working.specs.Variables.{cellCount};
+ghost use Rattle.engine.specs.State.{timerCount};
+ghost use Rattle.engine.specs.Write.{changeAnswer, changed, runAt, withRunAt, changeFifo, writeFifo, writeTimer, writeCell, writeTo};
 ghost use Rattle.engine.specs.WriteAnswers.{varsOf, IsChanged, IsCelled, IsWritten};
 ghost use Rattle.values.specs.Fifo.{places};
 use tokens::index::is_inside;
@@ -85,13 +90,11 @@ fn change_fifo(r: &mut [i32; RS], cells: &mut [i32; CELLS], op: u8, w: u32, v: i
     }
 }
 
-// The oldest value of the FIFO with the word w is removed; a word that names no FIFO is in no sound set.
+// The oldest value of the FIFO with the word w is removed.
 pub fn take_oldest(r: &mut [i32; RS], cells: &mut [i32; CELLS], w: u32) -> Worked
-    ensures { λ x. ⌜ IsChanged x (now (r .exit)) (now (cells .exit)) (takeOldest (now (r .entry)) (now (cells .entry)) w) ⌝ }
+    requires { ⌜ isFifo w ≡ true ⌝ }
+    ensures { λ x. ⌜ IsChanged x (now (r .exit)) (now (cells .exit)) (changeFifo (now (r .entry)) (now (cells .entry)) 1 w (pos 0)) ⌝ }
 {
-    if !is_fifo(w) {
-        return Worked::Alarm(UNSOUND);
-    }
     change_fifo(r, cells, 1, w, 0)
 }
 
@@ -142,9 +145,30 @@ fn write_fifo(
     }
 }
 
+// A timer is written: its cell, and whether it runs.
+fn write_timer(cells: &mut [i32; CELLS], runs: [bool; TIMERS], at: usize, i: usize, v: i32) -> Wrote
+    requires { ⌜ (at < cellCount) × (i < timerCount) ⌝ }
+    ensures { λ x. ⌜ IsCelled x (now (cells .exit)) (good (writeTimer (now (cells .entry)) runs at i v)) ⌝ }
+{
+    let before = cells[at];
+    let ran = runs[i];
+    let t = written(
+        Timer {
+            time: Millis(before),
+            runs: ran,
+        },
+        v,
+    );
+    let time = t.time.0;
+    cells[at] = time;
+    let mut now_runs = runs;
+    now_runs[i] = t.runs;
+    written_so(now_runs)
+}
+
 // Outputs, markers, parameters and timers, each by its own rule.
 fn write_cell(cells: &mut [i32; CELLS], runs: [bool; TIMERS], w: u32, i: u32, v: i32) -> Wrote
-    requires { ⌜ (isInside w i ≡ true) × ((isFifo w ≡ false) × (w ≡ 37 → ⊥)) ⌝ }
+    requires { ⌜ (isInside w i ≡ true) × ((isFifo w ≡ false) × (w ≡ T.R → ⊥)) ⌝ }
     ensures { λ x. ⌜ IsCelled x (now (cells .exit)) (writeCell (now (cells .entry)) runs w i v) ⌝ }
 {
     let at = cell_of(w, i);
@@ -168,21 +192,7 @@ fn write_cell(cells: &mut [i32; CELLS], runs: [bool; TIMERS], w: u32, i: u32, v:
     if w != TIMER {
         return not_written(UNSOUND, runs);
     }
-    let n = i as usize;
-    let before = cells[at];
-    let ran = runs[n];
-    let t = written(
-        Timer {
-            time: Millis(before),
-            runs: ran,
-        },
-        v,
-    );
-    let time = t.time.0;
-    cells[at] = time;
-    let mut now_runs = runs;
-    now_runs[n] = t.runs;
-    written_so(now_runs)
+    write_timer(cells, runs, at, i as usize, v)
 }
 
 // The variable w[i] is written.

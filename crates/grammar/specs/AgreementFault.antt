@@ -22,13 +22,13 @@ use Rattle.grammar.specs.TreeFaultLaws.{lower-none, lower-assoc, lower-f
 
 -- ---- an action
 
-word-ends : (w : ℕ) → IN ≤ w → EndsSum w
+pub word-ends : (w : ℕ) → IN ≤ w → EndsSum w
 word-ends w h = record { factor = beyond TIMES OVER w (omega arith); term = beyond PLUS MINUS w (omega arith) }
 
-end-ends : (t : ℕ) → t ≡ END → EndsSum t
+pub end-ends : (t : ℕ) → t ≡ END → EndsSum t
 end-ends t h = rw h (record { factor = refl; term = refl })
 
-do-ends : EndsExpression DO
+pub do-ends : EndsExpression DO
 do-ends = record { sum = record { factor = refl; term = refl }; compare = refl; logic = refl }
 
 action-long : (a : Action) → 1 ≤ length (actionTokens a)
@@ -77,7 +77,7 @@ module _ (s : List ℕ) where
   alone-agrees (factor o v a r) t i j q f g e = (rw (f .0, holds (isFactor o) v), λ x. absurd (false≢true x))
 
   -- the reader's removal is the tree's
-  removal-agrees : (a : Sum) (p q : ℕ) → Stands s p (sumTokens a) q → EndsSum (token s q) → (isRemoval s p ≡ isRemovalTree a) × (isRemovalTree a ≡ true → p + 4 ≡ q)
+  pub removal-agrees : (a : Sum) (p q : ℕ) → Stands s p (sumTokens a) q → EndsSum (token s q) → (isRemoval s p ≡ isRemovalTree a) × (isRemovalTree a ≡ true → p + 4 ≡ q)
   unfolding isRemovalTree sumTokens
   removal-agrees (sum (product a r) t) p q h e =
       let (j, l, g) = stands-split s (operandTokens a ++ factorsTokens r) (termsTokens t) p q h in
@@ -166,7 +166,7 @@ module _ (s : List ℕ) where
   action-word (code n) p q h = let e = h .0 in omega arith
   action-word (call w v n) p q h = let b = bounds SETAL UNLOCK w v in let e = h .0 in omega arith
 
-  actions-word : (a : Action) (r : List Action) (p q : ℕ) → Stands s p (actionsTokens a r) q → IN ≤ token s p
+  pub actions-word : (a : Action) (r : List Action) (p q : ℕ) → Stands s p (actionsTokens a r) q → IN ≤ token s p
   unfolding actionsTokens
   actions-word a [] p q h = action-word a p q h
   actions-word a (b ∷ r) p q h = let (i, f, g) = stands-split s (actionTokens a) (actionsTokens b r) p q h in action-word a p i f
@@ -225,19 +225,19 @@ module _ (s : List ℕ) where
       chosen _ _ _ on ∙ rw (expression-agrees s sight x setSize (p + 4) i (omega arith) (rw four at (g .1)) z, wanted-read true (expressionMeaning sight x) i (seen-expression x), g .0) (body-agrees a r p w (p + 4) _ i e l d h t)
 
   -- the parts of a line that stands from p up to q: where DO stands, and where it ends
-  record LineStands (w n : ℕ) (c : Condition) (a : Action) (r : List Action) (p q : ℕ) : Type 0 where
-    doing : ℕ
-    end : ℕ
-    word : token s p ≡ w
-    equals : token s (p + 1) ≡ EQUALS
-    number : token s (p + 2) ≡ wholeToken n
-    condition : Stands s (p + 3) (conditionTokens c) doing
-    begins : token s doing ≡ DO
-    actions : Stands s (doing + 1) (actionsTokens a r) end
-    stops : token s end ≡ END
-    behind : end + 1 ≡ q
+  pub record LineStands (w n : ℕ) (c : Condition) (a : Action) (r : List Action) (p q : ℕ) : Type 0 where
+    pub doing : ℕ
+    pub end : ℕ
+    pub word : token s p ≡ w
+    pub equals : token s (p + 1) ≡ EQUALS
+    pub number : token s (p + 2) ≡ wholeToken n
+    pub condition : Stands s (p + 3) (conditionTokens c) doing
+    pub begins : token s doing ≡ DO
+    pub actions : Stands s (doing + 1) (actionsTokens a r) end
+    pub stops : token s end ≡ END
+    pub behind : end + 1 ≡ q
 
-  line-stands : (w : ℕ) (v : T (isId w)) (n : ℕ) (c : Condition) (a : Action) (r : List Action) (p q : ℕ) → Stands s p (lineTokens (line w v n c a r)) q → LineStands w n c a r p q
+  pub line-stands : (w : ℕ) (v : T (isId w)) (n : ℕ) (c : Condition) (a : Action) (r : List Action) (p q : ℕ) → Stands s p (lineTokens (line w v n c a r)) q → LineStands w n c a r p q
   unfolding lineTokens
   line-stands w v n c a r p q h =
       let two : p + 1 + 1 ≡ p + 2 = omega arith in

@@ -10,9 +10,9 @@ use lib.ListN.{length, drop}
 use borrow.Author.Tests.{le-leb, lt-leb, eq-eqb, eqb-true, eqb-false}
 use Rattle.values.specs.Codes.{tooDeep, notInGrammar}
 use Rattle.values.specs.Choice.{told-so, both, decide, choice, chosen, refused}
-use Rattle.checking.specs.declared.check.Line.{Line as Told}
+use Rattle.checking.specs.declared.line.Line.{Line as Told}
 use Rattle.tokens.specs.Token.{setSize, END, EQUALS, LEFT, RIGHT, DO, IM, isVariable, hasAxis, isFifo, isDrive, isCall, isKeyword, isId, isWhole, whole, CLOSE, FIFO1, FIFO4, IN, M, MOV, OPEN, POS}
-use Rattle.grammar.specs.Tree.{variable, product, noFactor, Sum, sum, noTerm, Action, assign, assignPosition, drive, code, call, Condition, always, under, Line, line, sumTokens, actionTokens, actionsTokens, conditionTokens, lineTokens}
+use Rattle.grammar.specs.Tree.{variable, product, noFactor, Sum, sum, noTerm, Action, assign, assignPosition, drive, code, call, Condition, always, under, Line, line, treeNumber, sumTokens, actionTokens, actionsTokens, conditionTokens, lineTokens}
 use Rattle.tokens.specs.Descent.{token, Read, read, ends, isIndexed, indexAt, sumAt, expressionAt}
 use Rattle.grammar.specs.Meaning.{Stands}
 use Rattle.tokens.specs.SingleFault.{lower, opensTooMany}
@@ -225,3 +225,16 @@ module _ (s : List ℕ) where
         (λ t. eqb-true (lineAt s p .fault) notInGrammar t)
         (λ t. let (l, q, h) = line-written p o (eqb-false (lineAt s p .fault) notInGrammar t) in absurd (none l q h))),
   )
+
+-- tokens without a fault have no fault 4
+pub not-deep : (s : List ℕ) (p : ℕ) → lineAt s p .fault ≡ 0 → opensTooMany (drop p s) 0 ≡ false
+unfolding lineAt
+not-deep s p clean =
+    decide _ (opensTooMany (drop p s) 0)
+    (λ t. let z : lineAt s p .fault ≡ tooDeep = ap (λ (x : Told). x .fault) (chosen _ _ _ t) in absurd (omega arith))
+    (λ t. t)
+
+-- the number among the parts of a line
+pub parts-number : (p : ℕ) (l : Line) → partsFrom p l .number ≡ treeNumber l
+unfolding partsFrom
+parts-number p (line w v n c a r) = refl

@@ -63,7 +63,7 @@ mutual
 closed-right : (t u v w x : ℕ) (a : Sum) → (0 < t) × (t < LOCK) → (0 < u) × (u < LOCK) → (0 < v) × (LOCK ≤ v → UNLOCK < v) → (0 < w) × (w < LOCK) → (0 < x) × (x < LOCK) → Closed (t ∷ u ∷ v ∷ w ∷ x ∷ sumTokens a)
 closed-right t u v w x a h i j k m = (h .0, omega arith, (i .0, omega arith, (j .0, omega arith, (k .0, omega arith, (m .0, omega arith, closed-sum a)))))
 
-closed-action : (a : Action) → Closed (actionTokens a)
+pub closed-action : (a : Action) → Closed (actionTokens a)
 unfolding actionTokens
 closed-action (assign w v i a) = let b = bounds IN FIFO4 w v in closed-right _ _ _ _ _ a (omega arith) (omega arith) (omega arith) (omega arith) (omega arith)
 closed-action (assignPosition x v a) = let b = bounds X W x v in closed-right _ _ _ _ _ a (omega arith) (omega arith) (omega arith) (omega arith) (omega arith)
@@ -77,7 +77,7 @@ unfolding actionsTokens
 closed-actions [] a = closed-action a
 closed-actions (b ∷ r) a = closed-join (actionTokens a) (actionsTokens b r) (closed-action a) (closed-actions r b)
 
-closed-condition : (c : Condition) → Closed (conditionTokens c)
+pub closed-condition : (c : Condition) → Closed (conditionTokens c)
 unfolding conditionTokens
 closed-condition always = tt
 closed-condition (under w v e) = let b = bounds WHEN EVERY w v in (omega arith, omega arith, closed-expression e)

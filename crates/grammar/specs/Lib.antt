@@ -1,5 +1,5 @@
--- The grammar of a line. Tree, Meaning and TreeFault are the definitions; that writing and reading agree is shown in Agreement.. and ClosedTokens; the files named ..Laws hold what
--- these need; Table computes worked lines of the documents.
+-- The grammar of a line. Tree, Meaning, TreeFault and NumbersTo are the definitions; that writing and reading agree is shown in Agreement.. and ClosedTokens; the files named ..Laws
+-- hold what these need, NumbersToLaws what holds of a line with other numbers; LineTable computes worked lines of the documents.
 pub mod Tree
 pub mod Meaning
 pub mod TreeFault
@@ -12,3 +12,5 @@ pub mod ClosedTokens
 pub mod AgreementEnds
 pub mod AgreementLine
 pub mod LineTable
+pub mod NumbersTo
+pub mod NumbersToLaws

@@ -57,6 +57,10 @@ pub data Condition : Type 0 where
 pub data Line : Type 0 where
   line : (w : ℕ) → T (isId w) → ℕ → Condition → Action → List Action → Line
 
+-- its number
+abbrev pub treeNumber : Line → ℕ
+treeNumber (line w v n c a r) = n
+
 -- ---- how a tree is written
 
 abbrev indexed : ℕ → ℕ → List ℕ

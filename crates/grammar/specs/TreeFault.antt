@@ -7,7 +7,7 @@ use Prim.Native.Nat.{ℕ, suc, _+_, _-_, _≤_}
 use lib.Dec.{eqb}
 use lib.ListN.{length}
 use Rattle.values.specs.Codes.{confused, tooManyActions}
-use Rattle.checking.specs.declared.check.Line.{Line as Told}
+use Rattle.checking.specs.declared.line.Line.{Line as Told}
 use Rattle.tokens.specs.Token.{IDS, IM, isFifo, axisOf}
 use Rattle.grammar.specs.Tree.{Operand, number, variable, position, truth, bracket, minus, not, product, Factors, noFactor, factor, Sum, sum, Terms, noTerm, term, Action, assign, assignPosition, drive, code, call, Condition, always, under, Line, line, conditionTokens, lineTokens}
 use Rattle.tokens.specs.Descent.{Answer, good, stop}

@@ -1,1 +1,1 @@
-// Theorems over the crate code: its reading of tokens is the grammar of document 01, both ways. It holds no code of its own.
+// Theorems over the crate checking: its reading of tokens is the grammar of document 01, both ways. It holds no code of its own.

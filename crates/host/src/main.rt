@@ -84,7 +84,7 @@ fn one_beat(k: u32, set: &[u32; SIZE], state: State) -> Beaten {
     tell(b"beat ", k as u64);
     tell(b": code ", b.code as u64);
     tell(b", orders ", b.orders as u64);
-    tell(b", acted ", b.acted as u64);
+    tell(b", acted ", b.acted);
     end_line();
     carry_out_all(&orders, b.orders);
     b

@@ -87,11 +87,15 @@ pub fn write(out: &[u8; OUT], n: usize) {
     io::write_all(STDOUT_FILENO, first(out, n));
 }
 
-// Answers three numbers.
-pub fn answer(a: u32, b: u32, c: u32) {
+// One more than the low half of a number of 64 bits holds.
+const HALF: u64 = 4294967296;
+
+// Answers two numbers, and one of 64 bits as two, its low half first.
+pub fn answer(a: u32, b: u32, c: u64) {
     let mut out = [0u8; OUT];
     let second = put_word(&mut out, 0, a);
     let third = put_word(&mut out, second, b);
-    put_word(&mut out, third, c);
-    write(&out, 12);
+    let fourth = put_word(&mut out, third, (c % HALF) as u32);
+    put_word(&mut out, fourth, (c / HALF) as u32);
+    write(&out, 16);
 }

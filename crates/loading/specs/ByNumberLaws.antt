@@ -10,8 +10,8 @@ use borrow.Author.Tests.{lt-ltb}
 use Rattle.values.specs.Choice.{decide}
 use Rattle.tokens.specs.Token.{maxLines}
 use Rattle.reader.specs.Row.{Row, numbersOf, total, leastAbove, noRow, rising, byNumber}
-use Rattle.reader.specs.RisingLaws.{Apart, absent-at, Next, Found, sumAbove, sum-next, sumOf, sum-all, countAbove, count-all, least-found}
-use Rattle.reader.specs.DraftLoadLaws.{rising-length}
+use Rattle.reader.specs.Draft.{Apart}
+use Rattle.reader.specs.RisingLaws.{rising-length, absent-at, Next, Found, sumAbove, sum-next, sumOf, sum-all, countAbove, count-all, least-found}
 use Rattle.loading.specs.TakenLaws.{All}
 
 -- ---- rows that are apart

@@ -14,8 +14,7 @@ use Rattle.engine.specs.Set.{namesKnown}
 use Rattle.text.specs.Tokens.{tokensOf}
 use Rattle.text.specs.Lines.{Numbered, tokenLines}
 use Rattle.reader.specs.Row.{Row, numbersOf}
-use Rattle.reader.specs.StoredTokens.{ended}
-use Rattle.reader.specs.Load.{taken, refused, faultBelow, rowOf, rowsFrom, firstUnknown, outcome, loadAnswer}
+use Rattle.reader.specs.Load.{alone, taken, refused, faultBelow, rowOf, rowsFrom, firstUnknown, outcome, loadAnswer}
 use Rattle.reader.specs.RisingLaws.{next-row}
 use Rattle.loading.specs.LoadAnswers.{taken-answer, refused-answer, by-load}
 use Rattle.loading.specs.TakenLaws.{All, taking, Fine, text-fine, Named}
@@ -94,14 +93,14 @@ pub record FirstUnknown (ns : List ℕ) (rs : List Row) (k : ℕ) : Type 0 where
   pub behind : List Row
   pub split : rs ≡ before ++ (unknown ∷ behind)
   pub known : All (Named ns) before
-  pub unnamed : namesKnown (ended (unknown .tokens)) ns setSize 0 ≡ false
+  pub unnamed : namesKnown (alone (unknown .tokens)) ns setSize 0 ≡ false
   pub place : unknown .place ≡ k
 
 found-unknown : (ns : List ℕ) (rs : List Row) (k : ℕ) → firstUnknown ns rs ≡ suc k → FirstUnknown ns rs (suc k)
 unfolding firstUnknown
 found-unknown ns [] k h = absurd (omega arith)
 found-unknown ns (r ∷ rs) k h =
-    choice _ (namesKnown (ended (r .tokens)) ns setSize 0) (firstUnknown ns rs) (r .place) (suc k) h
+    choice _ (namesKnown (alone (r .tokens)) ns setSize 0) (firstUnknown ns rs) (r .place) (suc k) h
     (λ t e.
     let i = found-unknown ns rs k e in
     record { before = r ∷ i .before; unknown = i .unknown; behind = i .behind; split = ap {B = List Row} (λ m. r ∷ m) (i .split); known = (t, i .known); unnamed = i .unnamed; place = i .place })
@@ -139,7 +138,7 @@ module _ (t : List ℕ) where
       (λ l m rs j f g h. clash (cc))
       (λ l m rs h. absurd (refused-not-taken rs c k e h))
 
-  unknown-answer : (rs : List Row) (k : ℕ) → Small → rowsFrom [] (tokenLines t) ≡ taken rs → firstUnknown (numbersOf rs) rs ≡ suc k → (loadAnswer t .code ≡ 12) × (loadAnswer t .line ≡ suc k)
+  unknown-answer : (rs : List Row) (k : ℕ) → Small → rowsFrom [] (tokenLines t) ≡ taken rs → firstUnknown (numbersOf rs) rs ≡ suc k → (loadAnswer t .code ≡ notInSet) × (loadAnswer t .line ≡ suc k)
   unknown-answer rs k x e f =
       by-load _ t
       (λ m h. absurd (omega (arith, x)))
@@ -177,7 +176,7 @@ module _ (t : List ℕ) where
 
   -- CODE 12 AND THE LINE k: no line has such a fault, and the first with a LOCK or UNLOCK of a number that no line of the text has stands at k
   pub code-12 : (k : ℕ) →
-      ((loadAnswer t .code ≡ 12) × (loadAnswer t .line ≡ k))
+      ((loadAnswer t .code ≡ notInSet) × (loadAnswer t .line ≡ k))
       ↔ ((length t ≤ textSize) × (length (tokenLines t) ≤ maxLines) × ((rs : List Row) × (rowsFrom [] (tokenLines t) ≡ taken rs) × FirstUnknown (numbersOf rs) rs k))
   code-12 k = (
     (λ x. by-load _ t
@@ -197,6 +196,6 @@ module _ (t : List ℕ) where
         by-place rs (u .unknown .place) k (u .place) p (l, m) e (unknown-found (numbersOf rs) rs k u)),
   )
     where
-      by-place : (rs : List Row) (n j : ℕ) → n ≡ j → 1 ≤ n → Small → rowsFrom [] (tokenLines t) ≡ taken rs → firstUnknown (numbersOf rs) rs ≡ j → (loadAnswer t .code ≡ 12) × (loadAnswer t .line ≡ j)
+      by-place : (rs : List Row) (n j : ℕ) → n ≡ j → 1 ≤ n → Small → rowsFrom [] (tokenLines t) ≡ taken rs → firstUnknown (numbersOf rs) rs ≡ j → (loadAnswer t .code ≡ notInSet) × (loadAnswer t .line ≡ j)
       by-place rs n zero e l s h f = absurd (omega arith)
       by-place rs n (suc j) e l s h f = unknown-answer rs j s h f

@@ -1,8 +1,11 @@
--- Loading, whatever the text: Answers and FirstFault say what each code means, Sound that the set is sound and 22 never arises, Lines that a set which is taken is what the text has
--- (Unmarked: a line without the marks of written points). The files named ..Laws hold what these need.
+-- Loading, whatever the text: LoadAnswers and FirstFault say what each code means, LoadedSound that the set is sound and 22 never arises, LoadedLines that a set which is taken is
+-- what the text has (Unmarked: a line without the marks of written points), LoadedTurns that its turns are those of the text's trees. The files named ..Laws hold what these need.
 pub mod Unmarked
 pub mod UnmarkedLaws
+pub mod PlaceLaws
+pub mod StandLaws
 pub mod PlacedLaws
+pub mod NumbersNamesLaws
 pub mod StoredLineLaws
 pub mod TakenLaws
 pub mod ByNumberLaws
@@ -12,3 +15,4 @@ pub mod LoadAnswers
 pub mod FirstFault
 pub mod LoadedSound
 pub mod LoadedLines
+pub mod LoadedTurns

@@ -10,7 +10,7 @@ use lib.Seq.{getD-set-same, getD-set-other}
 use borrow.Author.Tests.{eq-eqb, lt-ltb, le-ltb}
 use Rattle.values.specs.Choice.{decide, chosen, refused}
 use Rattle.tokens.specs.Token.{setSize, maxLines}
-use Rattle.checking.specs.declared.check.Line.{Line}
+use Rattle.checking.specs.declared.line.Line.{Line}
 use Rattle.engine.specs.declared.set.Lines.{Lines}
 use Rattle.engine.specs.Set.{lineCount, lineOf, noLine, linesFrom, linesRead, rankIn, isKnown, allKnown, namedLines, soundLines}
 use Rattle.reader.specs.Row.{Row, noRow}

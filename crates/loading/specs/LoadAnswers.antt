@@ -1,5 +1,5 @@
--- What loading answers, and when: 0 exactly if the text is taken, 1 exactly if it is too long, 2 exactly if it has too many lines; the state in every case; and that one answer
--- alone is allowed. Theorems; nothing is assumed.
+-- What loading answers, and when: 0 exactly if the text is taken, 1 exactly if it is too long, 2 exactly if it has too many lines; and that one answer alone is
+-- allowed. (The state that every load leaves: `load-power-on` of demands.) Theorems; nothing is assumed.
 use mathlib.Core.Path.{_≡_, refl, ap, _∙_}
 use mathlib.Core.Bool.{true, false}
 use mathlib.Core.List.{List, [], _∷_, _++_}
@@ -7,28 +7,28 @@ use mathlib.Core.Logic.{_↔_, _⊎_, inl, inr}
 use Prim.Native.Nat.{ℕ, zero, suc, _≤_, _<_}
 use native.Mathlib.Omega.{arith}
 use lib.Dec.{eqb, ltb}
-use lib.ListN.{length, length-append}
+use lib.ListN.{length}
 use borrow.Author.Tests.{ltb-true, ltb-false, eqb-true, eqb-false}
 use Rattle.values.specs.Codes.{tooLong, tooManyLines, tooDeep, notInGrammar, notInSet}
 use Rattle.values.specs.Choice.{decide, chosen, refused as not-chosen}
 use Rattle.values.specs.Numbers.{clash}
 use Rattle.values.specs.Unique.{unique}
-use Rattle.checking.specs.declared.check.Line.{Line as Told}
-use Rattle.tokens.specs.Token.{END, setSize, maxLines, textSize}
+use Rattle.checking.specs.declared.line.Line.{Line as Told}
+use Rattle.tokens.specs.Token.{setSize, maxLines, textSize}
 use Rattle.tokens.specs.SingleFault.{opensTooMany}
 use Rattle.checking.specs.Fault.{lineAt}
 use Rattle.grammar.specs.TreeFault.{lineFault, Proper}
 use Rattle.grammar.specs.TreeFaultLaws.{line-proper}
 use Rattle.grammar.specs.AgreementLine.{line-found, line-fault}
 use Rattle.engine.specs.Set.{isKnown, emptySet}
-use Rattle.engine.specs.State.{powerOn}
 use Rattle.text.specs.Byte.{run}
 use Rattle.text.specs.Tokens.{Tokens, tokensOf}
 use Rattle.text.specs.Lines.{Numbered, tokenLines, numbered, bodies, split, withoutComment, isBlank}
 use Rattle.reader.specs.declared.load_text.Loaded.{Loaded}
 use Rattle.reader.specs.Row.{Row, byNumber, setOf, numbersOf}
-use Rattle.reader.specs.StoredTokens.{ended}
-use Rattle.reader.specs.Load.{Outcome, taken, refused, numberIn, tokensFault, faultBelow, rowOf, rowsFrom, firstUnknown, named, outcome, loadAnswer, loadSet}
+use Rattle.values.specs.PutLaws.{put-length}
+use Rattle.loading.specs.StandLaws.{empty-length}
+use Rattle.reader.specs.Load.{alone, Outcome, taken, refused, numberIn, tokensFault, faultBelow, rowOf, rowsFrom, firstUnknown, named, outcome, loadAnswer, loadSet}
 use Rattle.reader.specs.RisingLaws.{next-row}
 use Rattle.reader.specs.RoomLaws.{roomOf, text-room}
 
@@ -54,17 +54,6 @@ by-outcome P t f g = go (outcome t) refl
     go : (o : Outcome) → outcome t ≡ o → P
     go (taken rs) e = f rs e
     go (refused c k) e = g c k e
-
--- AFTER EVERY LOAD THE STATE IS THAT OF POWER-ON
-pub load-power-on : (t : List ℕ) → loadAnswer t .state ≡ powerOn
-unfolding loadAnswer
-load-power-on t = go (outcome t)
-  where
-    go : (o : Outcome) →
-        let l : Loaded = elim o [ taken rs ↦ record { code = 0; line = 0; state = powerOn } | refused c k ↦ record { code = c; line = k; state = powerOn } ] in
-        l .state ≡ powerOn
-    go (taken rs) = refl
-    go (refused c k) = refl
 
 -- A TEXT WITHOUT A BYTE IS TAKEN, with no line
 pub empty-taken : outcome [] ≡ taken []
@@ -101,10 +90,10 @@ below-range : (rs : List Row) (ts : Tokens) → length (ts .list) < setSize → 
 unfolding faultBelow tokensFault
 below-range rs ts short =
     decide _ (ts .good)
-    (λ g. let n = length-append (ts .list) (END ∷ []) in by-fault (lineAt (ended (ts .list)) 0 .fault) refl g (fault-range (ended (ts .list)) (omega arith)))
+    (λ g. let n = put-length (ts .list) emptySet 0 in let e = empty-length in by-fault (lineAt (alone (ts .list)) 0 .fault) refl g (fault-range (alone (ts .list)) (omega arith)))
     (λ g. rw (g, faultBelow) (inr (omega arith)))
   where
-    by-fault : (k : ℕ) → lineAt (ended (ts .list)) 0 .fault ≡ k → ts .good ≡ true → NoneOr 4 10 (lineAt (ended (ts .list)) 0 .fault) →
+    by-fault : (k : ℕ) → lineAt (alone (ts .list)) 0 .fault ≡ k → ts .good ≡ true → NoneOr 4 10 (lineAt (alone (ts .list)) 0 .fault) →
         NoneOr 3 11 (faultBelow rs ts)
     by-fault zero e g r =
         decide _ (isKnown (numbersOf rs) (numberIn (ts .list)))
@@ -191,7 +180,7 @@ module _ (t : List ℕ) where
   )
 
   -- CODE 1: the text is above 4,096 bytes
-  pub code-1 : (loadAnswer t .code ≡ 1) ↔ (textSize < length t)
+  pub code-1 : (loadAnswer t .code ≡ tooLong) ↔ (textSize < length t)
   code-1 = (
     (λ e. by-load _ t
         (λ l h. l)
@@ -208,7 +197,7 @@ module _ (t : List ℕ) where
   )
 
   -- CODE 2: it is not, and has more than 32 lines with tokens
-  pub code-2 : (loadAnswer t .code ≡ 2) ↔ ((length t ≤ textSize) × (maxLines < length (tokenLines t)))
+  pub code-2 : (loadAnswer t .code ≡ tooManyLines) ↔ ((length t ≤ textSize) × (maxLines < length (tokenLines t)))
   code-2 = (
     (λ e. by-load _ t
         (λ _ h. let z = refused-answer t tooLong 0 h .0 in absurd (omega arith))

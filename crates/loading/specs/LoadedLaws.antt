@@ -14,7 +14,8 @@ use Rattle.soundness.specs.SetSoundLaws.{rank-number}
 use Rattle.text.specs.Lines.{tokenLines}
 use Rattle.reader.specs.Row.{Row, numbersOf, total, noRow, byNumber, setOf}
 use Rattle.reader.specs.Load.{taken, outcome}
-use Rattle.reader.specs.RisingLaws.{Apart, number-at, numbers-length, taken-apart}
+use Rattle.reader.specs.Draft.{Apart}
+use Rattle.reader.specs.RisingLaws.{number-at, numbers-length, taken-apart}
 use Rattle.reader.specs.RoomLaws.{taken-room}
 use Rattle.loading.specs.PlacedLaws.{Laid, set-length, set-count, set-laid}
 use Rattle.loading.specs.TakenLaws.{All, all-at, taking, Fine, taken-fine, Named, taken-named, all-short}

@@ -4,27 +4,22 @@ use mathlib.Core.List.{List, [], _∷_, map}
 use Prim.Native.Nat.{ℕ, zero, suc, _+_, _≤_, _<_}
 use native.Mathlib.Omega.{arith}
 use lib.ListN.{length, getD}
-use Rattle.grammar.specs.Tree.{Line, lineTokens}
+use Rattle.grammar.specs.Tree.{Line, lineTokens, treeNumber}
 use Rattle.tokens.specs.Token.{setSize}
 use Rattle.grammar.specs.Meaning.{Stands}
 use Rattle.grammar.specs.AgreementLaws.{stands-place}
 use Rattle.grammar.specs.TreeFault.{lineFault, partsFrom}
-use Rattle.engine.specs.Set.{lineCount, lineOf}
+use Rattle.engine.specs.Set.{lineCount, startOf, lineOf, ended}
 use Rattle.text.specs.Lines.{tokenLines}
 use Rattle.reader.specs.Row.{Row, noRow, byNumber, setOf}
-use Rattle.reader.specs.StoredTokens.{ended}
 use Rattle.reader.specs.Load.{taken, rowOf, outcome, loadSet}
 use Rattle.loading.specs.Unmarked.{unmarkedTree}
 use Rattle.loading.specs.LoadAnswers.{taken-answer}
 use Rattle.loading.specs.PlacedLaws.{heldTokens, Laid, set-length, set-count}
-use Rattle.loading.specs.StoredLineLaws.{treeNumber, written, held}
+use Rattle.loading.specs.StoredLineLaws.{written, held}
 use Rattle.loading.specs.TakenLaws.{All, all-at, taken-rows, AllTokens, taken-tokens, Fine, taken-fine}
 use Rattle.loading.specs.ByNumberLaws.{Of, by-length, by-rises, by-of, by-rank, rises-apart}
 use Rattle.loading.specs.LoadedLaws.{rows-apart, each-by, taken-laid, taken-short}
-
--- where the line of rank k begins in a set
-abbrev pub startOf : List ℕ → ℕ → ℕ
-startOf s k = getD s (1 + k) 0
 
 -- the line of the text that is the row r stands in the set s at rank k
 pub record HoldsLine (s : List ℕ) (k : ℕ) (r : Row) : Type 0 where

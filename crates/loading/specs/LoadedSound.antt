@@ -16,10 +16,14 @@ use Rattle.soundness.specs.CellSoundLaws.{power-on}
 use Rattle.soundness.specs.Call.{Call, doBeat, doLock, doUnlock, doCancel, doReset, codeAfter, afterAll}
 use Rattle.soundness.specs.SoundLaws.{Whole, call-keeps, call-not22, power-on-whole, always-sound, never-22}
 use Rattle.demands.specs.Run.{Now, Reply, step, runFrom, run}
+use Rattle.demands.specs.Asks.{Ask, standing, lastText, callsSince}
+use Rattle.demands.specs.AskLaws.{load-power-on}
+use Rattle.demands.specs.FromALoadOn.{since-the-load}
 use Rattle.reader.specs.Row.{byNumber}
 use Rattle.reader.specs.Load.{loadAnswer, loadSet}
-use Rattle.loading.specs.LoadAnswers.{taken-answer, refused-empty, by-outcome, load-power-on}
-use Rattle.loading.specs.PlacedLaws.{set-length, empty-length}
+use Rattle.loading.specs.LoadAnswers.{taken-answer, refused-empty, by-outcome}
+use Rattle.loading.specs.StandLaws.{empty-length}
+use Rattle.loading.specs.PlacedLaws.{set-length}
 use Rattle.loading.specs.LoadedLaws.{taken-read}
 
 -- ---- the set
@@ -69,11 +73,22 @@ module _ (s : List ℕ) (size : length s ≤ setSize) where
   step-keeps (doCancel k) n w h = (call-keeps s (n .kept) (doCancel k) size w, (call-not22 s (n .kept) (doCancel k) size w, h))
   step-keeps doReset n w h = (call-keeps s (n .kept) doReset size w, (call-not22 s (n .kept) doReset size w, h))
 
-  run-keeps : (cs : List Call) (n : Now State) → Whole s (n .kept) → NoneIs22 (n .told) → NoneIs22 (runFrom s cs n .told)
+  run-keeps : (cs : List Call) (n : Now State) → Whole s (n .kept) → NoneIs22 (n .told) → Whole s (runFrom s cs n .kept) × NoneIs22 (runFrom s cs n .told)
   unfolding runFrom
-  run-keeps [] n w h = h
+  run-keeps [] n w h = (w, h)
   run-keeps (c ∷ cs) n w h = let (a, b) = step-keeps c n w h in run-keeps cs (step s c n) a b
+
+loaded-keeps : (t : List ℕ) (cs : List Call) → Whole (loadSet t) (run (loadSet t) cs .kept) × NoneIs22 (run (loadSet t) cs .told)
+loaded-keeps t cs = let n = load-size t in run-keeps (loadSet t) (omega arith) cs _ (power-on-whole (loadSet t) (load-lines-sound t)) tt
 
 -- IN EVERY RUN OVER A LOADED SET no reply is a 22
 pub load-run-never-22 : (t : List ℕ) (cs : List Call) → NoneIs22 (run (loadSet t) cs .told)
-load-run-never-22 t cs = let n = load-size t in run-keeps (loadSet t) (omega arith) cs _ (power-on-whole (loadSet t) (load-lines-sound t)) tt
+load-run-never-22 t cs = loaded-keeps t cs .1
+
+-- LOADING AND ALL CALLS KEEP IT SO: from a load on, through any asks and further loads among them, the set and the state are sound
+pub sound-from-a-load : (t : List ℕ) (qs : List Ask) → let n = standing t qs in isSound (n .set) (n .since .kept) ≡ true
+sound-from-a-load t qs = rw (since-the-load t qs) (loaded-keeps (lastText t qs) (callsSince [] qs) .0 .sound)
+
+-- and no reply is a 22
+pub never-22-from-a-load : (t : List ℕ) (qs : List Ask) → NoneIs22 (standing t qs .since .told)
+never-22-from-a-load t qs = rw (since-the-load t qs) (loaded-keeps (lastText t qs) (callsSince [] qs) .1)

@@ -7,6 +7,7 @@ use native.Mathlib.Omega.{arith}
 use lib.Dec.{ltb}
 use lib.ListN.{length, getD}
 use borrow.Author.Tests.{ltb-false}
+use Rattle.values.specs.Codes.{notInSet}
 use Rattle.values.specs.Choice.{decide, choice}
 use Rattle.values.specs.Numbers.{clash}
 use Rattle.tokens.specs.Token.{setSize, AllReal, maxLines, textSize}
@@ -16,9 +17,8 @@ use Rattle.text.specs.Tokens.{tokensOf}
 use Rattle.text.specs.TokensLaws.{tokens-real}
 use Rattle.text.specs.Lines.{Numbered, textLines, bodies, isBlank, numbered, tokenLines}
 use Rattle.reader.specs.Row.{Row, numbersOf, total, noRow}
-use Rattle.reader.specs.StoredTokens.{ended}
 use Rattle.reader.specs.RisingLaws.{next-row, no-fault}
-use Rattle.reader.specs.Load.{Outcome, taken, refused, rowOf, rowsFrom, firstUnknown, named, outcome}
+use Rattle.reader.specs.Load.{alone, Outcome, taken, refused, rowOf, rowsFrom, firstUnknown, named, outcome}
 
 -- ---- what holds of each row
 
@@ -50,7 +50,7 @@ named-taken (taken qs) rs h = go (firstUnknown (numbersOf qs) qs) refl
   where
     go : (k : ℕ) → firstUnknown (numbersOf qs) qs ≡ k → (taken qs ≡ taken rs) × (firstUnknown (numbersOf rs) rs ≡ 0)
     go zero e = let f : taken qs ≡ taken rs = rw (e, named) at h in let g : qs ≡ rs = cc in (f, rw (← g) e)
-    go (suc k) e = let f : refused 12 (suc k) ≡ taken rs = rw (e, named) at h in clash (cc)
+    go (suc k) e = let f : refused notInSet (suc k) ≡ taken rs = rw (e, named) at h in clash (cc)
 named-taken (refused c k) rs h = clash (cc)
 
 pub taking : (t : List ℕ) (rs : List Row) → outcome t ≡ taken rs → Taking t rs
@@ -98,8 +98,8 @@ taken-tokens t rs h = rows-tokens (tokenLines t) [] rs (taking t rs h .rows)
 pub record Fine (r : Row) : Type 0 where
   pub place : 1 ≤ r .place
   pub real : AllReal (r .tokens)
-  pub clean : lineAt (ended (r .tokens)) 0 .fault ≡ 0
-  pub number : r .number ≡ lineAt (ended (r .tokens)) 0 .number
+  pub clean : lineAt (alone (r .tokens)) 0 .fault ≡ 0
+  pub number : r .number ≡ lineAt (alone (r .tokens)) 0 .number
 
 -- lines are numbered from 1
 abbrev Placed : List Numbered → Type 0
@@ -137,13 +137,13 @@ taken-fine t rs h = text-fine t rs (taking t rs h .rows)
 
 -- each of some rows names only the numbers ns
 abbrev pub Named : List ℕ → Row → Type 0
-Named ns r = namesKnown (ended (r .tokens)) ns setSize 0 ≡ true
+Named ns r = namesKnown (alone (r .tokens)) ns setSize 0 ≡ true
 
 first-named : (ns : List ℕ) (rs : List Row) → All Fine rs → firstUnknown ns rs ≡ 0 → All (Named ns) rs
 unfolding firstUnknown
 first-named ns [] f h = tt
 first-named ns (r ∷ rs) f h =
-    choice _ (namesKnown (ended (r .tokens)) ns setSize 0) (firstUnknown ns rs) (r .place) 0 h
+    choice _ (namesKnown (alone (r .tokens)) ns setSize 0) (firstUnknown ns rs) (r .place) 0 h
     (λ t e. (t, first-named ns rs (f .1) e))
     (λ _ e. let p = f .0 .place in absurd (omega arith))
 

@@ -1,108 +1,169 @@
--- Laws of the draft: what a line comes to that is kept or refuses the text, and how far a draft reaches.
+-- Laws of what is kept of a text: the lines of a draft, and one line more.
 use mathlib.Core.Path.{_≡_, refl, sym, ap, _∙_}
-use mathlib.Core.Bool.{Bool, true, false}
-use mathlib.Core.List.{List}
-use Prim.Native.Nat.{ℕ, zero, suc, _+_, _<_, _≤_}
+use mathlib.Core.List.{List, [], _∷_, _++_}
+use Prim.Native.Nat.{ℕ, zero, suc, _+_, _-_, _<_, _≤_}
+use native.Mathlib.Decide.{ℕ-discrete, decLt}
 use native.Mathlib.Omega.{arith}
-use borrow.Author.Tests.{lt-ltb, le-ltb, ltb-true}
-use lib.Dec.{ltb}
-use lib.ListN.{length, set}
-use Rattle.values.specs.Codes.{tooManyLines, makesNoToken, usedAbove}
-use Rattle.checking.specs.declared.check.Line.{Line}
-use Rattle.checking.specs.Fault.{lineAt}
-use Rattle.engine.specs.Set.{rankIn, isKnown}
-use Rattle.text.specs.Tokens.{Tokens}
+use native.Mathlib.Numerals.{add-one}
+use lib.ListN.{length, getD, set, take, drop, length-set, length-append, length-take, length-drop, List·getD-append, List·getD-eq-default}
+use lib.Seq.{drop-cons, getD-set-same, getD-set-other, getD-append-seam, ext-getD, drop-set-add, take-set-le}
+use Rattle.values.specs.PutAt.{putAt}
+use Rattle.values.specs.PutLaws.{put-length, put-before}
+use Rattle.tokens.specs.Token.{setSize, maxLines}
 use Rattle.reader.specs.declared.draft.Draft.{Draft}
-use Rattle.reader.specs.StoredTokens.{ended}
-use Rattle.text.specs.PutAt.{putAt}
-use Rattle.reader.specs.Draft.{Drafted, refusedAt, grownBy, keptLine, addedLine}
+use Rattle.reader.specs.Row.{Row, numbersOf, total, noRow}
+use Rattle.reader.specs.Draft.{noDraft, grownBy, rowIn, rowsAt, rowsIn, Held}
+use Rattle.reader.specs.RisingLaws.{number-at, numbers-length}
+use Rattle.reader.specs.RoomLaws.{total-last}
 
--- ---- the line l stands in the array s at the draft's place
+-- ---- a part of an array that something is put into
 
-module _ (s : List ℕ) (d : Draft) (k next : ℕ) (l : Line) (e : l ≡ lineAt s (d .at)) (y : Draft) where
-  fault-is : lineAt s (d .at) .fault ≡ l .fault
-  fault-is = ap (λ (x : Line). x .fault) (sym e)
+part-set : (s : List ℕ) (p a e t : ℕ) → a ≤ e → e ≤ p → take (e - a) (drop a (set s p t)) ≡ take (e - a) (drop a s)
+part-set s p a e t h l =
+    let q : p ≡ a + (p - a) = omega arith in
+    ap (λ (x : ℕ). take (e - a) (drop a (set s x t))) q ∙ ap (take (e - a)) (drop-set-add a s (p - a) t) ∙ take-set-le (e - a) (drop a s) (p - a) t (omega arith)
 
-  number-is : lineAt s (d .at) .number ≡ l .number
-  number-is = ap (λ (x : Line). x .number) (sym e)
+-- before it the part stays
+part-before : (l s : List ℕ) (p a e : ℕ) → a ≤ e → e ≤ p → take (e - a) (drop a (putAt s p l)) ≡ take (e - a) (drop a s)
+part-before [] s p a e h l = refl
+part-before (t ∷ ts) s p a e h l = part-before ts (set s p t) (p + 1) a e h (omega arith) ∙ part-set s p a e t h l
 
-  pub kept-fault : (l .fault ≡ 0 → ⊥) → y ≡ refusedAt d (l .fault) k → record { array = s; draft = y } ≡ keptLine s d k next
-  unfolding keptLine
-  kept-fault f g = go (l .fault) f fault-is g
+-- there it is what was put
+pub part-put : (l s : List ℕ) (p : ℕ) → p + length l ≤ length s → take (length l) (drop p (putAt s p l)) ≡ l
+part-put [] s p h = refl
+part-put (t ∷ l) s p h =
+    let n = length-set s p t in
+    let z = putAt (set s p t) (p + 1) l in
+    let m = put-length l (set s p t) (p + 1) in
+    let e : getD z p 0 ≡ t = put-before l (set s p t) (p + 1) p (omega arith) ∙ getD-set-same s p t 0 (omega arith) in
+    let i = part-put l (set s p t) (p + 1) (omega arith) in
+    rw (drop-cons z p 0 (omega arith), e) (ap (λ (x : List ℕ). t ∷ x) (ap (λ (x : ℕ). take (length l) (drop x z)) (sym (add-one p)) ∙ i))
+
+-- ---- the lines of a draft
+
+module _ (s : List ℕ) (d : Draft) where
+  pub rows-length : (n j : ℕ) → length (rowsAt s d n j) ≡ n
+  unfolding rowsAt
+  rows-length zero j = refl
+  rows-length (suc n) j = ap suc (rows-length n (j + 1))
+
+  pub row-at : (n j i : ℕ) → i < n → getD (rowsAt s d n j) i noRow ≡ rowIn s d (j + i)
+  unfolding rowsAt
+  row-at zero j i h = absurd (omega arith)
+  row-at (suc n) j zero h = let e : j ≡ j + 0 = omega arith in ap (rowIn s d) e
+  row-at (suc n) j (suc i) h = let e : j + 1 + i ≡ j + suc i = omega arith in row-at n (j + 1) i (omega arith) ∙ ap (rowIn s d) e
+
+  rows-last : (n j : ℕ) → rowsAt s d (suc n) j ≡ rowsAt s d n j ++ (rowIn s d (j + n) ∷ [])
+  unfolding rowsAt
+  rows-last zero j = let e : j ≡ j + 0 = omega arith in ap (λ (x : ℕ). rowIn s d x ∷ []) e
+  rows-last (suc n) j =
+      let e : j + 1 + n ≡ j + suc n = omega arith in
+      ap (λ (x : List Row). rowIn s d j ∷ x) (rows-last n (j + 1) ∙ ap (λ (x : ℕ). rowsAt s d n (j + 1) ++ (rowIn s d x ∷ [])) e)
+
+-- where the tokens of a line stand
+pub row-bounds : (s : List ℕ) (d : Draft) → Held s d → (j : ℕ) → j < d .count →
+    (getD (d .starts) j 0 ≤ getD (d .ends) j 0) × (getD (d .ends) j 0 ≤ setSize) × (length (rowIn s d j .tokens) ≡ getD (d .ends) j 0 - getD (d .starts) j 0) × (j < maxLines)
+row-bounds s d h j l =
+    let o = h .ordered j l in
+    let w = h .within in
+    let z = h .size in
+    let f = h .few in
+    let t = length-take (getD (d .ends) j 0 - getD (d .starts) j 0) (drop (getD (d .starts) j 0) s) in
+    let r = length-drop (getD (d .starts) j 0) s in
+    (o .0, omega arith, omega arith, omega arith)
+
+rows-same : (s z : List ℕ) (d e : Draft) (n j : ℕ) → ((i : ℕ) → i < j + n → rowIn s d i ≡ rowIn z e i) → rowsAt s d n j ≡ rowsAt z e n j
+unfolding rowsAt
+rows-same s z d e zero j h = refl
+rows-same s z d e (suc n) j h = rw (h j (omega arith)) (ap (λ (x : List Row). rowIn z e j ∷ x) (rows-same s z d e n (j + 1) (λ i l. h i (omega arith))))
+
+-- ---- one line more
+
+-- the numbers of one line more
+numbers-last : (rs : List Row) (r : Row) → length rs < maxLines → set (numbersOf rs) (length rs) (r .number) ≡ numbersOf (rs ++ (r ∷ []))
+numbers-last rs r l =
+    let m = numbers-length rs in
+    let n = length-append rs (r ∷ []) in
+    ext-getD 0 (set (numbersOf rs) (length rs) (r .number)) (numbersOf (rs ++ (r ∷ []))) (length-set (numbersOf rs) (length rs) (r .number) ∙ m ∙ sym (numbers-length (rs ++ (r ∷ []))))
+    (λ i h. at-place i (ℕ-discrete i (length rs)) (decLt i (length rs)) ∙ sym (number-at (rs ++ (r ∷ [])) i (omega arith)))
+  where
+    at-place : (i : ℕ) → Dec (i ≡ length rs) → Dec (i < length rs) → getD (set (numbersOf rs) (length rs) (r .number)) i 0 ≡ getD (rs ++ (r ∷ [])) i noRow .number
+    at-place i (yes e) y =
+        let m = numbers-length rs in
+        rw e (getD-set-same (numbersOf rs) (length rs) (r .number) 0 (omega arith) ∙ sym (ap (λ (x : Row). x .number) (getD-append-seam rs r [] noRow)))
+    at-place i (no n) (yes h) = getD-set-other (numbersOf rs) (length rs) i (r .number) 0 n ∙ number-at rs i (omega arith) ∙ sym (ap (λ (x : Row). x .number) (List·getD-append rs (r ∷ []) noRow i h))
+    at-place i (no n) (no h) =
+        let m = length-append rs (r ∷ []) in
+        getD-set-other (numbersOf rs) (length rs) i (r .number) 0 n ∙ number-at rs i (omega arith)
+        ∙ ap (λ (x : Row). x .number) (List·getD-eq-default rs noRow {n = i} (omega (arith, h)) ∙ sym (List·getD-eq-default (rs ++ (r ∷ [])) noRow {n = i} (omega (arith, n, h))))
+
+-- the line k of the text, with the number n and the tokens ts, behind those of the draft d
+module _ (s : List ℕ) (d : Draft) (h : Held s d) (k n : ℕ) (ts : List ℕ) (few : d .count < maxLines) (fits : d .at + length ts ≤ setSize) where
+  abbrev array : List ℕ
+  array = putAt s (d .at) ts
+
+  abbrev draft : Draft
+  draft = grownBy d k n (d .at + length ts)
+
+  abbrev row : Row
+  row = record { place = k; number = n; tokens = ts }
+
+  kept : (i : ℕ) → i < d .count → rowIn array draft i ≡ rowIn s d i
+  kept i l =
+      let o = h .ordered i l in
+      rw (
+        getD-set-other (d .places) (d .count) i k 0 (λ e. omega arith),
+        getD-set-other (d .numbers) (d .count) i n 0 (λ e. omega arith),
+        getD-set-other (d .starts) (d .count) i (d .at) 0 (λ e. omega arith),
+        getD-set-other (d .ends) (d .count) i (d .at + length ts) 0 (λ e. omega arith),
+        part-before ts s (d .at) (getD (d .starts) i 0) (getD (d .ends) i 0) (o .0) (o .1),
+      )
+
+  numbers-size : length (d .numbers) ≡ maxLines
+  numbers-size = ap length (h .numbers) ∙ numbers-length (rowsIn s d)
+
+  newest : rowIn array draft (d .count) ≡ row
+  newest =
+      let z = h .sizes in
+      let m = numbers-size in
+      let l = h .size in
+      let e : d .at + length ts - d .at ≡ length ts = omega arith in
+      rw (
+        getD-set-same (d .places) (d .count) k 0 (omega arith),
+        getD-set-same (d .numbers) (d .count) n 0 (omega arith),
+        getD-set-same (d .starts) (d .count) (d .at) 0 (omega arith),
+        getD-set-same (d .ends) (d .count) (d .at + length ts) 0 (omega arith),
+        e,
+        part-put ts s (d .at) (omega arith),
+      )
+
+  pub grown-rows : rowsIn array draft ≡ rowsIn s d ++ (row ∷ [])
+  grown-rows =
+      ap (λ (x : ℕ). rowsAt array draft x 0) (add-one (d .count)) ∙ rows-last array draft (d .count) 0
+      ∙ ap (λ (x : ℕ). rowsAt array draft (d .count) 0 ++ (rowIn array draft x ∷ [])) (let e : 0 + d .count ≡ d .count = omega arith in e)
+      ∙ ap (λ (x : List Row). x ++ (rowIn array draft (d .count) ∷ [])) (rows-same array s draft d (d .count) 0 (λ i l. kept i (omega arith)))
+      ∙ ap (λ (x : Row). rowsIn s d ++ (x ∷ [])) newest
+
+  pub grown-held : Held array draft
+  grown-held =
+      let z = h .sizes in
+      let c = rows-length s d (d .count) 0 in
+      let t = total-last (rowsIn s d) row in
+      let r = h .room in
+      record {
+        size = put-length ts s (d .at) ∙ h .size;
+        sizes = (length-set (d .places) (d .count) k ∙ z .0, length-set (d .starts) (d .count) (d .at) ∙ z .1, length-set (d .ends) (d .count) (d .at + length ts) ∙ z .2);
+        few = omega arith;
+        numbers = ap (λ (ns : List ℕ). set ns (d .count) n) (h .numbers) ∙ ap (λ (j : ℕ). set (numbersOf (rowsIn s d)) j n) (sym c) ∙ numbers-last (rowsIn s d) row (omega arith) ∙ ap numbersOf (sym grown-rows);
+        room = let q = ap total grown-rows in omega arith;
+        within = fits;
+        ordered = λ j l. at-place j l (ℕ-discrete j (d .count));
+      }
     where
-      go : (n : ℕ) → (n ≡ 0 → ⊥) → lineAt s (d .at) .fault ≡ n → y ≡ refusedAt d n k → record { array = s; draft = y } ≡ keptLine s d k next
-      go zero f h g = absurd (f refl)
-      go (suc n) f h g = rw g (simp (keptLine, h))
-
-  module _ (z : l .fault ≡ 0) (r : ℕ) (u : r ≡ rankIn (d .numbers) (l .number) 0) where
-    rank-is : rankIn (d .numbers) (lineAt s (d .at) .number) 0 ≡ r
-    rank-is = ap (λ (n : ℕ). rankIn (d .numbers) n 0) number-is ∙ sym u
-
-    pub kept-known : r < 32 → y ≡ refusedAt d usedAbove k → record { array = s; draft = y } ≡ keptLine s d k next
-    unfolding keptLine
-    kept-known h g = rw g (simp (keptLine, fault-is ∙ z, lt-ltb (rankIn (d .numbers) (lineAt s (d .at) .number) 0) 32 (rw rank-is h)))
-
-    -- x is the array afterwards
-    pub kept-new : 32 ≤ r → (x : List ℕ) → x ≡ set s (1 + d .count) (d .at) → y ≡ grownBy d k (l .number) next → record { array = x; draft = y } ≡ keptLine s d k next
-    unfolding keptLine
-    kept-new h x w g = rw (g, w, ← number-is) (simp (keptLine, fault-is ∙ z, le-ltb (rankIn (d .numbers) (lineAt s (d .at) .number) 0) 32 (rw rank-is h)))
-
--- ---- the tokens ts of a line are added
-
-module _ (s : List ℕ) (d : Draft) (k : ℕ) (ts : Tokens) where
-  pub added-many : 32 ≤ d .count → (y : Draft) → y ≡ refusedAt d tooManyLines 0 → record { array = s; draft = y } ≡ addedLine s d k ts
-  unfolding addedLine
-  added-many h y g = rw g (simp (addedLine, le-ltb (d .count) 32 h))
-
-  -- x is the array with the tokens
-  module _ (h : d .count < 32) (x : List ℕ) (e : x ≡ putAt s (d .at) (ended (ts .list))) where
-    pub added-bad : ts .good ≡ false → (y : Draft) → y ≡ refusedAt d makesNoToken k → record { array = x; draft = y } ≡ addedLine s d k ts
-    unfolding addedLine
-    added-bad z y g = rw (g, e) (simp (addedLine, lt-ltb (d .count) 32 h, z))
-
-    -- n is how many there are
-    pub added-kept : ts .good ≡ true → (n : ℕ) → n ≡ length (ts .list) → (z : Drafted) → z ≡ keptLine x d k (d .at + n + 1) → z ≡ addedLine s d k ts
-    unfolding addedLine
-    added-kept w n m z g = rw (g, e, m) (simp (addedLine, lt-ltb (d .count) 32 h, w))
-
--- ---- by cases on a code or fault, and on a test
-
-module _ {A : Type 0} where
-  abbrev pub coded : ℕ → A → (ℕ → A) → A
-  coded n x y = elim n as (λ _. A) [ zero ↦ x | suc c ↦ y c ]
-
-  pub code-none : (n : ℕ) (x : A) (y : ℕ → A) → n ≡ 0 → coded n x y ≡ x
-  code-none n x y h = rw h
-
-  pub code-some : (n : ℕ) (x : A) (f : ℕ → A) → (n ≡ 0 → ⊥) → coded n x (λ c. f (suc c)) ≡ f n
-  code-some zero x f h = absurd (h refl)
-  code-some (suc c) x f h = refl
-
-  pub each-code : (P : A → Type 0) (n : ℕ) (x : A) (y : ℕ → A) → P x → ((c : ℕ) → P (y c)) → P (coded n x y)
-  each-code P zero x y p q = p
-  each-code P (suc c) x y p q = q c
-
-  pub each-test : (P : A → Type 0) (b : Bool) (x y : A) → (b ≡ true → P x) → (b ≡ false → P y) → P (elim b as (λ _. A) [ true ↦ x | false ↦ y ])
-  each-test P true x y p q = p refl
-  each-test P false x y p q = q refl
-
--- ---- how far a draft reaches, and how many lines it has
-
-module _ (s : List ℕ) (d : Draft) (k : ℕ) where
-  -- a draft behind d reaches n places further at most, and has 32 lines at most
-  abbrev pub Grown : ℕ → Drafted → Type 0
-  Grown n x = (x .draft .at ≤ d .at + n) × (d .count ≤ 32 → x .draft .count ≤ 32)
-
-  kept-grown : (r : List ℕ) (n : ℕ) → d .count < 32 → Grown (n + 1) (keptLine r d k (d .at + n + 1))
-  unfolding keptLine
-  kept-grown r n h =
-      each-code (Grown (n + 1)) (lineAt r (d .at) .fault) _ _
-      (each-test (Grown (n + 1)) (isKnown (d .numbers) (lineAt r (d .at) .number)) _ _ (λ _. (omega arith, λ g. g)) (λ _. (omega arith, λ g. omega arith)))
-      (λ f. (omega arith, λ g. g))
-
-  pub added-grown : (ts : Tokens) → Grown (length (ts .list) + 1) (addedLine s d k ts)
-  unfolding addedLine
-  added-grown ts =
-      each-test (Grown (length (ts .list) + 1)) (ltb (d .count) 32) _ _
-      (λ h. each-test (Grown (length (ts .list) + 1)) (ts .good) _ _ (λ _. kept-grown (putAt s (d .at) (ended (ts .list))) (length (ts .list)) (ltb-true (d .count) 32 h)) (λ _. (omega arith, λ g. g)))
-      (λ _. (omega arith, λ g. g))
+      at-place : (j : ℕ) → j < d .count + 1 → Dec (j ≡ d .count) → (getD (draft .starts) j 0 ≤ getD (draft .ends) j 0) × (getD (draft .ends) j 0 ≤ draft .at)
+      at-place j l (yes e) =
+          let z = h .sizes in
+          rw (e, getD-set-same (d .starts) (d .count) (d .at) 0 (omega arith), getD-set-same (d .ends) (d .count) (d .at + length ts) 0 (omega arith)) (omega arith, omega arith)
+      at-place j l (no m) =
+          let o = h .ordered j (omega (arith, m)) in
+          rw (getD-set-other (d .starts) (d .count) j (d .at) 0 m, getD-set-other (d .ends) (d .count) j (d .at + length ts) 0 m) (o .0, omega arith)

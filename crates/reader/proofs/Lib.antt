@@ -1,11 +1,9 @@
--- Laws that the proofs of the functions cite: TokenLaws on the tokens of a body, TokenLineLaws on the lines of a text.
--- Laws that the proofs of the functions cite: DraftLaws on the draft.
--- Laws that the proofs of the functions cite: TextLaws on the draft of a text.
--- Laws that the proofs of the functions cite: a turn of each loop over the lines of a draft.
--- Laws that the proofs of the functions cite: LoadLaws on a whole text.
+-- Laws that the proofs of the functions cite: AloneLaws on a line by itself, TokenLaws on the tokens of a body, TokenLineLaws on the lines of a text, DraftLaws on what is kept of them, LineLaws on one line
+-- after the other, NumberLaws on lines by rising number, LoadLaws on a whole text.
+mod AloneLaws
 mod TokenLaws
 mod TokenLineLaws
 mod DraftLaws
-mod TextLaws
-mod ArrangeLaws
+mod LineLaws
+mod NumberLaws
 mod LoadLaws

@@ -1,98 +1,77 @@
 -- Laws of loading: what a text comes to, by the tests of the code.
 use mathlib.Core.Path.{_≡_, refl, sym, ap, _∙_}
-use mathlib.Core.Bool.{Bool, true, false}
-use mathlib.Core.List.{List}
-use Prim.Native.Nat.{ℕ, suc, _≤_}
+use mathlib.Core.List.{List, []}
+use Prim.Native.Nat.{ℕ, zero, suc, _≤_, _<_}
 use native.Mathlib.Omega.{arith}
-use lib.Dec.{ltb}
-use lib.ListN.{length, set}
-use Rattle.values.specs.Codes.{notInSet}
+use borrow.Author.Tests.{lt-ltb, le-ltb}
+use lib.ListN.{length}
+use Rattle.values.specs.Codes.{tooLong, tooManyLines, notInSet}
+use Rattle.values.specs.Choice.{chosen, refused as not-chosen}
 use Rattle.tokens.specs.Token.{maxLines, textSize}
-use Rattle.engine.specs.Set.{emptySet}
+use Rattle.engine.specs.Set.{emptySet, firstPlace}
 use Rattle.text.specs.Lines.{tokenLines}
+use Rattle.reader.specs.declared.draft.Draft.{Draft}
 use Rattle.reader.specs.declared.load_text.Loaded.{Loaded}
-use Rattle.reader.specs.Load.{loadAnswer, loadSet}
-use Rattle.reader.specs.Draft.{Drafted, noDraft}
-use Rattle.reader.specs.TextDraft.{draftOf, textDraft}
-use Rattle.reader.specs.Arrange.{unknownIn, arranged, arrangedSet}
-use Rattle.reader.specs.DraftLoad.{answered, draftAnswer, draftSet, workedAnswer, workedSet}
-use Rattle.reader.specs.DraftLoadLaws.{worked-answer, worked-set}
-use Rattle.reader.proofs.DraftLaws.{coded, code-none, code-some}
-use Rattle.reader.proofs.TextLaws.{few-lines}
-
--- ---- a draft
-
--- a is what it answers, s its set; the same of loading a text
-abbrev Comes : Drafted → Loaded → List ℕ → Type 0
-Comes d a s = (draftAnswer d ≡ a) × (draftSet d ≡ s)
-
-abbrev pub Loads : List ℕ → Loaded → List ℕ → Type 0
-Loads t a s = (a ≡ loadAnswer t) × (s ≡ loadSet t)
-
-module _ (d : Drafted) where
-  set-some : {a : Loaded} → draftAnswer d ≡ a → (a .code ≡ 0 → ⊥) → draftSet d ≡ emptySet
-  unfolding draftSet
-  set-some e f = code-some (draftAnswer d .code) (arrangedSet d) (λ _. emptySet) (λ z. f (ap (λ (x : Loaded). x .code) (sym e) ∙ z))
-
-  set-none : draftAnswer d ≡ answered 0 0 → draftSet d ≡ arrangedSet d
-  unfolding draftSet
-  set-none e = code-none (draftAnswer d .code) (arrangedSet d) (λ _. emptySet) (ap (λ (x : Loaded). x .code) e)
-
-  faulty : (d .draft .code ≡ 0 → ⊥) → draftAnswer d ≡ answered (d .draft .code) (d .draft .line)
-  unfolding draftAnswer
-  faulty f = code-some (d .draft .code) _ (λ c. answered c (d .draft .line)) f
-
-  draft-faulty : (d .draft .code ≡ 0 → ⊥) → Comes d (answered (d .draft .code) (d .draft .line)) emptySet
-  draft-faulty f = (faulty f, set-some (faulty f) f)
-
-  module _ (z : d .draft .code ≡ 0) where
-    named : draftAnswer d ≡ coded (unknownIn d) (answered 0 0) (λ k. answered notInSet (suc k))
-    unfolding draftAnswer
-    named = code-none (d .draft .code) _ (λ c. answered (suc c) (d .draft .line)) z
-
-    draft-unknown : (unknownIn d ≡ 0 → ⊥) → Comes d (answered notInSet (unknownIn d)) emptySet
-    draft-unknown f = let e = named ∙ code-some (unknownIn d) (answered 0 0) (answered notInSet) f in (e, set-some e (λ w. omega arith))
-
-    draft-good : unknownIn d ≡ 0 → Comes d (answered 0 0) (arrangedSet d)
-    draft-good u = let e = named ∙ code-none (unknownIn d) (answered 0 0) (λ k. answered notInSet (suc k)) u in (e, set-none e)
-
--- ---- a text
+use Rattle.reader.specs.Row.{Row, numbersOf, byNumber, placed, setOf}
+use Rattle.reader.specs.Load.{Outcome, taken, refused, rowsFrom, firstUnknown, named, outcome, answered, loadAnswer, loadSet}
+use Rattle.reader.specs.Draft.{rowsIn, Held, Says, Apart}
+use Rattle.reader.specs.RisingLaws.{taken-apart}
 
 module _ (t : List ℕ) where
-  -- what the draft comes to is what loading comes to
-  loads : {a : Loaded} {s : List ℕ} → workedAnswer t ≡ a → workedSet t ≡ s → Loads t a s
-  loads e g = (sym e ∙ worked-answer t, sym g ∙ worked-set t)
+  -- a is what loading answers, s its set
+  abbrev pub Loads : Loaded → List ℕ → Type 0
+  Loads a s = (a ≡ loadAnswer t) × (s ≡ loadSet t)
 
-  -- d is its draft
-  module _ (d : Drafted) (e : d ≡ textDraft emptySet t) where
-    -- what a text comes to is what its draft comes to: 1 and 2 refuse it there
-    drafts : (a b : Bool) → ltb textSize (length t) ≡ a → ltb maxLines (length (tokenLines t)) ≡ b → (workedAnswer t ≡ draftAnswer (textDraft emptySet t)) × (workedSet t ≡ draftSet (textDraft emptySet t))
-    unfolding workedAnswer workedSet textDraft draftOf draftAnswer draftSet
-    drafts true b h g = (simp (workedAnswer, textDraft, h), simp (workedSet, textDraft, h))
-    drafts false true h g = (simp (workedAnswer, textDraft, h, g), simp (workedSet, textDraft, h, g))
-    drafts false false h g = (simp (workedAnswer, textDraft, draftOf, h, g), simp (workedSet, textDraft, draftOf, h, g))
+  loads-refused : (c k : ℕ) → outcome t ≡ refused c k → Loads (answered c k) emptySet
+  unfolding loadAnswer loadSet
+  loads-refused c k e = (ap (λ (o : Outcome). elim o as (λ _. Loaded) [ taken rs ↦ answered 0 0 | refused a b ↦ answered a b ]) (sym e), ap (λ (o : Outcome). elim o as (λ _. List ℕ) [ taken rs ↦ setOf (byNumber rs) | refused a b ↦ emptySet ]) (sym e))
 
-    comes : {a : Loaded} {s : List ℕ} → Comes d a s → Loads t a s
-    comes w = let x = drafts _ _ refl refl in loads (x .0 ∙ (ap draftAnswer (sym e) ∙ w .0)) (x .1 ∙ (ap draftSet (sym e) ∙ w .1))
+  loads-taken : (rs : List Row) → outcome t ≡ taken rs → Loads (answered 0 0) (setOf (byNumber rs))
+  unfolding loadAnswer loadSet
+  loads-taken rs e = (ap (λ (o : Outcome). elim o as (λ _. Loaded) [ taken qs ↦ answered 0 0 | refused a b ↦ answered a b ]) (sym e), ap (λ (o : Outcome). elim o as (λ _. List ℕ) [ taken qs ↦ setOf (byNumber qs) | refused a b ↦ emptySet ]) (sym e))
 
-    pub text-faulty : (d .draft .code ≡ 0 → ⊥) → Loads t (answered (d .draft .code) (d .draft .line)) emptySet
-    text-faulty f = comes (draft-faulty d f)
+  pub text-long : textSize < length t → Loads (answered tooLong 0) emptySet
+  unfolding outcome
+  text-long h = loads-refused tooLong 0 (chosen _ _ _ (lt-ltb textSize (length t) h))
 
-    module _ (z : d .draft .code ≡ 0) (k : ℕ) (u : k ≡ unknownIn d) where
-      pub text-unknown : (k ≡ 0 → ⊥) → Loads t (answered notInSet k) emptySet
-      text-unknown f = rw u (comes (draft-unknown d z (λ w. f (u ∙ w))))
+  module _ (h : length t ≤ textSize) where
+    pub text-many : maxLines < length (tokenLines t) → Loads (answered tooManyLines 0) emptySet
+    unfolding outcome
+    text-many m = loads-refused tooManyLines 0 (not-chosen _ _ _ (le-ltb textSize (length t) h) ∙ chosen _ _ _ (lt-ltb maxLines (length (tokenLines t)) m))
 
-      -- the set was empty, its first place has the number of lines, the lines follow
-      pub text-good : k ≡ 0 → (s : List ℕ) → s ≡ arranged d (d .draft .count) 0 0 33 (set emptySet 0 (d .draft .count)) → Loads t (answered 0 0) s
-      unfolding arrangedSet
-      text-good w s g = rw g (comes (draft-good d z (sym u ∙ w)))
+    module _ (few : length (tokenLines t) ≤ maxLines) where
+      by-names : outcome t ≡ named (rowsFrom [] (tokenLines t))
+      unfolding outcome
+      by-names = not-chosen _ _ _ (le-ltb textSize (length t) h) ∙ not-chosen _ _ _ (le-ltb maxLines (length (tokenLines t)) few)
 
-  -- a draft has no more lines than a set
-  few : (a b : Bool) → ltb textSize (length t) ≡ a → ltb maxLines (length (tokenLines t)) ≡ b → textDraft emptySet t .draft .count ≤ 32
-  unfolding textDraft
-  few true b h g = simp (textDraft, h) (omega arith)
-  few false true h g = simp (textDraft, h, g) (omega arith)
-  few false false h g = simp (textDraft, h, g) (few-lines (record { array = emptySet; draft = noDraft }) (tokenLines t) (omega arith))
+      -- the draft d says what becomes of its lines
+      module _ (s : List ℕ) (d : Draft) (y : Says (rowsFrom [] (tokenLines t)) s d) where
+        pub text-faulty : (d .code ≡ 0 → ⊥) → Loads (answered (d .code) (d .line)) emptySet
+        unfolding named
+        text-faulty f = go (rowsFrom [] (tokenLines t)) refl y
+          where
+            go : (o : Outcome) → rowsFrom [] (tokenLines t) ≡ o → Says o s d → Loads (answered (d .code) (d .line)) emptySet
+            go (taken rs) e w = absurd (f (w .0))
+            go (refused c k) e w = rw (w .0, w .1) (loads-refused c k (by-names ∙ ap named e))
 
-  pub text-count : textDraft emptySet t .draft .count ≤ 32
-  text-count = few _ _ refl refl
+        -- they are taken
+        pub text-rows : d .code ≡ 0 → (rowsFrom [] (tokenLines t) ≡ taken (rowsIn s d)) × Held s d × Apart (rowsIn s d)
+        text-rows z = go (rowsFrom [] (tokenLines t)) refl y
+          where
+            go : (o : Outcome) → rowsFrom [] (tokenLines t) ≡ o → Says o s d → (rowsFrom [] (tokenLines t) ≡ taken (rowsIn s d)) × Held s d × Apart (rowsIn s d)
+            go (taken rs) e w = let q = e ∙ ap taken (sym (w .1)) in (q, w .2, taken-apart (tokenLines t) [] (rowsIn s d) tt (omega arith) q .0)
+            go (refused c k) e w = let p = w .2 in let q = w .0 in absurd (omega arith)
+
+      -- the lines rs are taken; u is where the first of them stands with an unknown name
+      module _ (rs : List Row) (e : rowsFrom [] (tokenLines t) ≡ taken rs) (u : ℕ) (g : u ≡ firstUnknown (numbersOf rs) rs) where
+        pub text-unknown : (u ≡ 0 → ⊥) → Loads (answered notInSet u) emptySet
+        unfolding named
+        text-unknown f = go u f (sym g)
+          where
+            go : (v : ℕ) → (v ≡ 0 → ⊥) → firstUnknown (numbersOf rs) rs ≡ v → Loads (answered notInSet v) emptySet
+            go zero f z = absurd (f refl)
+            go (suc k) f z = loads-refused notInSet (suc k) (by-names ∙ ap named e ∙ ap (λ (v : ℕ). elim v as (λ _. Outcome) [ zero ↦ taken rs | suc j ↦ refused notInSet (suc j) ]) z)
+
+        pub text-good : u ≡ 0 → (s : List ℕ) → s ≡ placed (byNumber rs) 0 firstPlace emptySet → Loads (answered 0 0) s
+        unfolding named setOf
+        text-good z s w = rw w (loads-taken rs (by-names ∙ ap named e ∙ ap (λ (v : ℕ). elim v as (λ _. Outcome) [ zero ↦ taken rs | suc j ↦ refused notInSet (suc j) ]) (sym g ∙ z)))

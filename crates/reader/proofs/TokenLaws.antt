@@ -5,11 +5,9 @@ use mathlib.Core.List.{List, _∷_}
 use Prim.Native.Nat.{ℕ, suc, _+_, _-_, _<_, _≤_}
 use native.Mathlib.Omega.{arith}
 use native.Mathlib.Numerals.{add-one}
-use lib.Dec.{ltb}
 use lib.ListN.{length, drop, getD, drop-of-length-le, length-drop}
 use lib.Seq.{drop-cons, drop-drop}
-use borrow.Author.Tests.{eq-eqb, ne-eqb, lt-ltb, le-ltb, ltb-true, ltb-false}
-use Rattle.values.specs.Choice.{decide}
+use borrow.Author.Tests.{eq-eqb, ne-eqb}
 use Rattle.text.specs.declared.scan.First.{First}
 use Rattle.text.specs.Byte.{SPACE}
 use Rattle.text.specs.First.{firstToken}
@@ -52,17 +50,6 @@ module _ (t : List ℕ) (i : ℕ) where
           ∙ rw (token-is, drop-drop (f .size - 1) (suc i) t, p))
 
 -- ---- what is written of a line
-
--- whether n tokens and an end fit behind a place
-module _ (at n size : ℕ) where
-  pub no-room : size ≤ at → false ≡ ltb (at + n) size
-  no-room h = sym (le-ltb (at + n) size (omega arith))
-
-  pub room-left : at < size → ltb n (size - at) ≡ ltb (at + n) size
-  room-left h =
-      decide _ (ltb n (size - at))
-      (λ e. let l = ltb-true n (size - at) e in e ∙ sym (lt-ltb (at + n) size (omega arith)))
-      (λ e. let l = ltb-false n (size - at) e in e ∙ sym (le-ltb (at + n) size (omega arith)))
 
 pub same-written : {g h : Bool} {n m : ℕ} → g ≡ h → n ≡ m → _≡_ {A = Written} (record { good = g; count = n }) (record { good = h; count = m })
 same-written e f = cc

@@ -5,6 +5,7 @@ use Prim.Native.Nat.{ℕ, zero, suc}
 use lib.Dec.{ltb}
 use lib.ListN.{length}
 use Rattle.values.specs.Codes.{tooLong, tooManyLines, makesNoToken, usedAbove, notInSet}
+use Rattle.values.specs.PutAt.{putAt}
 use Rattle.checking.specs.Fault.{lineAt}
 use Rattle.tokens.specs.Token.{setSize, maxLines, textSize}
 use Rattle.engine.specs.Set.{isKnown, namesKnown, emptySet}
@@ -13,18 +14,21 @@ use Rattle.text.specs.Tokens.{Tokens, tokensOf}
 use Rattle.text.specs.Lines.{Numbered, tokenLines}
 use Rattle.reader.specs.declared.load_text.Loaded.{Loaded}
 use Rattle.reader.specs.Row.{Row, numbersOf, byNumber, setOf}
-use Rattle.reader.specs.StoredTokens.{ended}
 
 -- ---- a line: its lowest fault of 3 to 11
 
+-- a line's tokens by themselves, at the beginning of an array that is 0 behind them
+abbrev pub alone : List ℕ → List ℕ
+alone ts = putAt emptySet 0 ts
+
 -- the number of a line that has no fault of 4 to 10
 abbrev pub numberIn : List ℕ → ℕ
-numberIn ts = lineAt (ended ts) 0 .number
+numberIn ts = lineAt (alone ts) 0 .number
 
 -- 4 to 11 of a line's tokens, below the lines rs
 unfoldable pub tokensFault : List Row → List ℕ → ℕ
 tokensFault rs ts =
-    elim (lineAt (ended ts) 0 .fault) [
+    elim (lineAt (alone ts) 0 .fault) [
       | zero ↦ elim (isKnown (numbersOf rs) (numberIn ts)) [ true ↦ usedAbove | false ↦ 0 ]
       | suc k ↦ suc k
     ]
@@ -56,7 +60,7 @@ rowsFrom rs (l ∷ ls) =
 -- 12: the place of the first line with a LOCK or UNLOCK of a number that is none of ns; 0 if there is none
 unfoldable pub firstUnknown : List ℕ → List Row → ℕ
 firstUnknown ns [] = 0
-firstUnknown ns (r ∷ rs) = elim (namesKnown (ended (r .tokens)) ns setSize 0) [ true ↦ firstUnknown ns rs | false ↦ r .place ]
+firstUnknown ns (r ∷ rs) = elim (namesKnown (alone (r .tokens)) ns setSize 0) [ true ↦ firstUnknown ns rs | false ↦ r .place ]
 
 unfoldable pub named : Outcome → Outcome
 named (taken rs) = elim (firstUnknown (numbersOf rs) rs) [ zero ↦ taken rs | suc k ↦ refused notInSet (suc k) ]
@@ -76,12 +80,11 @@ outcome t =
 
 -- ---- what loading answers, and the set
 
+abbrev pub answered : ℕ → ℕ → Loaded
+answered c k = record { code = c; line = k; state = powerOn }
+
 unfoldable pub loadAnswer : List ℕ → Loaded
-loadAnswer t =
-    elim (outcome t) [
-      | taken rs ↦ record { code = 0; line = 0; state = powerOn }
-      | refused c k ↦ record { code = c; line = k; state = powerOn }
-    ]
+loadAnswer t = elim (outcome t) [ taken rs ↦ answered 0 0 | refused c k ↦ answered c k ]
 
 unfoldable pub loadSet : List ℕ → List ℕ
 loadSet t = elim (outcome t) [ taken rs ↦ setOf (byNumber rs) | refused c k ↦ emptySet ]

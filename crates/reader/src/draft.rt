@@ -1,25 +1,22 @@
-// The draft of a set: the lines of a text as it has them, one behind the other in one array; and a line added to it.
+// What is kept of a text while it is read: the tokens of its lines one behind the other in one array, and beside it a draft; and a line added to it.
 ghost use mathlib.Core.Path.{_≡_};
-ghost use Prim.Native.Nat.{_<_, _≤_};
+ghost use mathlib.Core.List.{[], _∷_};
+ghost use Prim.Native.Nat.{_+_, _<_, _≤_};
+ghost use lib.ListN.{length};
 ghost use Rattle.tokens.specs.Token.{setSize, maxLines};
-ghost use Rattle.reader.specs.StoredTokens.{tokensAt};
-ghost use Rattle.reader.specs.Draft.{noDraft, refusedAt, grownBy, keptLine, addedLine};
-use crate::line_tokens::put;
-use crate::line_tokens::put_tokens;
-use checking::line_at;
-use engine::STARTS;
+ghost use Rattle.engine.specs.Set.{emptySet};
+ghost use Rattle.reader.specs.Load.{rowsFrom};
+ghost use Rattle.reader.specs.Draft.{noDraft, refusedAt, grownBy, rowsIn, Held, Says};
+use crate::alone::line_alone;
+use crate::line_tokens::write_tokens;
 use engine::rank_in;
 use tokens::token::LINES;
 use tokens::token::SIZE;
 use values::codes::NO_TOKEN;
-use values::codes::TOO_MANY_LINES;
 use values::codes::USED_ABOVE;
 
-// The place of the first line.
-pub const FIRST: usize = STARTS + LINES;
-
-// What is known of a draft beside its array: the code and the line that refuse the text, 0 while there is none; how many lines it has, the place behind them, their numbers, and where each
-// stands in the text.
+// The code and the line that refuse the text, 0 while there is none; how many lines are kept, and the place behind their tokens; of each line its number, where it stands in the text, and
+// where its tokens begin and end.
 pub struct Draft {
     pub code: u8,
     pub line: u32,
@@ -27,6 +24,8 @@ pub struct Draft {
     pub at: usize,
     pub numbers: [u8; LINES],
     pub places: [u32; LINES],
+    pub starts: [usize; LINES],
+    pub ends: [usize; LINES],
 }
 
 // The draft without lines.
@@ -37,14 +36,16 @@ pub fn no_draft() -> Draft
         code: 0,
         line: 0,
         count: 0,
-        at: FIRST,
+        at: 0,
         numbers: [0u8; LINES],
         places: [0u32; LINES],
+        starts: [0usize; LINES],
+        ends: [0usize; LINES],
     }
 }
 
 // The text is refused.
-pub fn refused_at(d: Draft, code: u8, k: u32) -> Draft
+fn refused_at(d: Draft, code: u8, k: u32) -> Draft
     ensures { λ x. ⌜ x ≡ refusedAt d code k ⌝ }
 {
     let mut e = d;
@@ -53,33 +54,46 @@ pub fn refused_at(d: Draft, code: u8, k: u32) -> Draft
     e
 }
 
-// The line k of the text, with the number n, ends before the place `next`.
-fn grown_by(d: Draft, k: u32, n: u8, next: usize) -> Draft
+// The line k of the text, with the number n, stands behind the others and ends before the place `end`.
+fn grown_by(d: Draft, k: u32, n: u8, end: usize) -> Draft
     requires { ⌜ d .count < maxLines ⌝ }
-    ensures { λ x. ⌜ x ≡ grownBy d k n next ⌝ }
+    ensures { λ x. ⌜ x ≡ grownBy d k n end ⌝ }
 {
     let count = d.count;
     let mut numbers = d.numbers;
     numbers[count] = n;
     let mut places = d.places;
     places[count] = k;
+    let mut starts = d.starts;
+    starts[count] = d.at;
+    let mut ends = d.ends;
+    ends[count] = end;
     Draft {
         code: 0,
         line: 0,
         count: count + 1,
-        at: next,
+        at: end,
         numbers: numbers,
         places: places,
+        starts: starts,
+        ends: ends,
     }
 }
 
-// The line k of the text stands in the array at the draft's place, and ends before the place `next`.
-fn keep_line(s: &mut [u32; SIZE], d: Draft, k: u32, next: usize) -> Draft
-    requires { ⌜ (d .count < maxLines) × (d .at ≤ setSize) ⌝ }
-    ensures { λ x. ⌜ record { array = now (s .exit); draft = x } ≡ keptLine (now (s .entry)) d k next ⌝ }
+// The line k of the text is added, or refuses the text.
+pub fn add_line(body: &[u8], s: &mut [u32; SIZE], row: &mut [u32; SIZE], d: Draft, k: u32) -> Draft
+    requires { ⌜ Held (now s) d × (now row ≡ emptySet) × (d .count < maxLines) × (d .at + length (now body) ≤ setSize) ⌝ }
+    ensures { λ x. ⌜ Says (rowsFrom (rowsIn (now (s .entry)) d) (record { place = k; body = now (body .entry) } ∷ [])) (now (s .exit)) x × (now (row .exit) ≡ emptySet) ⌝ }
 {
     let at = d.at;
-    let l = line_at(s, at);
+    let w = write_tokens(body, s, at);
+    let good = w.good;
+    if !good {
+        return refused_at(d, NO_TOKEN, k);
+    }
+    let end = at + w.count;
+    let all = &s[..];
+    let l = line_alone(row, &all[at..end]);
     let fault = l.fault;
     if fault != 0 {
         return refused_at(d, fault, k);
@@ -89,22 +103,5 @@ fn keep_line(s: &mut [u32; SIZE], d: Draft, k: u32, next: usize) -> Draft
     if rank_in(&numbers, number as u32) < LINES {
         return refused_at(d, USED_ABOVE, k);
     }
-    put(s, STARTS + d.count, at as u32);
-    grown_by(d, k, number, next)
-}
-
-// The line k of the text is added. A line that would not fit behind the draft is refused as one that is no good: no caller has one.
-pub fn add_line(body: &[u8], s: &mut [u32; SIZE], d: Draft, k: u32) -> Draft
-    ensures { λ x. ⌜ record { array = now (s .exit); draft = x } ≡ addedLine (now (s .entry)) d k (tokensAt (d .at) (now (body .entry))) ⌝ }
-{
-    if LINES <= d.count {
-        return refused_at(d, TOO_MANY_LINES, 0);
-    }
-    let at = d.at;
-    let p = put_tokens(body, s, at);
-    let good = p.good;
-    if !good {
-        return refused_at(d, NO_TOKEN, k);
-    }
-    keep_line(s, d, k, at + p.count + 1)
+    grown_by(d, k, number, end)
 }

@@ -1,12 +1,13 @@
 // The reader of set text: text to set (document 01, "Lines of text" and "Codes").
 //
 // It rests only on what the crates below promise. `load` asks nothing of its caller.
-mod arrange;
+mod alone;
+mod by_number;
 mod draft;
 mod line_count;
 mod line_tokens;
+mod lines;
 mod load_text;
-mod text_draft;
 
 pub use load_text::Loaded;
 pub use load_text::load;

@@ -1,17 +1,17 @@
 // How many lines with tokens a text has.
 ghost use mathlib.Core.Path.{_≡_};
-ghost use Rattle.reader.specs.StoredTokens.{countOf};
+ghost use Prim.Native.Nat.{_≤_};
+ghost use lib.ListN.{length};
+ghost use Rattle.tokens.specs.Token.{textSize};
+ghost use Rattle.text.specs.Lines.{tokenLines};
 use text::is_blank;
 use text::line_bounds;
-use tokens::token::TEXT_SIZE;
 
-// How many lines with tokens a text has; none are counted in one that is too long.
+// How many lines with tokens a text has.
 pub fn count_lines(text: &[u8]) -> usize
-    ensures { λ x. ⌜ x ≡ countOf (now (text .entry)) ⌝ }
+    requires { ⌜ length (now text) ≤ textSize ⌝ }
+    ensures { λ x. ⌜ x ≡ length (tokenLines (now (text .entry))) ⌝ }
 {
-    if TEXT_SIZE < text.len() {
-        return 0;
-    }
     let mut n: usize = 0;
     let mut i: usize = 0;
     while i <= text.len() {

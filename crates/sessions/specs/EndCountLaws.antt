@@ -13,12 +13,13 @@ use Rattle.values.specs.Choice.{decide, either}
 use Rattle.values.specs.Numbers.{clash}
 use Rattle.engine.specs.declared.one_beat.Beaten.{Beaten}
 use Rattle.text.specs.Byte.{bytes, LF, SPACE}
+use Rattle.text.specs.Digits.{digitsUp, decimal, signedText}
 use Rattle.text.specs.Word.{sameBytes}
 use Rattle.text.specs.Lines.{before, split, textLines}
 use Rattle.reader.specs.Load.{loadAnswer, loadSet}
 use Rattle.transcript.specs.Input.{inputOf}
 use Rattle.transcript.specs.BeatLine.{Lent, fields, lineLent}
-use Rattle.transcript.specs.Output.{digitsUp, decimal, signedText, fourOf, codeLine, orderLine, orderLines, errorLine, endLine}
+use Rattle.transcript.specs.Output.{spaced, printedLine, decimals, fourOf, codeLine, orderLine, orderLines, errorLine, endLine}
 use Rattle.transcript.specs.declared.totals.Totals.{Totals}
 use Rattle.transcript.specs.Totals.{maxBeats, noTotals, ended, oneIf}
 use Rattle.transcript.specs.Tally.{counted, answerOf, bufferOf, beatText}
@@ -91,41 +92,55 @@ part-first e n (b ∷ bs) rest g h =
     let u = h .0 in
     either (λ (y : List (List ℕ)). y ≡ (b ∷ bs) ∷ split e rest) (eqb b e) (λ q. absurd (omega (arith, eqb-true b e q))) (λ q. ap (before b) (part-first e n bs rest g (h .1)))
 
--- a field, a space and the rest of the line
-field-first : (f rest : List ℕ) → Above 33 f → fields (f ++ (SPACE ∷ rest)) ≡ f ∷ fields rest
-field-first f rest h = part-first SPACE 33 f rest (omega arith) h
-
 count-first : (p : List ℕ → Bool) (l rest : List ℕ) → Above 11 l → linesIn p (l ++ (LF ∷ rest)) ≡ one (p l) + linesIn p rest
 unfolding count
 count-first p l rest h = rw (part-first LF 11 l rest (omega arith) h)
 
+-- ---- a line: a word and fields
+
+-- without its end
+abbrev lineBody : List ℕ → List (List ℕ) → List ℕ
+lineBody word fs = word ++ spaced fs
+
+line-body : (word : List ℕ) (fs : List (List ℕ)) (rest : List ℕ) → printedLine word fs ++ rest ≡ lineBody word fs ++ (LF ∷ rest)
+line-body word fs rest = simp append-assoc
+
+-- fields without a space or an LF
+abbrev AllAbove : List (List ℕ) → Type 0
+AllAbove [] = Unit {0}
+AllAbove (f ∷ fs) = Above 33 f × AllAbove fs
+
+spaced-above : (fs : List (List ℕ)) → AllAbove fs → Above 11 (spaced fs)
+unfolding spaced
+spaced-above [] h = tt
+spaced-above (f ∷ fs) h = (omega arith, above-append 11 f (spaced fs) (above-less 33 11 f (omega arith) (h .0)) (spaced-above fs (h .1)))
+
+body-above : (word : List ℕ) (fs : List (List ℕ)) → Above 33 word → AllAbove fs → Above 11 (lineBody word fs)
+body-above word fs h g = above-append 11 word (spaced fs) (above-less 33 11 word (omega arith) h) (spaced-above fs g)
+
+-- its first field
+body-first : (word f : List ℕ) (fs : List (List ℕ)) → Above 33 word → fields (lineBody word (f ∷ fs)) ≡ word ∷ fields (lineBody f fs)
+unfolding spaced
+body-first word f fs h = part-first SPACE 33 word (f ++ spaced fs) (omega arith) h
+
 -- ---- a C line
 
--- fields one space apart, without the line's end
-abbrev spacedFrom : List ℕ → List ℕ → List ℕ
-spacedFrom f rest = f ++ (SPACE ∷ rest)
-
-spaced-above : (f rest : List ℕ) → Above 33 f → Above 11 rest → Above 11 (spacedFrom f rest)
-spaced-above f rest h g = above-append 11 f (SPACE ∷ rest) (above-less 33 11 f (omega arith) h) (omega arith, g)
-
 abbrev codeBody : ℕ → ℕ → ℕ → List ℕ
-codeBody beat code orders = spacedFrom (bytes "C") (spacedFrom (decimal beat) (spacedFrom (decimal code) (decimal orders)))
+codeBody beat code orders = lineBody (bytes "C") (decimals (beat ∷ code ∷ orders ∷ []))
 
 code-above : (beat code orders : ℕ) → Above 11 (codeBody beat code orders)
 code-above beat code orders =
-    spaced-above (bytes "C") (spacedFrom (decimal beat) (spacedFrom (decimal code) (decimal orders))) (omega arith, tt)
-    (spaced-above (decimal beat) (spacedFrom (decimal code) (decimal orders)) (decimal-above beat)
-    (spaced-above (decimal code) (decimal orders) (decimal-above code) (above-less 33 11 (decimal orders) (omega arith) (decimal-above orders))))
+    body-above (bytes "C") (decimals (beat ∷ code ∷ orders ∷ [])) (omega arith, tt) (decimal-above beat, (decimal-above code, (decimal-above orders, tt)))
 
 code-line : (beat code orders : ℕ) (rest : List ℕ) → codeLine beat code orders ++ rest ≡ codeBody beat code orders ++ (LF ∷ rest)
 unfolding codeLine
-code-line beat code orders rest = simp append-assoc
+code-line beat code orders rest = line-body (bytes "C") (decimals (beat ∷ code ∷ orders ∷ [])) rest
 
-code-fields : (beat code orders : ℕ) → fields (codeBody beat code orders) ≡ bytes "C" ∷ decimal beat ∷ decimal code ∷ fields (decimal orders)
+code-fields : (beat code orders : ℕ) → fields (codeBody beat code orders) ≡ bytes "C" ∷ decimal beat ∷ decimal code ∷ fields (lineBody (decimal orders) [])
 code-fields beat code orders =
-    field-first (bytes "C") (spacedFrom (decimal beat) (spacedFrom (decimal code) (decimal orders))) (omega arith, tt)
-    ∙ ap (λ (y : List (List ℕ)). bytes "C" ∷ y) (field-first (decimal beat) (spacedFrom (decimal code) (decimal orders)) (decimal-above beat))
-    ∙ ap (λ (y : List (List ℕ)). bytes "C" ∷ decimal beat ∷ y) (field-first (decimal code) (decimal orders) (decimal-above code))
+    body-first (bytes "C") (decimal beat) (decimals (code ∷ orders ∷ [])) (omega arith, tt)
+    ∙ ap (λ (y : List (List ℕ)). bytes "C" ∷ y) (body-first (decimal beat) (decimal code) (decimals (orders ∷ [])) (decimal-above beat))
+    ∙ ap (λ (y : List (List ℕ)). bytes "C" ∷ decimal beat ∷ y) (body-first (decimal code) (decimal orders) [] (decimal-above code))
 
 -- a number is written 0 exactly if it is 0
 long-same : (a : List ℕ) (x : ℕ) → 1 ≤ length a → sameBytes (a ++ (x ∷ [])) (bytes "0") ≡ false
@@ -157,27 +172,25 @@ module _ (beat code orders : ℕ) where
 
 -- ---- an O line
 
+-- its fields behind the first
+abbrev orderFields : List ℕ → List (List ℕ)
+orderFields o = decimal (getD o 0 0) ∷ decimal (getD o 2 0) ∷ signedText (fourOf (drop 4 o)) ∷ []
+
 abbrev orderBody : List ℕ → List ℕ
-orderBody o = spacedFrom (bytes "O") (spacedFrom (decimal (getD o 1 0)) (spacedFrom (decimal (getD o 0 0)) (spacedFrom (decimal (getD o 2 0)) (signedText (fourOf (drop 4 o))))))
+orderBody o = lineBody (bytes "O") (decimal (getD o 1 0) ∷ orderFields o)
 
 order-above : (o : List ℕ) → Above 11 (orderBody o)
 order-above o =
-    let v = signedText (fourOf (drop 4 o)) in
-    let c = spacedFrom (decimal (getD o 2 0)) v in
-    let b = spacedFrom (decimal (getD o 0 0)) c in
-    let a = spacedFrom (decimal (getD o 1 0)) b in
-    spaced-above (bytes "O") a (omega arith, tt) (spaced-above (decimal (getD o 1 0)) b (decimal-above (getD o 1 0)) (spaced-above (decimal (getD o 0 0)) c (decimal-above (getD o 0 0))
-    (spaced-above (decimal (getD o 2 0)) v (decimal-above (getD o 2 0)) (above-less 33 11 v (omega arith) (signed-above (fourOf (drop 4 o)))))))
+    body-above (bytes "O") (decimal (getD o 1 0) ∷ orderFields o) (omega arith, tt)
+    (decimal-above (getD o 1 0), (decimal-above (getD o 0 0), (decimal-above (getD o 2 0), (signed-above (fourOf (drop 4 o)), tt))))
 
 order-line : (o rest : List ℕ) → orderLine o ++ rest ≡ orderBody o ++ (LF ∷ rest)
 unfolding orderLine
-order-line o rest = simp append-assoc
+order-line o rest = line-body (bytes "O") (decimal (getD o 1 0) ∷ orderFields o) rest
 
 -- a line of a kind that goes by its first field
 order-first : (o : List ℕ) → fieldOf (orderBody o) 0 ≡ bytes "O"
-order-first o =
-    ap (λ (y : List (List ℕ)). getD y 0 [])
-    (field-first (bytes "O") (spacedFrom (decimal (getD o 1 0)) (spacedFrom (decimal (getD o 0 0)) (spacedFrom (decimal (getD o 2 0)) (signedText (fourOf (drop 4 o)))))) (omega arith, tt))
+order-first o = ap (λ (y : List (List ℕ)). getD y 0 []) (body-first (bytes "O") (decimal (getD o 1 0)) (orderFields o) (omega arith, tt))
 
 module _ (o : List ℕ) where
   order-no-beat : one (isBeat (orderBody o)) ≡ 0

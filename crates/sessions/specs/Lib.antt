@@ -1,5 +1,5 @@
--- What the sessions of synrun come to, whatever the pieces of their input. HalfLineLaws: a beat line read byte by byte is the line read by fields; MachineLaws: pieces join; SessionLaws: a session
--- prints what Run says; PieceLaws: THE PROMISE, whatever the pieces; EndCountLaws: what END's numbers count; Unique: two results that a promise allows are equal. Example and MachineExample are computed.
+-- What the sessions of synrun come to: HalfLineLaws, a beat line read byte by byte is the line read by fields; MachineLaws, pieces join; SessionLaws, a session prints what Synrun says; PieceLaws, THE PROMISE, whatever the pieces;
+-- EndCountLaws, what END's numbers count; SessionUnique, two results that a promise allows are equal. Example and MachineExample are computed.
 pub mod HalfLineLaws
 pub mod MachineLaws
 pub mod SessionLaws

@@ -6,22 +6,22 @@ use Prim.Native.Nat.{ℕ, _+_, min, _≤_}
 use native.Mathlib.Omega.{arith}
 use lib.Dec.{eqb, leb}
 use lib.ListN.{length, take, length-append, length-set}
-use lib.Seq.{set-out}
 use borrow.Author.Tests.{leb-true, leb-false, eqb-true}
 use Rattle.values.specs.Choice.{decide, either, eitherBoth}
 use Rattle.values.specs.Numbers.{clash}
 use Rattle.text.specs.Byte.{LF}
 use Rattle.text.specs.Lines.{before, split, textLines}
 use Rattle.text.specs.LinesLaws.{split-some}
-use Rattle.text.specs.PutAt.{putAt}
-use Rattle.text.specs.PutLaws.{put-length, put-join}
-use Rattle.transcript.specs.declared.session.Place.{Place}
+use Rattle.values.specs.PutAt.{putAt}
+use Rattle.values.specs.PutLaws.{put-length, put-past, put-join}
+use Rattle.transcript.specs.declared.set_text.Place.{Place}
 use Rattle.transcript.specs.declared.beat_line.HalfLine.{HalfLine}
 use Rattle.reader.specs.Load.{loadAnswer}
 use Rattle.transcript.specs.HalfLine.{readByte, readOn, withoutCR, readLent}
 use Rattle.transcript.specs.Totals.{maxBeats}
 use Rattle.transcript.specs.Tally.{counted, answerOf}
-use Rattle.transcript.specs.Machine.{TEXT, BEATS, keptSize, Machine, Fed, withPlace, withHalfLine, starAfter, starOn, placeOn, opened, textEnd, beatOf, beatEnd, chunk, lineEnd, behind, fedLines}
+use Rattle.transcript.specs.Machine.{TEXT, BEATS, Machine, Fed, withPlace, withHalfLine, opened, textEnd, beatOf, beatEnd, chunk, lineEnd, behind, fedLines}
+use Rattle.transcript.specs.SetText.{keptSize, starAfter, starOn, placeOn}
 use Rattle.transcript.specs.SessionRoomLaws.{byCode, byLent}
 
 -- ---- bytes of a line, in two parts
@@ -35,11 +35,6 @@ star-append : (s : ℕ) (l k : List ℕ) → starOn s (l ++ k) ≡ starOn (starO
 unfolding starOn
 star-append s [] k = refl
 star-append s (b ∷ bs) k = star-append (starAfter s b) bs k
-
--- what would lie past the end is left off
-pub put-out : (s : List ℕ) (p : ℕ) (l : List ℕ) → length s ≤ p → putAt s p l ≡ s
-put-out s p [] h = refl
-put-out s p (b ∷ bs) h = rw (set-out s p b h) (put-out s (p + 1) bs (omega arith))
 
 place-append : (p : Place) (l k : List ℕ) → placeOn p (l ++ k) ≡ placeOn (placeOn p l) k
 unfolding placeOn
@@ -57,7 +52,7 @@ text-append s p l k h =
     (λ e. let i = leb-true (p + length l) keptSize e in let q : min keptSize (p + length l) ≡ p + length l = omega arith in rw q (put-join l k s p (p + length l) refl))
     (λ e. let i = leb-false (p + length l) keptSize e in
     let n = put-length l s p in
-    put-join l k s p (p + length l) refl ∙ put-out (putAt s p l) (p + length l) k (omega arith) ∙ sym (put-out (putAt s p l) (min keptSize (p + length l)) k (omega arith)))
+    put-join l k s p (p + length l) refl ∙ put-past k (putAt s p l) (p + length l) (omega arith) ∙ sym (put-past k (putAt s p l) (min keptSize (p + length l)) (omega arith)))
 
 -- by the phase
 abbrev textOn : Machine → List ℕ → Machine

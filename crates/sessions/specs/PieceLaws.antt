@@ -15,10 +15,12 @@ use Rattle.text.specs.Byte.{LF, inLine, run}
 use Rattle.text.specs.ByteLaws.{run-within}
 use Rattle.text.specs.Lines.{before, split, textLines}
 use Rattle.text.specs.LinesLaws.{line-end, line-on, run-end, run-more, lines-last, split-some}
-use Rattle.transcript.specs.declared.session.Place.{Place}
+use Rattle.transcript.specs.declared.set_text.Place.{Place}
 use Rattle.transcript.specs.Totals.{areFit}
+use Rattle.transcript.specs.Output.{outSize, lineRoom}
 use Rattle.transcript.specs.Synrun.{synrun}
-use Rattle.transcript.specs.Machine.{TEXT, BEATS, keptSize, Machine, Fed, begun, withPlace, isFit, placeOn, starOn, chunk, lineEnd, behind, fedLines, finished, finishedText, outSize, lineRoom, Work, workFrom, worked}
+use Rattle.transcript.specs.Machine.{TEXT, BEATS, Machine, Fed, begun, withPlace, isFit, chunk, lineEnd, behind, fedLines, finished, finishedText, Work, workFrom, worked}
+use Rattle.transcript.specs.SetText.{keptSize, placeOn, starOn}
 use Rattle.transcript.specs.HalfLine.{readOn}
 use Rattle.transcript.specs.SessionRoomLaws.{Fit, fit-parts, fit-whole, Lives, chunk-lives, line-lives}
 use Rattle.transcript.specs.BeatTakenLaws.{taken-some}

@@ -9,17 +9,18 @@ use lib.Dec.{eqb, leb, ltb}
 use lib.ListN.{length, take, set, length-append, length-set, length-take}
 use lib.Seq.{take-all, take-append-le, take-suc-set, take-set-le, append-snoc}
 use borrow.Author.Tests.{leb-true, leb-false, eqb-true, lt-ltb}
+use Rattle.values.specs.Codes.{tooLong}
 use Rattle.values.specs.Choice.{decide, either}
 use Rattle.values.specs.Numbers.{clash}
 use Rattle.engine.specs.State.{powerOn}
 use Rattle.text.specs.Byte.{LF, CR}
 use Rattle.text.specs.Lines.{textLines, withoutReturn}
 use Rattle.text.specs.LinesLaws.{split-some}
-use Rattle.text.specs.PutAt.{putAt}
+use Rattle.values.specs.PutAt.{putAt}
 use Rattle.tokens.specs.Token.{textSize}
 use Rattle.reader.specs.Load.{Outcome, refused, outcome, loadAnswer, loadSet}
-use Rattle.text.specs.PutLaws.{put-length}
-use Rattle.transcript.specs.declared.session.Place.{Place}
+use Rattle.values.specs.PutLaws.{put-length, put-past}
+use Rattle.transcript.specs.declared.set_text.Place.{Place}
 use Rattle.transcript.specs.declared.beat_line.HalfLine.{HalfLine}
 use Rattle.transcript.specs.Input.{Input, isStar, beatLines, lineBefore, cut, inputOf}
 use Rattle.transcript.specs.BeatLine.{Lent, lineLent}
@@ -29,10 +30,11 @@ use Rattle.transcript.specs.Totals.{maxBeats, noTotals, ended}
 use Rattle.transcript.specs.Tally.{counted, answerOf, beatText}
 use Rattle.transcript.specs.Synrun.{beatsText, loadedText, synrun}
 use Rattle.transcript.specs.HalfLine.{noHalfLine, readOn, withoutCR, isUntouched, readLent}
-use Rattle.transcript.specs.Machine.{TEXT, BEATS, OVER, keptSize, Machine, Fed, begun, withPhase, withTotals, starAfter, starOn, placeOn, placeEnd, opened, textEnd, beatOf, beatEnd, chunk, lineEnd, fedLines, textOver, lastOver, finished}
+use Rattle.transcript.specs.Machine.{TEXT, BEATS, OVER, Machine, Fed, begun, withPhase, withTotals, opened, textEnd, beatOf, beatEnd, chunk, lineEnd, fedLines, textOver, lastOver, finished}
+use Rattle.transcript.specs.SetText.{keptSize, starAfter, starOn, placeOn, placeEnd}
 use Rattle.transcript.specs.SessionRoomLaws.{byCode, byLent, over-chunk, over-line}
 use Rattle.sessions.specs.HalfLineLaws.{byOption, lent-last, lent-ended, untouched}
-use Rattle.sessions.specs.MachineLaws.{put-out, text-append}
+use Rattle.sessions.specs.MachineLaws.{text-append}
 
 -- ---- all that is printed
 
@@ -211,7 +213,7 @@ module _ (c : ℕ) where
       let m : min c (length d) ≡ c = omega arith in
       let a = length-append d l in
       let w : min c (length d + length l) ≡ c = omega arith in
-      rw (m, a, w, put-out s c l (omega arith)) (rw m at k ∙ sym (take-append-le c d l h))
+      rw (m, a, w, put-past l s c (omega arith)) (rw m at k ∙ sym (take-append-le c d l h))
 
   kept-put : (l s d : List ℕ) → length s ≡ c → Begins s d → Begins (putAt s (min c (length d)) l) (d ++ l)
   kept-put [] s d n k = rw (append-nil d) k
@@ -316,11 +318,11 @@ module _ (i : Input) where
       byCode (λ (y : List ℕ). y ≡ loadLine (suc c) (loadAnswer (i .text) .line)) (loadAnswer (i .text) .code) (λ e. absurd (omega arith)) (λ d e. let q : suc d ≡ suc c = sym e ∙ h in rw q)
 
 -- a text above 4,096 bytes is refused, whatever it is
-long-outcome : (t : List ℕ) → textSize < length t → outcome t ≡ refused 1 0
+long-outcome : (t : List ℕ) → textSize < length t → outcome t ≡ refused tooLong 0
 unfolding outcome
-long-outcome t h = either (λ (y : Outcome). y ≡ refused 1 0) (ltb textSize (length t)) (λ e. refl) (λ e. let q = lt-ltb textSize (length t) h in clash (cc))
+long-outcome t h = either (λ (y : Outcome). y ≡ refused tooLong 0) (ltb textSize (length t)) (λ e. refl) (λ e. let q = lt-ltb textSize (length t) h in clash (cc))
 
-long-answer : (t : List ℕ) → textSize < length t → loadAnswer t ≡ record { code = 1; line = 0; state = powerOn }
+long-answer : (t : List ℕ) → textSize < length t → loadAnswer t ≡ record { code = tooLong; line = 0; state = powerOn }
 unfolding loadAnswer
 long-answer t h = rw (long-outcome t h, loadAnswer)
 

@@ -20,8 +20,8 @@ use Rattle.values.specs.Numbers.{clash}
 use Rattle.working.specs.Variables.{asCount}
 use Rattle.engine.specs.declared.state.State.{State}
 use Rattle.engine.specs.Set.{soundLines}
-use Rattle.engine.specs.State.{stateCells, powerOn}
-use Rattle.engine.specs.Sound.{allRanged, isOutput, isCell, areCells, allZero, fifoRun, isFifoSound, isFlag, areFlags, stateSound, isSound}
+use Rattle.engine.specs.State.{fifos, stateCells, powerOn}
+use Rattle.engine.specs.Sound.{allRanged, isOutput, isCell, areCells, allZero, fifoRun, isFifoSound, areFifos, isFlag, areFlags, stateSound, isSound}
 use Rattle.engine.specs.Write.{withRunAt}
 
 -- ---- lists, place by place
@@ -205,38 +205,39 @@ below-four P a b c d (suc (suc (suc (suc k)))) l = absurd (omega arith)
 
 -- what the computed test says
 pub sound-right : (count : ℕ) (st : State) → stateSound count st ≡ true → StateRight count st
-unfolding stateSound
+unfolding stateSound areFifos
 sound-right count st h =
     let h1 = both (allRanged (st .r)) _ h .1 in
     let h2 = both (areCells (st .cells) 0) _ h1 .1 in
-    let h3 = both (isFifoSound (st .r) (st .cells) 0) _ h2 .1 in
-    let h4 = both (isFifoSound (st .r) (st .cells) 1) _ h3 .1 in
-    let h5 = both (isFifoSound (st .r) (st .cells) 2) _ h4 .1 in
-    let h6 = both (isFifoSound (st .r) (st .cells) 3) _ h5 .1 in
+    let f0 = both (areFifos (st .r) (st .cells) fifos 0) _ h2 .0 in
+    let f1 = both (isFifoSound (st .r) (st .cells) 0) _ f0 .1 in
+    let f2 = both (isFifoSound (st .r) (st .cells) 1) _ f1 .1 in
+    let f3 = both (isFifoSound (st .r) (st .cells) 2) _ f2 .1 in
     record {
       cells = record {
         ranged = ranged-each (st .r) (both (allRanged (st .r)) _ h .0);
         right = cells-each (st .cells) (both (areCells (st .cells) 0) _ h1 .0);
         unused = below-four (λ k. Unused (fifoRun (st .r) k) (fifoCount (st .cells) k))
-            (fifo-each (st .r) (st .cells) 0 (both (isFifoSound (st .r) (st .cells) 0) _ h2 .0))
-            (fifo-each (st .r) (st .cells) 1 (both (isFifoSound (st .r) (st .cells) 1) _ h3 .0))
-            (fifo-each (st .r) (st .cells) 2 (both (isFifoSound (st .r) (st .cells) 2) _ h4 .0))
-            (fifo-each (st .r) (st .cells) 3 (both (isFifoSound (st .r) (st .cells) 3) _ h5 .0));
+            (fifo-each (st .r) (st .cells) 0 (both (isFifoSound (st .r) (st .cells) 0) _ f0 .0))
+            (fifo-each (st .r) (st .cells) 1 (both (isFifoSound (st .r) (st .cells) 1) _ f1 .0))
+            (fifo-each (st .r) (st .cells) 2 (both (isFifoSound (st .r) (st .cells) 2) _ f2 .0))
+            (fifo-each (st .r) (st .cells) 3 (both (isFifoSound (st .r) (st .cells) 3) _ f3 .0));
       };
-      flags = flags-each count (st .locked) (st .cancelled) (st .memory) h6;
+      flags = flags-each count (st .locked) (st .cancelled) (st .memory) (both (areFifos (st .r) (st .cells) fifos 0) _ h2 .1);
     }
 
 -- and what makes it true
 pub right-sound : (count : ℕ) (st : State) → StateRight count st → stateSound count st ≡ true
-unfolding stateSound
+unfolding stateSound areFifos
 right-sound count st h =
     and-true (each-ranged (st .r) (h .cells .ranged))
     (and-true (each-cells (st .cells) (h .cells .right))
+    (and-true
     (and-true (each-fifo (st .r) (st .cells) 0 (h .cells .unused 0 (omega arith)))
     (and-true (each-fifo (st .r) (st .cells) 1 (h .cells .unused 1 (omega arith)))
     (and-true (each-fifo (st .r) (st .cells) 2 (h .cells .unused 2 (omega arith)))
-    (and-true (each-fifo (st .r) (st .cells) 3 (h .cells .unused 3 (omega arith)))
-    (each-flags count (st .locked) (st .cancelled) (st .memory) (h .flags)))))))
+    (and-true (each-fifo (st .r) (st .cells) 3 (h .cells .unused 3 (omega arith))) refl))))
+    (each-flags count (st .locked) (st .cancelled) (st .memory) (h .flags))))
 
 -- a set and a state are sound: the set is
 pub set-sound : (s : List ℕ) (st : State) → isSound s st ≡ true → soundLines s .sound ≡ true
@@ -291,7 +292,7 @@ flag-beyond count k a b c l h = let e = rw (le-ltb k count l) at h in by-flags a
 
 -- the state at power-on is sound for any number of lines
 pub power-on-sound : (n : ℕ) → stateSound n powerOn ≡ true
-unfolding stateSound powerOn allRanged areCells isFifoSound allZero isCell inRange outputOf wholeUnits equalTo lessThan
+unfolding stateSound powerOn allRanged areCells areFifos isFifoSound allZero isCell inRange outputOf wholeUnits equalTo lessThan
 power-on-sound n =
     each-flags n (replicate 32 false) (replicate 32 false) (replicate 32 false) (λ k l. rw (same-each 32 k false) (flag-none n k))
 

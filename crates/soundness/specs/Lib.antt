@@ -1,4 +1,5 @@
--- A sound state stays sound, and from a load on 22 never arises: SoundLaws says it of every call; Call has the calls. GoodAnswers tells how the laws go by cases.
+-- A sound state stays sound, and from a load on 22 never arises: SoundLaws says it of every call (`sound-stays-sound`, `always-sound`, `never-22`); Call has the calls. GoodAnswers tells how the laws go by cases.
+-- AnswerCodes and CallCodes: which codes a call answers.
 pub mod Call
 pub mod GoodAnswers
 pub mod SetSoundLaws
@@ -11,3 +12,6 @@ pub mod PassLaws
 pub mod ActionSoundLaws
 pub mod LineLaws
 pub mod SoundLaws
+pub mod AnswerCodes
+pub mod AnswerCodeLaws
+pub mod CallCodes

@@ -14,7 +14,7 @@ use Rattle.tokens.specs.Token.{END, EQUALS, DO, ID, IDS, WHEN, EVERY, isNumber,
 use Rattle.tokens.specs.Descent.{token, good, _>>=_, Read, read, ends, then, expressionAt}
 use Rattle.tokens.specs.SingleFault.{lower, opensTooMany}
 use Rattle.checking.specs.Fault.{sight, faultFor, countFault, actionAt, actionsAt, faultyLine, lineParts, bodyAt, restAt, lineAt}
-use Rattle.checking.specs.declared.check.Line.{Line}
+use Rattle.checking.specs.declared.line.Line.{Line}
 use Rattle.engine.specs.Set.{namesKnown, soundLines}
 use Rattle.engine.specs.Action.{World, Did, actionOf}
 use Rattle.engine.specs.Actions.{actionsOf}

@@ -24,9 +24,9 @@ use Rattle.working.specs.Working.{conditionValue}
 use Rattle.engine.specs.declared.state.State.{State}
 use Rattle.engine.specs.declared.calls.Called.{Called}
 use Rattle.engine.specs.Set.{lineOf, soundLines}
-use Rattle.engine.specs.State.{stateCells, powerOn}
+use Rattle.engine.specs.State.{timerCells, stateCells, powerOn}
 use Rattle.engine.specs.Cells.{inputCount, inputCell, inputCells, beatCells}
-use Rattle.engine.specs.Timers.{timerCells, grownCells}
+use Rattle.engine.specs.Timers.{grownCells}
 use Rattle.engine.specs.Sound.{isSound}
 use Rattle.engine.specs.Action.{World, Did, fromValueOrAlarm}
 use Rattle.engine.specs.Actions.{actionsOf}
@@ -34,11 +34,11 @@ use Rattle.engine.specs.Turn.{Entry, Turned, remembered, counted, takesTurn, do
 use Rattle.engine.specs.Keyword.{tries, remembers}
 use Rattle.engine.specs.Beat.{bufferSize, areInputs, begun, ended, beatOf, answered, beatAnswer}
 use Rattle.engine.specs.Calls.{lockCall, unlockCall, cancelCall}
-use Rattle.engine.proofs.CellLaws.{length-inputs}
-use Rattle.engine.proofs.BeatLaws.{inputs-length}
+use Rattle.engine.specs.InputLaws.{length-inputs, inputs-length}
 use Rattle.soundness.specs.Call.{Call, doBeat, doLock, doUnlock, doCancel, doReset, after, codeAfter, afterAll}
 use Rattle.soundness.specs.GoodAnswers.{Not22, Holds, holds-then}
-use Rattle.soundness.specs.SetSoundLaws.{lines-lined, lines-known}
+use Rattle.engine.specs.SetLinesLaws.{lines-lined}
+use Rattle.soundness.specs.SetSoundLaws.{lines-known}
 use Rattle.soundness.specs.CellSoundLaws.{ranged-each, cell-ranged, timer-cell, right-timer, CellsSound, cell-keeps, memory-keeps, state-right, right-state, set-sound, power-on}
 use Rattle.soundness.specs.CallSoundLaws.{lockCall-keeps, unlockCall-keeps, cancelCall-keeps, resetCall-keeps, Answers, lockCall-answers, unlockCall-answers, cancelCall-answers, resetCall-r, resetCall-length, resetCall-code}
 use Rattle.soundness.specs.WriteSoundLaws.{BeatSound}
@@ -221,6 +221,10 @@ call-keeps s st (doUnlock n) l h = unchanged s st (unlockCall s st n) h (unlockC
 call-keeps s st (doCancel n) l h = unchanged s st (cancelCall s st n) h (cancelCall-keeps s st n (h .sound)) (cancelCall-answers s st n (h .sound))
 call-keeps s st doReset l h = record { sound = resetCall-keeps s st (h .sound); long = rw (resetCall-r s st) (h .long); sized = resetCall-length s st (h .sized) }
 call-keeps s st (doBeat automatic word lent b) l h = beat-answers s st automatic word lent b l h .0
+
+-- A SOUND STATE STAYS SOUND, whatever is called
+pub sound-stays-sound : (s : List ℕ) (st : State) (c : Call) → length s ≤ setSize → length (st .r) ≡ 164 → length (st .cells) ≡ stateCells → isSound s st ≡ true → isSound s (after s st c) ≡ true
+sound-stays-sound s st c l lr lc h = call-keeps s st c l (record { sound = h; long = lr; sized = lc }) .sound
 
 -- and answers no 22
 pub call-not22 : (s : List ℕ) (st : State) (c : Call) → length s ≤ setSize → Whole s st → Not22 (codeAfter s st c)

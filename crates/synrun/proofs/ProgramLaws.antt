@@ -6,26 +6,31 @@ use native.Mathlib.Omega.{arith}
 use lib.ListN.{length, take, drop, length-drop}
 use lib.Seq.{length-take-le}
 use Rattle.transcript.specs.declared.session.Stepped.{Stepped}
-use Rattle.transcript.specs.Machine.{Machine, worked, finishedText, outSize}
-use Rattle.transcript.specs.SessionAnswers.{IsWork}
+use Rattle.transcript.specs.Machine.{Machine, worked, finishedText}
+use Rattle.transcript.specs.Output.{outSize}
+use Rattle.transcript.specs.SessionAnswers.{stepAnswer}
 use Rattle.transcript.specs.SessionRoomLaws.{finished-text-room}
-use Rattle.text.specs.PutAt.{putAt}
-use Rattle.text.specs.PutLaws.{put-length}
+use Rattle.values.specs.PutAt.{putAt}
+use Rattle.values.specs.PutLaws.{put-length}
 use Rattle.transcript.specs.BeatTakenLaws.{worked-room, taken-within, taken-some}
 
 -- what is left of a piece behind k bytes
 pub left-length : (k : ℕ) (t : List ℕ) → length (take (length t - k) (drop k t)) ≡ length t - k
 left-length k t = let d = length-drop k t in length-take-le (length t - k) (drop k t) (omega arith)
 
-module _ (m : Machine) (t : List ℕ) {text lines buffer exit : List ℕ} {x : Stepped} (w : IsWork (worked m t) text lines buffer x exit) where
-  pub written-room : length buffer ≡ outSize → x .written ≤ length exit
-  written-room n = let r = worked-room m t in let e = w .written in let l = ap length (w .output) ∙ put-length (worked m t .output) buffer 0 in omega arith
+module _ (m : Machine) (t : List ℕ) {x : Stepped} (w : x ≡ stepAnswer (worked m t)) where
+  pub written-room : (buffer : List ℕ) {exit : List ℕ} → exit ≡ putAt buffer 0 (worked m t .output) → length buffer ≡ outSize → x .written ≤ length exit
+  written-room buffer o n =
+      let r = worked-room m t in
+      let e = ap (λ (y : Stepped). y .written) w in
+      let l = ap length o ∙ put-length (worked m t .output) buffer 0 in
+      omega arith
 
   pub no-more : x .taken ≤ length t
-  no-more = let r = taken-within m t in let e = w .taken in omega arith
+  no-more = let r = taken-within m t in let e = ap (λ (y : Stepped). y .taken) w in omega arith
 
   pub some : 1 ≤ length t → 1 ≤ x .taken
-  some h = let r = taken-some m t h in let e = w .taken in omega arith
+  some h = let r = taken-some m t h in let e = ap (λ (y : Stepped). y .taken) w in omega arith
 
 -- what the end of input prints fits too
 pub end-room : (m : Machine) (buffer : List ℕ) {n : ℕ} {exit : List ℕ} → n ≡ length (finishedText m) → exit ≡ putAt buffer 0 (finishedText m) → length buffer ≡ outSize → n ≤ length exit

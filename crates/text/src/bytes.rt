@@ -12,16 +12,16 @@ pub const CR: u8 = 13;
 pub const SPACE: u8 = 32;
 
 // $
-pub const DOLLAR: u8 = 36;
+pub(crate) const DOLLAR: u8 = 36;
 
 // .
-pub const POINT: u8 = 46;
+pub(crate) const POINT: u8 = 46;
 
 // ; begins a comment
-pub const COMMENT: u8 = 59;
+const COMMENT: u8 = 59;
 
 // _
-pub const LOWLINE: u8 = 95;
+const LOWLINE: u8 = 95;
 
 // What the bytes of a run are: digits, the bytes of a word, no LF, no comment's begin.
 pub enum Kind {
@@ -47,14 +47,14 @@ pub fn is_digit(b: u8) -> bool
 }
 
 // An upper case letter.
-pub fn is_letter(b: u8) -> bool
+pub(crate) fn is_letter(b: u8) -> bool
     ensures { λ r. ⌜ r ≡ isLetter b ⌝ }
 {
     is_between(65, 90, b)
 }
 
 // A letter or $.
-pub fn starts_word(b: u8) -> bool
+pub(crate) fn starts_word(b: u8) -> bool
     ensures { λ r. ⌜ r ≡ startsWord b ⌝ }
 {
     if is_letter(b) {
@@ -64,7 +64,7 @@ pub fn starts_word(b: u8) -> bool
 }
 
 // A letter, a digit or _.
-pub fn is_word_byte(b: u8) -> bool
+fn is_word_byte(b: u8) -> bool
     ensures { λ r. ⌜ r ≡ isWordByte b ⌝ }
 {
     if is_letter(b) {
@@ -76,7 +76,7 @@ pub fn is_word_byte(b: u8) -> bool
     b == LOWLINE
 }
 
-pub fn is_of(kind: Kind, b: u8) -> bool
+fn is_of(kind: Kind, b: u8) -> bool
     ensures { λ r. ⌜ r ≡ kindOf kind b ⌝ }
 {
     match kind {

@@ -1,7 +1,9 @@
-// The text of a set: its bytes, numbers, lines, words, and the tokens that they make (document 01, "Lines of text").
+// The text of a set: its bytes, numbers, lines, words, and the tokens that they make (document 01, "Lines of text"); and bytes and numbers written into a buffer.
 //
 // No public call asks anything of its caller.
+pub mod buffer;
 pub mod bytes;
+pub mod digits;
 mod lines;
 mod number;
 mod scan;

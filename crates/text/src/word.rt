@@ -35,7 +35,7 @@ use tokens::token::WHENEVER;
 use tokens::token::X;
 use tokens::token::XOR;
 
-pub fn same_bytes(a: &[u8], b: &[u8]) -> bool
+fn same_bytes(a: &[u8], b: &[u8]) -> bool
     ensures { λ r. ⌜ r ≡ sameBytes (now (a .entry)) (now (b .entry)) ⌝ }
 {
     if a.len() != b.len() {

@@ -4,13 +4,14 @@ use mathlib.Core.Bool.{Bool, true, false}
 use Prim.Native.Nat.{ℕ, _-_, _<_}
 use native.Mathlib.Omega.{arith}
 use borrow.Author.Tests.{ne-eqb}
+use Rattle.values.specs.Codes.{outside}
 use Rattle.tokens.specs.SingleFault.{lower, unless}
 
 pub none-first : (b : ℕ) → lower 0 b ≡ b
 unfolding lower
 none-first b = refl
 
-pub outside-first : (b : Bool) (k : ℕ) → 7 < k → lower 7 (unless b k) ≡ 7
+pub outside-first : (b : Bool) (k : ℕ) → outside < k → lower outside (unless b k) ≡ outside
 unfolding lower
 outside-first true k l = refl
 outside-first false k l = simp (lower, ne-eqb k 0 (omega arith)) (omega arith)

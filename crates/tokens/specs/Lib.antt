@@ -1,6 +1,7 @@
--- Token what a token is, Index which indices a variable has, Reading how tokens are read, in any meaning. Definitions only.
--- SingleFault: the faults of single things. Definitions only.
+-- What the promises mean: tokens and their indices, how tokens are read in any meaning, the faults of single things. Definitions; AnswerLaws and ChooseLaws are laws of answers.
 pub mod Token
 pub mod Index
 pub mod Descent
+pub mod AnswerLaws
 pub mod SingleFault
+pub mod ChooseLaws

@@ -1,7 +1,7 @@
 -- The tokens of a line, a number each (document 01, "Lines of text"). 0 ends a line. Definitions only.
 -- A number in the text is 2^31, twice its thousandths, and one more if a point was written; a stored set has no such mark.
 use mathlib.Core.Path.{_≡_}
-use mathlib.Core.Bool.{Bool, _&&_}
+use mathlib.Core.Bool.{Bool, _&&_, _||_}
 use mathlib.Core.List.{List}
 use Prim.Native.Nat.{ℕ, _+_, _-_, _*_, _/_, _%_, _<_}
 use lib.Dec.{eqb, leb}
@@ -226,6 +226,10 @@ isFactor t = between TIMES OVER t
 
 abbrev pub isTerm : ℕ → Bool
 isTerm t = between PLUS MINUS t
+
+-- + - * or /
+abbrev pub isArithmetic : ℕ → Bool
+isArithmetic t = isFactor t || isTerm t
 
 abbrev pub isCompare : ℕ → Bool
 isCompare t = between SAME ATLEAST t

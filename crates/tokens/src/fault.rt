@@ -22,7 +22,6 @@ use values::codes::M_ALONE;
 use values::codes::OUTSIDE;
 use values::codes::READ_ONLY;
 
-// The codes.
 // The brackets that may be open.
 pub const BRACKETS: usize = 8;
 

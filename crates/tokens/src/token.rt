@@ -1,8 +1,7 @@
 // The tokens: their numbers, and what a token is. The same table stands in specs/Token.
 ghost use mathlib.Core.Path.{_≡_};
-ghost use Prim.Native.Nat.{_<_};
-ghost use lib.ListN.{length, getD};
-ghost use Rattle.tokens.specs.Token.{between, isVariable, isFifo, isAxis, isDrive, isCall, isKeyword, isId, isBracket, isFactor, isTerm, isCompare, isLogic, isWhole, whole};
+ghost use lib.ListN.{getD};
+ghost use Rattle.tokens.specs.Token.{between, isVariable, isFifo, isAxis, isDrive, isCall, isKeyword, isId, isBracket, isFactor, isTerm, isArithmetic, isCompare, isLogic, isWhole, whole};
 ghost use Rattle.tokens.specs.Descent.{isRow, isIndex, indexOf, isIndexed, indexAt};
 
 // The lines that a set may have, the actions of each, and the bytes of its text.
@@ -116,7 +115,7 @@ pub const NUMBER: u32 = 2147483648;
 
 // The token at a place, 0 past the end.
 pub fn token_at(set: &[u32], at: usize) -> u32
-    ensures { λ r. ⌜ (r ≡ getD (now (set .entry)) at 0) × ((r ≡ 0 → ⊥) → at < length (now (set .entry))) ⌝ }
+    ensures { λ r. ⌜ r ≡ getD (now (set .entry)) at 0 ⌝ }
 {
     if at < set.len() { set[at] } else { 0 }
 }
@@ -142,7 +141,7 @@ pub fn is_fifo(t: u32) -> bool
     is_between(FIFO1, FIFO4, t)
 }
 
-pub fn is_axis(t: u32) -> bool
+fn is_axis(t: u32) -> bool
     ensures { λ r. ⌜ r ≡ isAxis t ⌝ }
 {
     is_between(X, W, t)
@@ -173,7 +172,7 @@ pub fn is_id(t: u32) -> bool
 }
 
 // A bracket ( or ).
-pub fn is_bracket(t: u32) -> bool
+pub(crate) fn is_bracket(t: u32) -> bool
     ensures { λ r. ⌜ r ≡ isBracket t ⌝ }
 {
     is_between(OPEN, CLOSE, t)
@@ -189,6 +188,13 @@ pub fn is_term(t: u32) -> bool
     ensures { λ r. ⌜ r ≡ isTerm t ⌝ }
 {
     is_between(PLUS, MINUS, t)
+}
+
+// One of + - * /: those of a term stand directly before those of a factor.
+pub fn is_arithmetic(t: u32) -> bool
+    ensures { λ r. ⌜ r ≡ isArithmetic t ⌝ }
+{
+    is_between(PLUS, OVER, t)
 }
 
 pub fn is_compare(t: u32) -> bool

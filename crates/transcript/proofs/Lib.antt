@@ -1,11 +1,8 @@
--- Laws that several proofs cite: BeatLineLaws on a beat line read byte by byte.
--- Laws that several proofs cite: OutLaws on text put at a place of a buffer.
--- TestLaws: what the tests of totals come to, and a text as it is put.
--- TallyBeatLaws: a beat as it is put.
--- Laws that several proofs cite: StepLaws and WorkLaws on a session worked line by line.
+-- Laws that several proofs cite: each says what a definition comes to where the code's tests led.
 mod BeatLineLaws
 mod OutLaws
 mod TestLaws
 mod TallyBeatLaws
+mod SetTextLaws
 mod StepLaws
 mod WorkLaws

@@ -1,71 +1,64 @@
--- Text put at a place of a buffer: past its end nothing is put, one text behind another, digits.
+-- Text put at a place of a buffer, field by field and order by order.
 use mathlib.Core.Path.{_≡_, refl, sym, ap, _∙_}
-use mathlib.Core.List.{List, [], _∷_, _++_}
-use Prim.Native.Nat.{ℕ, zero, suc, _+_, _-_, _*_, _/_, _%_, _≤_, _<_}
+use mathlib.Core.List.{List, [], _∷_, _++_, append-assoc, append-nil}
+use Prim.Native.Nat.{ℕ, suc, _+_, _-_, _*_, _≤_, _<_}
 use native.Mathlib.Omega.{arith}
 use native.Mathlib.Numerals.{add-one}
-use borrow.Author.Tests.{lt-ltb, le-ltb, le-leb, lt-leb}
-use lib.ListN.{length, getD, set, drop, length-append, drop-of-length-le}
-use lib.Seq.{set-out, drop-cons, append-snoc, getD-drop, drop-drop}
-use Rattle.text.specs.PutAt.{putAt}
-use Rattle.text.specs.PutLaws.{put-join}
-use Rattle.transcript.specs.Output.{digitsUp, decimal, fourOf, signedText, orderLine, orderLines}
-use Rattle.transcript.specs.Put.{IsPut, furthest, inReach}
+use lib.ListN.{length, getD, drop, length-append, drop-of-length-le}
+use lib.Seq.{drop-cons, getD-drop, drop-drop}
+use Rattle.text.specs.Byte.{bytes, LF, SPACE}
+use Rattle.text.specs.Digits.{decimal, signedText}
+use Rattle.values.specs.PutAt.{putAt, IsPut}
+use Rattle.values.specs.PutLaws.{put-join}
+use Rattle.transcript.specs.OutputLaws.{fields-room}
+use Rattle.transcript.specs.Output.{spaced, printedLine, decimals, fourOf, orderLine, orderLines}
 
--- ---- bytes, one by one
+-- ---- what is left to put
 
-pub put-past : (l s : List ℕ) (p : ℕ) → length s ≤ p → putAt s p l ≡ s
-put-past [] s p h = refl
-put-past (b ∷ l) s p h = rw (set-out s p b h) (put-past l s (p + 1) (omega arith))
+-- l from place `at` on comes to `rest` from place p on
+pub record Left (s : List ℕ) (at : ℕ) (l out : List ℕ) (p : ℕ) (rest : List ℕ) : Type 0 where
+  pub put : putAt out p rest ≡ putAt s at l
+  pub behind : p + length rest ≡ at + length l
 
--- the byte at place i of a text that is put from there on
-module _ (t s : List ℕ) (p i : ℕ) where
-  pub put-next : i < length t → putAt s p (drop i t) ≡ putAt (set s p (getD t i 0)) (p + 1) (drop (i + 1) t)
-  put-next h = rw (drop-cons t i 0 h, add-one i)
+module _ {s : List ℕ} {at : ℕ} {l : List ℕ} where
+  pub left-all : {rest : List ℕ} → rest ≡ l → Left s at l s at rest
+  left-all e = rw e (record { put = refl; behind = refl })
 
-  pub put-none : length t ≤ i → putAt s p (drop i t) ≡ s
-  put-none h = rw (drop-of-length-le t h)
+  -- behind a text that is put
+  pub left-after : {out t : List ℕ} {p q : ℕ} {rest a : List ℕ} (b : List ℕ) → Left s at l out p rest → rest ≡ a ++ b → IsPut out p a t q → Left s at l t q b
+  left-after {out} {t} {p} {q} {rest} {a} b h e g =
+      record {
+        put = ap (λ (x : List ℕ). putAt x q b) (g .put) ∙ sym (put-join a b out p q (sym (g .behind))) ∙ ap (putAt out p) (sym e) ∙ h .put;
+        behind = let f = g .behind in let k = h .behind in let m = ap length e ∙ length-append a b in omega arith;
+      }
 
--- ---- texts
+  pub left-none : {out : List ℕ} {p : ℕ} {rest : List ℕ} → Left s at l out p rest → rest ≡ [] → IsPut s at l out p
+  left-none {out} {p} {rest} h e =
+      record { put = sym (ap (putAt out p) e) ∙ h .put; behind = let k = h .behind in let m = ap length e in omega arith }
 
--- a byte alone
-pub put-byte : {s t : List ℕ} {p b : ℕ} → t ≡ set s p b → IsPut s p (b ∷ []) t (p + 1)
-put-byte e = record { put = e; behind = refl }
+-- ---- fields
 
--- one text behind another
-pub put-both : {s t u a b : List ℕ} {p q r : ℕ} → IsPut s p a t q → IsPut t q b u r → IsPut s p (a ++ b) u r
-put-both {s} {t} {u} {a} {b} {p} {q} {r} h g =
-    record {
-      put = g .put ∙ ap (λ (x : List ℕ). putAt x q b) (h .put) ∙ sym (put-join a b s p q (sym (h .behind)));
-      behind = let e = h .behind in let f = g .behind in rw length-append (omega arith);
-    }
+-- the numbers from place i on
+module _ (ns : List ℕ) (i : ℕ) where
+  pub field-next : i < length ns → spaced (decimals (drop i ns)) ≡ (SPACE ∷ decimal (getD ns i 0)) ++ spaced (decimals (drop (i + 1) ns))
+  unfolding spaced
+  field-next h = rw (drop-cons ns i 0 h, add-one i)
 
--- the same where the first ends in a byte
-pub put-on : {s t u : List ℕ} (a : List ℕ) (x : ℕ) {b : List ℕ} {p q r : ℕ} → IsPut s p (a ++ (x ∷ [])) t q → IsPut t q b u r → IsPut s p (a ++ (x ∷ b)) u r
-put-on a x {b} h g = rw append-snoc at (put-both h g)
+  pub fields-over : length ns ≤ i → spaced (decimals (drop i ns)) ≡ []
+  unfolding spaced
+  fields-over h = rw (drop-of-length-le ns h)
 
--- ---- digits
+pub line-is : (word : List ℕ) (fs : List (List ℕ)) → printedLine word fs ≡ (word ++ spaced fs) ++ (LF ∷ [])
+line-is word fs = sym (append-assoc word (spaced fs) (LF ∷ []))
 
-module _ (k n : ℕ) where
-  pub one-digit : 0 < k → n < 10 → digitsUp k n ≡ (48 + n) ∷ []
-  unfolding digitsUp
-  one-digit h g = go k h
-    where
-      go : (k : ℕ) → 0 < k → digitsUp k n ≡ (48 + n) ∷ []
-      go zero h = absurd (omega arith)
-      go (suc k) h = simp (digitsUp, lt-ltb n 10 g)
+-- with a field more
+spaced-more : (fs : List (List ℕ)) (f : List ℕ) → spaced (fs ++ (f ∷ [])) ≡ spaced fs ++ (SPACE ∷ f)
+unfolding spaced
+spaced-more [] f = ap (λ (y : List ℕ). SPACE ∷ y) (append-nil f)
+spaced-more (g ∷ gs) f = ap (λ (y : List ℕ). SPACE ∷ (g ++ y)) (spaced-more gs f) ∙ ap (λ (y : List ℕ). SPACE ∷ y) (sym (append-assoc g (spaced gs) (SPACE ∷ f)))
 
-  pub more-digits : 0 < k → 10 ≤ n → digitsUp k n ≡ digitsUp (k - 1) (n / 10) ++ ((48 + n % 10) ∷ [])
-  unfolding digitsUp
-  more-digits h g = go k h
-    where
-      go : (k : ℕ) → 0 < k → digitsUp k n ≡ digitsUp (k - 1) (n / 10) ++ ((48 + n % 10) ∷ [])
-      go zero h = absurd (omega arith)
-      go (suc k) h = let e : suc k - 1 ≡ k = omega arith in simp (digitsUp, le-ltb n 10 g, e)
-
-pub no-digits : (k n : ℕ) → k ≡ 0 → digitsUp k n ≡ []
-unfolding digitsUp
-no-digits k n e = rw e
+pub line-more : (word : List ℕ) (fs : List (List ℕ)) (f : List ℕ) → printedLine word (fs ++ (f ∷ [])) ≡ (((word ++ spaced fs) ++ (SPACE ∷ [])) ++ f) ++ (LF ∷ [])
+line-more word fs f = rw (spaced-more fs f) (simp append-assoc)
 
 -- ---- the fields of an order
 
@@ -80,18 +73,15 @@ module _ (o : List ℕ) (from : ℕ) where
   unfolding fourOf
   four-is e f g h = rw (first e, field 1 f, field 2 g, field 3 h)
 
-  pub order-is : {line kind target v : ℕ} → line ≡ getD o (from + 1) 0 → kind ≡ getD o from 0 → target ≡ getD o (from + 2) 0 → v ≡ fourOf (drop (from + 4) o) → orderLine (drop from o) ≡ 79 ∷ 32 ∷ (decimal line ++ (32 ∷ (decimal kind ++ (32 ∷ (decimal target ++ (32 ∷ (signedText v ++ (10 ∷ []))))))))
+  -- its three numbers, then its value behind a space
+  pub order-is : {line kind target v : ℕ} → line ≡ getD o (from + 1) 0 → kind ≡ getD o from 0 → target ≡ getD o (from + 2) 0 → v ≡ fourOf (drop (from + 4) o) →
+      orderLine (drop from o) ≡ (((bytes "O" ++ spaced (decimals (line ∷ kind ∷ target ∷ []))) ++ (SPACE ∷ [])) ++ signedText v) ++ (LF ∷ [])
   unfolding orderLine
-  order-is e f g h = rw (field 1 e, first f, field 2 g, drop-drop 4 from o, ← h)
+  order-is {line} {kind} {target} {v} e f g h = rw (field 1 e, first f, field 2 g, drop-drop 4 from o, ← h) (line-more (bytes "O") (decimals (line ∷ kind ∷ target ∷ [])) (signedText v))
 
-module _ (n : ℕ) where
-  pub signed-low : n < 2147483648 → signedText n ≡ decimal n
-  unfolding signedText
-  signed-low h = simp (signedText, lt-ltb n 2147483648 h)
-
-  pub signed-high : 2147483648 ≤ n → n ≤ 4294967295 → signedText n ≡ 45 ∷ decimal (4294967295 - n + 1)
-  unfolding signedText
-  signed-high h g = let e : 4294967296 - n ≡ 4294967295 - n + 1 = omega arith in simp (signedText, le-ltb n 2147483648 h, e)
+-- where its three numbers end
+pub order-near : {s t : List ℕ} {at q : ℕ} (a b c : ℕ) → IsPut s at (bytes "O" ++ spaced (decimals (a ∷ b ∷ c ∷ []))) t q → q ≤ at + 34
+order-near a b c h = let r = fields-room (a ∷ b ∷ c ∷ []) in let e = h .behind in omega arith
 
 -- ---- orders one behind the other
 
@@ -113,27 +103,3 @@ module _ (n : ℕ) (o : List ℕ) where
       let e : n - k ≡ suc (n - (k + 1)) = omega arith in
       let f : k * 8 + 8 ≡ (k + 1) * 8 = omega arith in
       rw (e, drop-drop 8 (k * 8) o, f)
-
--- what is left to put behind a text that is put
-module _ {s t a l : List ℕ} {p q : ℕ} (b : List ℕ) (h : IsPut s p a t q) (e : l ≡ a ++ b) where
-  pub rest-put : putAt t q b ≡ putAt s p l
-  rest-put = rw (h .put, e) (sym (put-join a b s p q (sym (h .behind))))
-
-  pub rest-behind : q + length b ≡ p + length l
-  rest-behind = let f = h .behind in rw (e, length-append) (omega arith)
-
-pub put-nothing : {s : List ℕ} {p : ℕ} → IsPut s p [] s p
-put-nothing {p = p} = record { put = refl; behind = omega arith }
-
--- ---- in reach
-
-pub in-reach : (at : ℕ) (t : List ℕ) → at ≤ furthest → inReach at t ≡ t
-unfolding inReach
-in-reach at t h = simp (inReach, le-leb at furthest h)
-
-pub out-of-reach : (s : List ℕ) (at : ℕ) (t : List ℕ) → furthest < at → IsPut s at (inReach at t) s at
-unfolding inReach
-out-of-reach s at t h = let e : inReach at t ≡ [] = simp (inReach, lt-leb at furthest h) in rw e put-nothing
-
-pub reached : {s u : List ℕ} (at : ℕ) (t : List ℕ) {q : ℕ} → IsPut s at (inReach at t) u q → at ≤ furthest → IsPut s at t u q
-reached at t h g = rw (in-reach at t g) at h

@@ -1,40 +1,35 @@
 -- A session as the code works it: bytes of a line, beats, the line's end. Each law says what the definition comes to where the code's tests led.
 use mathlib.Core.Path.{_≡_, refl, sym, ap, _∙_}
-use mathlib.Core.Bool.{true, false, _&&_, _||_, and-false}
+use mathlib.Core.Bool.{true, false, _||_}
 use mathlib.Core.List.{List, [], _++_}
 use mathlib.Core.Logic.{inl, inr}
 use mathlib.Core.Option.{Option, none, some}
 use Prim.Native.Nat.{ℕ, zero, suc, _+_, _≤_, _<_}
 use native.Mathlib.Omega.{arith}
-use native.Mathlib.Numerals.{add-one}
 use borrow.Author.Tests.{eq-eqb, ne-eqb, le-leb}
 use lib.Dec.{eqb}
-use lib.ListN.{length, getD, set, take, drop, drop-of-length-le}
-use lib.Seq.{drop-cons}
+use lib.ListN.{set, take}
 use Rattle.tokens.proofs.Between.{never}
-use Rattle.text.specs.Byte.{LF, CR}
+use Rattle.text.specs.Byte.{LF}
 use Rattle.reader.specs.declared.load_text.Loaded.{Loaded}
-use Rattle.text.specs.PutAt.{putAt}
+use Rattle.values.specs.PutAt.{putAt, IsPut}
 use Rattle.reader.specs.Load.{loadAnswer, loadSet}
-use Rattle.transcript.specs.declared.session.Place.{Place}
+use Rattle.transcript.specs.declared.set_text.Place.{Place}
 use Rattle.transcript.specs.declared.session.Session.{Session}
 use Rattle.transcript.specs.declared.session.Ended.{Ended}
 use Rattle.transcript.specs.declared.beat_line.HalfLine.{HalfLine}
 use Rattle.transcript.specs.declared.beat_line.MaybeLent.{MaybeLent}
 use Rattle.transcript.specs.BeatLine.{Lent}
-use Rattle.transcript.specs.Output.{loadLine, errorLine}
-use Rattle.transcript.specs.HalfLine.{noHalfLine, readOn, readLent, withoutCR}
+use Rattle.transcript.specs.Output.{loadLine, errorLine, outSize, lastStart}
+use Rattle.transcript.specs.HalfLine.{lastField, noHalfLine, readOn, readLent, withoutCR}
 use Rattle.transcript.specs.declared.totals.Totals.{Totals}
-use Rattle.transcript.specs.Totals.{maxBeats, ended, areFit, errorText}
-use Rattle.transcript.specs.TotalsLaws.{error-some}
-use Rattle.transcript.specs.Tally.{counted, answerOf, beatText, Tally, tallied}
-use Rattle.transcript.specs.TallyLaws.{taken-fit}
-use Rattle.transcript.specs.Machine.{TEXT, BEATS, OVER, keptSize, Fed, isFit, withPhase, withPlace, withHalfLine, starAfter, starOn, placeOn, placeEnd, opened, textEnd, beatOf, beatEnd, chunk, lineEnd}
-use Rattle.transcript.specs.Put.{IsPut, furthest}
+use Rattle.transcript.specs.Totals.{maxBeats, ended, areFit}
+use Rattle.transcript.specs.Tally.{counted, answerOf, beatText}
+use Rattle.transcript.specs.Machine.{TEXT, BEATS, OVER, Fed, isFit, withPhase, withPlace, withHalfLine, opened, textEnd, beatOf, beatEnd, chunk, lineEnd}
+use Rattle.transcript.specs.SetText.{keptSize, placeOn, placeEnd}
 use Rattle.transcript.specs.SessionAnswers.{IsFed, machineOf}
 use Rattle.transcript.specs.MaybeLent.{maybeLent, lentIn}
-use Rattle.transcript.specs.SessionRoomLaws.{Fit, Lives, beat-orders, beat-room}
-use Rattle.transcript.proofs.OutLaws.{reached}
+use Rattle.transcript.specs.SessionRoomLaws.{Fit, Lives, beat-room}
 
 -- what is left to say once it is known what a session came to
 pub fed : {f : Fed} {t s o b exit : List ℕ} {y : Session} {at q : ℕ} → f ≡ record { machine = machineOf t s y; output = o } → IsPut b at o exit q → IsFed f t s b at (record { session = y; end = q }) exit
@@ -48,35 +43,9 @@ pub alive : {x : Session} → Lives x → (x .phase ≡ OVER → ⊥) → Fit x
 alive (inl f) n = f
 alive (inr o) n = absurd (n (o .0))
 
-pub fit-but-totals : (x : Session) → x .place .size ≤ keptSize → x .place .start ≤ x .place .size → x .half .field ≤ 15 → areFit (x .totals) ≡ isFit x
+pub fit-but-totals : (x : Session) → x .place .size ≤ keptSize → x .place .start ≤ x .place .size → x .half .field ≤ lastField → areFit (x .totals) ≡ isFit x
 unfolding isFit
 fit-but-totals x a b c = simp (le-leb _ _ a, le-leb _ _ b, le-leb _ _ c)
-
--- ---- set text
-
-module _ (s b : ℕ) where
-  -- a line that is not empty
-  star-else : (s ≡ 0 → ⊥) → starAfter s b ≡ elim (eqb s 1 && eqb b CR) [ true ↦ 2 | false ↦ 3 ]
-  unfolding starAfter
-  star-else h = simp (starAfter, ne-eqb s 0 h)
-
-  pub star-other : (s ≡ 0 → ⊥) → (s ≡ 1 → ⊥) → 3 ≡ starAfter s b
-  star-other h g = rw (star-else h) (simp (ne-eqb s 1 g))
-
-  pub star-return : s ≡ 1 → b ≡ CR → 2 ≡ starAfter s b
-  star-return h g = rw (star-else (λ e. omega arith)) (simp (eq-eqb s 1 h, eq-eqb b CR g))
-
-  pub star-plain : (s ≡ 0 → ⊥) → (b ≡ CR → ⊥) → 3 ≡ starAfter s b
-  star-plain h g = rw (star-else h) (simp (ne-eqb b CR g, and-false (eqb s 1)))
-
-module _ (t : List ℕ) (s i : ℕ) where
-  pub star-next : i < length t → {x : ℕ} → x ≡ starAfter s (getD t i 0) → starOn x (drop (i + 1) t) ≡ starOn s (drop i t)
-  unfolding starOn
-  star-next h e = rw (e, drop-cons t i 0 h, add-one i)
-
-  pub star-none : length t ≤ i → starOn s (drop i t) ≡ s
-  unfolding starOn
-  star-none h = rw (drop-of-length-le t h)
 
 -- ---- bytes of a line
 
@@ -111,33 +80,22 @@ module _ (o : Option Lent) {t : MaybeLent} (e : t ≡ maybeLent o) where
       go none e = refl
       go (some l) e = never (sym h ∙ ap (λ (y : MaybeLent). y .good) e)
 
+-- behind a beat there is room for a line more
+pub end-near : (s : List ℕ) (n : Totals) (l : Lent) {b exit : List ℕ} {at q : ℕ} → at ≤ lastStart → IsPut b at (beatText s n l) exit q → q ≤ outSize
+end-near s n l w p = let e = p .behind in let r = beat-room s n l in omega arith
+
 -- a beat of a line that lends l, its totals y
-module _ (t s : List ℕ) (x : Session) (l : Lent) (at : ℕ) (f : Fit x) (w : at ≤ 4096) where
-  tally-is : tallied s (x .totals) l at ≡ record { totals = counted (x .totals) (answerOf s (x .totals) l); text = beatText s (x .totals) l }
-  tally-is = taken-fit s (x .totals) l at (f .totals) (beat-orders s (x .totals) l) (omega arith)
+module _ (t s : List ℕ) (x : Session) (l : Lent) {y : Totals} (e : y ≡ counted (x .totals) (answerOf s (x .totals) l)) {r : HalfLine} (k : r ≡ noHalfLine) where
+  beats-are : x .totals .beats + 1 ≡ y .beats
+  beats-are = ap (λ (z : Totals). z .beats) (sym e)
 
-  text-is : beatText s (x .totals) l ≡ tallied s (x .totals) l at .text
-  text-is = ap (λ (z : Tally). z .text) (sym tally-is)
+  pub beat-last : y .beats ≡ maxBeats → beatOf (machineOf t s x) l ≡ record { machine = machineOf t s (record { phase = OVER; place = x .place; half = r; totals = y }); output = beatText s (x .totals) l ++ ended y }
+  unfolding beatOf
+  beat-last h = rw (e, k) (simp (beatOf, eq-eqb (x .totals .beats + 1) maxBeats (beats-are ∙ h)))
 
-  -- what is put behind it is in reach
-  pub end-near : {b exit : List ℕ} {q : ℕ} → IsPut b at (tallied s (x .totals) l at .text) exit q → q ≤ furthest
-  end-near p = let e = p .behind in let r = beat-room s (x .totals) l in let g = ap length text-is in omega arith
-
-  module _ {y : Totals} (e : y ≡ tallied s (x .totals) l at .totals) {r : HalfLine} (k : r ≡ noHalfLine) where
-    beats-are : x .totals .beats + 1 ≡ y .beats
-    beats-are = ap (λ (z : Tally). z .totals .beats) (sym tally-is) ∙ ap (λ (z : Totals). z .beats) (sym e)
-
-    pub beat-last : y .beats ≡ maxBeats → beatOf (machineOf t s x) l ≡ record { machine = machineOf t s (record { phase = OVER; place = x .place; half = r; totals = y }); output = tallied s (x .totals) l at .text ++ ended y }
-    unfolding beatOf
-    beat-last h = rw (e, tally-is, k) (simp (beatOf, eq-eqb (x .totals .beats + 1) maxBeats (beats-are ∙ h)))
-
-    pub beat-more : (y .beats ≡ maxBeats → ⊥) → beatOf (machineOf t s x) l ≡ record { machine = machineOf t s (record { phase = x .phase; place = x .place; half = r; totals = y }); output = tallied s (x .totals) l at .text }
-    unfolding beatOf
-    beat-more h = rw (e, tally-is, k) (simp (beatOf, ne-eqb (x .totals .beats + 1) maxBeats (λ g. h (sym beats-are ∙ g))))
-
--- E of a session that is fit
-pub error-put : (n : Totals) {b exit : List ℕ} (at : ℕ) {q : ℕ} → n .beats < maxBeats → at ≤ 4096 → IsPut b at (errorText n at) exit q → IsPut b at (errorLine (n .beats + 1)) exit q
-error-put n at h w p = reached at _ (rw (error-some n at h) at p) (omega arith)
+  pub beat-more : (y .beats ≡ maxBeats → ⊥) → beatOf (machineOf t s x) l ≡ record { machine = machineOf t s (record { phase = x .phase; place = x .place; half = r; totals = y }); output = beatText s (x .totals) l }
+  unfolding beatOf
+  beat-more h = rw (e, k) (simp (beatOf, ne-eqb (x .totals .beats + 1) maxBeats (λ g. h (sym beats-are ∙ g))))
 
 -- a beat line that was read
 module _ (t s : List ℕ) (x : Session) (r : HalfLine) where

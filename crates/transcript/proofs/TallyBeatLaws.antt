@@ -1,33 +1,37 @@
--- A beat as it is put, where the code's tests led.
-use mathlib.Core.Path.{_≡_, refl, sym, ap, _∙_}
-use mathlib.Core.Bool.{true, false}
+-- A beat as it is counted and put.
+use mathlib.Core.Path.{_≡_, sym, ap, _∙_}
 use mathlib.Core.List.{List, _++_}
-use Prim.Native.Nat.{ℕ, _+_}
+use Prim.Native.Nat.{ℕ, _+_, _≤_}
+use native.Mathlib.Omega.{arith}
 use lib.ListN.{replicate}
 use Rattle.engine.specs.declared.one_beat.Beaten.{Beaten}
 use Rattle.engine.specs.Beat.{bufferSize, beatAnswer, beatBuffer}
+use Rattle.engine.specs.Order.{maxOrders}
+use Rattle.values.specs.PutAt.{IsPut}
+use Rattle.values.specs.PutLaws.{put-both, put-as}
 use Rattle.transcript.specs.BeatLine.{Lent}
 use Rattle.transcript.specs.Output.{codeLine, orderLines}
-use Rattle.transcript.specs.Put.{IsPut}
-use Rattle.transcript.proofs.OutLaws.{put-both, put-nothing}
+use Rattle.transcript.specs.OutputLaws.{codeRoom, code-room}
 use Rattle.transcript.specs.declared.totals.Totals.{Totals}
-use Rattle.transcript.specs.Totals.{isTaken, countingFit}
-use Rattle.transcript.specs.TotalsLaws.{taken-parts, counting-so}
-use Rattle.transcript.proofs.TestLaws.{put-as}
-use Rattle.transcript.specs.Tally.{counted, answerOf, bufferOf, beatText, tallied}
-use Rattle.transcript.specs.TallyLaws.{taken-so, taken-not}
+use Rattle.transcript.specs.Totals.{counting}
+use Rattle.transcript.specs.Tally.{counted, answerOf, bufferOf, beatText}
+use Rattle.transcript.specs.SessionRoomLaws.{beat-orders}
+
+-- where C ends
+pub code-near : (beat code orders : ℕ) {s t : List ℕ} {at q : ℕ} → IsPut s at (codeLine beat code orders) t q → q ≤ at + codeRoom
+code-near beat code orders h = let r = code-room beat code orders in let e = h .behind in omega arith
 
 -- a beat b of a line that lends l
-module _ (s : List ℕ) (n : Totals) (l : Lent) (at : ℕ) {b : Beaten} (a : b ≡ beatAnswer s (n .state) (l .automatic) (l .word) (l .numbers) (replicate bufferSize 0)) where
+module _ (s : List ℕ) (n : Totals) (l : Lent) {b : Beaten} (a : b ≡ beatAnswer s (n .state) (l .automatic) (l .word) (l .numbers) (replicate bufferSize 0)) where
   answer-is : answerOf s n l ≡ b
   unfolding answerOf
   answer-is = sym a
 
-  taken-is : isTaken n (answerOf s n l .orders) at ≡ isTaken n (b .orders) at
-  taken-is = ap (λ (x : Beaten). isTaken n (x .orders) at) answer-is
+  pub few-orders : b .orders ≤ maxOrders
+  few-orders = rw answer-is at (beat-orders s n l)
 
-  pub beat-passed : isTaken n (b .orders) at ≡ false → {out : List ℕ} → (n ≡ tallied s n l at .totals) × IsPut out at (tallied s n l at .text) out at
-  beat-passed h = rw (taken-not s n l at (taken-is ∙ h)) (refl, put-nothing)
+  pub beat-counted : {y : Totals} → y ≡ counting n (b .code) (b .orders) (b .state) → y ≡ counted n (answerOf s n l)
+  beat-counted k = k ∙ ap (counted n) (sym answer-is)
 
   -- its orders in o
   module _ {o : List ℕ} (f : o ≡ beatBuffer s (n .state) (l .automatic) (l .word) (l .numbers) (replicate bufferSize 0)) where
@@ -35,8 +39,5 @@ module _ (s : List ℕ) (n : Totals) (l : Lent) (at : ℕ) {b : Beaten} (a : b �
     unfolding beatText answerOf bufferOf
     printed = rw (a, f)
 
-    pub beat-put : isTaken n (b .orders) at ≡ true → {y : Totals} → y ≡ countingFit n (b .code) (b .orders) (b .state) → {c d e : List ℕ} {p q : ℕ} →
-        IsPut c at (codeLine (n .beats + 1) (b .code) (b .orders)) d p → IsPut d p (orderLines (b .orders) o) e q → (y ≡ tallied s n l at .totals) × IsPut c at (tallied s n l at .text) e q
-    beat-put h k u v =
-        let f = taken-parts n (b .orders) at h in
-        rw (taken-so s n l at (taken-is ∙ h)) (k ∙ counting-so n (b .code) (b .orders) (b .state) (f .2) (f .0) ∙ ap (counted n) (sym answer-is), put-as printed (put-both u v))
+    pub beat-put : {at : ℕ} {c d e : List ℕ} {p q : ℕ} → IsPut c at (codeLine (n .beats + 1) (b .code) (b .orders)) d p → IsPut d p (orderLines (b .orders) o) e q → IsPut c at (beatText s n l) e q
+    beat-put u v = put-as printed (put-both u v)

@@ -12,22 +12,23 @@ use lib.Seq.{drop-drop}
 use Rattle.text.specs.Byte.{inLine, run}
 use Rattle.text.specs.ByteLaws.{run-within}
 use Rattle.reader.specs.declared.load_text.Loaded.{Loaded}
-use Rattle.text.specs.PutAt.{putAt}
+use Rattle.values.specs.PutAt.{putAt, IsPut}
+use Rattle.values.specs.PutLaws.{put-both, put-nothing}
 use Rattle.reader.specs.Load.{loadAnswer}
 use Rattle.transcript.specs.declared.session.Session.{Session}
 use Rattle.transcript.specs.declared.session.Ended.{Ended}
-use Rattle.transcript.specs.Output.{loadLine}
+use Rattle.transcript.specs.Output.{loadLine, outSize, lastStart, lineRoom}
 use Rattle.transcript.specs.HalfLine.{isUntouched}
 use Rattle.transcript.specs.Totals.{ended}
 use Rattle.transcript.specs.Machine.{TEXT, BEATS, Machine, Fed, Work, isFit, beatEnd, chunk, lineEnd, textOver, lastOver, finished, finishedText, workFrom, worked}
-use Rattle.transcript.specs.Put.{IsPut}
-use Rattle.transcript.specs.SessionAnswers.{IsFed, IsWork, machineOf}
+use Rattle.transcript.specs.SetText.{keptSize}
+use Rattle.transcript.specs.SessionAnswers.{IsFed, machineOf, stepAnswer}
 use Rattle.transcript.specs.SessionRoomLaws.{Fit, Lives, fit-parts, chunk-lives, line-lives}
-use Rattle.transcript.proofs.OutLaws.{put-both, put-nothing}
 
 -- what is left to say once it is known what a piece came to
-pub work-is : {w : Work} {t s o b exit : List ℕ} {y : Session} {k q : ℕ} → w ≡ record { machine = machineOf t s y; taken = k; output = o } → IsPut b 0 o exit q → IsWork w t s b (record { session = y; taken = k; written = q }) exit
-work-is e p = rw e (record { machine = refl; taken = refl; written = let b = p .behind in omega arith; output = p .put })
+pub work-is : {w : Work} {t s o b exit : List ℕ} {y : Session} {k q : ℕ} → w ≡ record { machine = machineOf t s y; taken = k; output = o } → IsPut b 0 o exit q →
+    (record { session = y; taken = k; written = q } ≡ stepAnswer w) × ((t ≡ w .machine .text) × ((s ≡ w .machine .lines) × (exit ≡ putAt b 0 (w .output))))
+work-is {o = o} {q = q} e p = let h : q ≡ length o = let f = p .behind in omega arith in rw (e, h) (refl, (refl, (refl, p .put)))
 
 module _ (m : Machine) (t : List ℕ) where
   pub unfit-work : isFit (m .session) ≡ false → worked m t ≡ record { machine = m; taken = length t; output = [] }
@@ -41,23 +42,23 @@ module _ (m : Machine) (t : List ℕ) where
 -- ---- with n lines left at most, k bytes taken, o printed
 
 module _ (m : Machine) (t : List ℕ) (k : ℕ) (o : List ℕ) where
-  pub work-full : (n : ℕ) → 4096 < length o → workFrom n m t k o ≡ record { machine = m; taken = k; output = o }
+  pub work-full : (n : ℕ) → lastStart < length o → workFrom n m t k o ≡ record { machine = m; taken = k; output = o }
   unfolding workFrom
   work-full zero h = refl
-  work-full (suc n) h = simp (workFrom, lt-leb (length o + 12288) 16384 (omega arith))
+  work-full (suc n) h = simp (workFrom, lt-leb (length o + lineRoom) outSize (omega arith))
 
-  module _ (h : length o ≤ 4096) where
+  module _ (h : length o ≤ lastStart) where
     work-last : (n : ℕ) → 0 < n → length t ≤ run inLine t → workFrom n m t k o ≡ record { machine = chunk m (take (run inLine t) t); taken = k + run inLine t; output = o }
     unfolding workFrom
     work-last zero p g = absurd (omega arith)
-    work-last (suc n) p g = simp (workFrom, le-leb (length o + 12288) 16384 (omega arith)) (simp (le-ltb (run inLine t) (length t) g))
+    work-last (suc n) p g = simp (workFrom, le-leb (length o + lineRoom) outSize (omega arith)) (simp (le-ltb (run inLine t) (length t) g))
 
     work-line : (n : ℕ) → 0 < n → run inLine t < length t → let f = lineEnd (chunk m (take (run inLine t) t)) in workFrom n m t k o ≡ workFrom (n - 1) (f .machine) (drop (run inLine t + 1) t) (k + (run inLine t + 1)) (o ++ f .output)
     unfolding workFrom
     work-line zero p g = absurd (omega arith)
     work-line (suc n) p g =
         let e : suc n - 1 ≡ n = omega arith in
-        simp (workFrom, le-leb (length o + 12288) 16384 (omega arith)) (simp (lt-ltb (run inLine t) (length t) g, e))
+        simp (workFrom, le-leb (length o + lineRoom) outSize (omega arith)) (simp (lt-ltb (run inLine t) (length t) g, e))
 
 -- the line at place i of the input ends at place e
 module _ (input : List ℕ) (i e : ℕ) (r : e ≡ i + run inLine (drop i input)) (w : i ≤ length input) where
@@ -70,7 +71,7 @@ module _ (input : List ℕ) (i e : ℕ) (r : e ≡ i + run inLine (drop i input)
   run-is : run inLine (drop i input) ≡ e - i
   run-is = omega arith
 
-  module _ (m : Machine) (n : ℕ) (o : List ℕ) (h : length o ≤ 4096) (p : length input < n + i) {c : Machine} (d : c ≡ chunk m (take (e - i) (drop i input))) where
+  module _ (m : Machine) (n : ℕ) (o : List ℕ) (h : length o ≤ lastStart) (p : length input < n + i) {c : Machine} (d : c ≡ chunk m (take (e - i) (drop i input))) where
     chunk-is : chunk m (take (run inLine (drop i input)) (drop i input)) ≡ c
     chunk-is = rw run-is (sym d)
 
@@ -109,11 +110,11 @@ module _ {input : List ℕ} {w : Work} {buffer : List ℕ} {m : Machine} {i : �
   size-is : at ≡ length (g .printed)
   size-is = let b = g .put .behind in omega arith
 
-  pub going-full : 4096 < at → w ≡ record { machine = m; taken = i; output = g .printed }
+  pub going-full : lastStart < at → w ≡ record { machine = m; taken = i; output = g .printed }
   going-full h = sym (g .comes) ∙ work-full m (drop i input) i (g .printed) (g .left) (omega (arith, size-is))
 
-  module _ (h : at ≤ 4096) {e : ℕ} (r : e ≡ i + run inLine (drop i input)) {c : Machine} (d : c ≡ chunk m (take (e - i) (drop i input))) where
-    short : length (g .printed) ≤ 4096
+  module _ (h : at ≤ lastStart) {e : ℕ} (r : e ≡ i + run inLine (drop i input)) {c : Machine} (d : c ≡ chunk m (take (e - i) (drop i input))) where
+    short : length (g .printed) ≤ lastStart
     short = omega (arith, size-is)
 
     pub going-lives : Lives (c .session)
@@ -166,10 +167,10 @@ module _ (m : Machine) (f : Fed) {x : Machine} (e : f .machine ≡ x) where
   last-else h = simp (lastOver, e, ne-eqb _ _ h)
 
 -- where a set text ends that has no LF at its end
-pub size-within : (x : Session) → Fit x → cond (eqb (x .place .star) 1) (x .place .start) (x .place .size) ≤ 4097
+pub size-within : (x : Session) → Fit x → cond (eqb (x .place .star) 1) (x .place .start) (x .place .size) ≤ keptSize
 size-within x f = go (eqb (x .place .star) 1)
   where
-    go : (b : Bool) → cond b (x .place .start) (x .place .size) ≤ 4097
+    go : (b : Bool) → cond b (x .place .start) (x .place .size) ≤ keptSize
     go true = let p = f .start in let q = f .size in omega arith
     go false = f .size
 

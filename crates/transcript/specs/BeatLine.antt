@@ -17,6 +17,10 @@ pub record Lent : Type 0 where
   pub word : ℕ
   pub numbers : List ℤ
 
+-- the numbers that a line may have
+abbrev pub mostNumbers : ℕ
+mostNumbers = 14
+
 -- the fields of a line: a space ends one and begins the next
 abbrev pub fields : List ℕ → List (List ℕ)
 fields l = split SPACE l
@@ -70,7 +74,7 @@ lentNumbers (f ∷ fs) = withNumber (lentNumber f) (lentNumbers fs)
 
 -- those left off are 0
 abbrev pub lentOf : Option Bool → Option ℕ → Option (List ℤ) → Option Lent
-lentOf (some a) (some w) (some vs) = some (record { automatic = a; word = w; numbers = take 14 (vs ++ replicate 14 (pos 0)) })
+lentOf (some a) (some w) (some vs) = some (record { automatic = a; word = w; numbers = take mostNumbers (vs ++ replicate mostNumbers (pos 0)) })
 lentOf (some a) (some w) none = none
 lentOf (some a) none vs = none
 lentOf none w vs = none
@@ -79,7 +83,7 @@ lentOf none w vs = none
 unfoldable pub fieldsLent : List (List ℕ) → Option Lent
 fieldsLent [] = none
 fieldsLent (m ∷ []) = none
-fieldsLent (m ∷ w ∷ fs) = elim (leb (length fs) 14) [ true ↦ lentOf (modeOf m) (wordOf w) (lentNumbers fs) | false ↦ none ]
+fieldsLent (m ∷ w ∷ fs) = elim (leb (length fs) mostNumbers) [ true ↦ lentOf (modeOf m) (wordOf w) (lentNumbers fs) | false ↦ none ]
 
 unfoldable pub lineLent : List ℕ → Option Lent
 lineLent l = fieldsLent (fields l)

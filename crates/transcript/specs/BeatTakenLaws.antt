@@ -9,7 +9,8 @@ use borrow.Author.Tests.{leb-true, ltb-true, ltb-false}
 use Rattle.values.specs.Choice.{either}
 use Rattle.text.specs.Byte.{inLine, run}
 use Rattle.text.specs.ByteLaws.{run-within}
-use Rattle.transcript.specs.Machine.{Machine, isFit, chunk, lineEnd, outSize, lineRoom, Work, workFrom, worked}
+use Rattle.transcript.specs.Machine.{Machine, isFit, chunk, lineEnd, Work, workFrom, worked}
+use Rattle.transcript.specs.Output.{outSize, lineRoom}
 use Rattle.transcript.specs.SessionRoomLaws.{line-room}
 
 -- what is printed of a piece has room where output is handed over in

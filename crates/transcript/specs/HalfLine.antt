@@ -8,11 +8,15 @@ use lib.IntN.{ℤ, pos}
 use lib.ListN.{set, replicate}
 use Rattle.text.specs.Byte.{CR, SPACE, isDigit}
 use Rattle.transcript.specs.declared.beat_line.HalfLine.{HalfLine}
-use Rattle.transcript.specs.BeatLine.{Lent, minus}
+use Rattle.transcript.specs.BeatLine.{Lent, mostNumbers, minus}
+
+-- fields are counted from 0: the mode, the input word, the numbers
+abbrev pub lastField : ℕ
+lastField = mostNumbers + 1
 
 -- before its first byte
 abbrev pub noHalfLine : HalfLine
-noHalfLine = record { field = 0; stage = 0; automatic = false; word = 0; negative = false; value = 0; numbers = replicate 14 (pos 0) }
+noHalfLine = record { field = 0; stage = 0; automatic = false; word = 0; negative = false; value = 0; numbers = replicate mostNumbers (pos 0) }
 
 abbrev pub withStage : HalfLine → ℕ → HalfLine
 withStage r s = record { field = r .field; stage = s; automatic = r .automatic; word = r .word; negative = r .negative; value = r .value; numbers = r .numbers }
@@ -56,7 +60,7 @@ closed r =
 -- a space behind it: the next field begins, if there may be one
 unfoldable pub spaceAfter : HalfLine → HalfLine
 spaceAfter r =
-    elim (eqb (r .stage) 2 && ltb (r .field) 15) [
+    elim (eqb (r .stage) 2 && ltb (r .field) lastField) [
       | true ↦ record { field = r .field + 1; stage = 0; automatic = r .automatic; word = r .word; negative = r .negative; value = r .value; numbers = r .numbers }
       | false ↦ illFormed r
     ]

@@ -1,23 +1,23 @@
--- A session of synrun as the code works it: line by line, whatever the pieces of its input. That this comes to what Run says is shown in the crate `sessions`. Definitions only.
+-- A session of synrun as the code works it: line by line, whatever the pieces of its input. That this comes to what Synrun says is shown in the crate `sessions`. Definitions only.
 use mathlib.Core.Bool.{Bool, true, false, _&&_, _||_}
 use mathlib.Core.List.{List, [], _∷_, _++_}
 use mathlib.Core.Option.{none, some}
-use Prim.Native.Nat.{ℕ, zero, suc, _+_, min}
+use Prim.Native.Nat.{ℕ, zero, suc, _+_}
 use lib.Dec.{eqb, leb, ltb}
 use lib.ListN.{length, set, take, drop}
-use Rattle.tokens.specs.Token.{textSize}
-use Rattle.text.specs.Byte.{LF, CR, inLine, run}
-use Rattle.text.specs.PutAt.{putAt}
+use Rattle.text.specs.Byte.{LF, inLine, run}
+use Rattle.values.specs.PutAt.{putAt}
 use Rattle.reader.specs.Load.{loadAnswer, loadSet}
-use Rattle.transcript.specs.declared.session.Place.{Place}
+use Rattle.transcript.specs.declared.set_text.Place.{Place}
 use Rattle.transcript.specs.declared.session.Session.{Session}
 use Rattle.transcript.specs.declared.beat_line.HalfLine.{HalfLine}
 use Rattle.transcript.specs.BeatLine.{Lent}
-use Rattle.transcript.specs.Output.{loadLine, errorLine}
+use Rattle.transcript.specs.Output.{loadLine, errorLine, outSize, lineRoom}
 use Rattle.transcript.specs.declared.totals.Totals.{Totals}
 use Rattle.transcript.specs.Totals.{maxBeats, noTotals, ended, areFit}
 use Rattle.transcript.specs.Tally.{counted, answerOf, beatText}
-use Rattle.transcript.specs.HalfLine.{noHalfLine, readOn, isUntouched, withoutCR, readLent}
+use Rattle.transcript.specs.SetText.{keptSize, noPlace, placeOn, placeEnd}
+use Rattle.transcript.specs.HalfLine.{lastField, noHalfLine, readOn, isUntouched, withoutCR, readLent}
 
 -- the phases: set text, beat lines, over
 abbrev pub TEXT : ℕ
@@ -28,10 +28,6 @@ BEATS = 1
 
 abbrev pub OVER : ℕ
 OVER = 2
-
--- the bytes of set text that are kept: one more than a text may have, so that a longer one is seen to be too long
-abbrev pub keptSize : ℕ
-keptSize = textSize + 1
 
 -- the kept text, the set, and what is kept beside them
 pub record Machine : Type 0 where
@@ -45,9 +41,6 @@ pub record Fed : Type 0 where
   pub output : List ℕ
 
 -- ---- a session
-
-abbrev pub noPlace : Place
-noPlace = record { size = 0; start = 0; star = 0 }
 
 abbrev pub begun : Session
 begun = record { phase = TEXT; place = noPlace; half = noHalfLine; totals = noTotals }
@@ -68,29 +61,9 @@ withTotals x n = record { phase = x .phase; place = x .place; half = noHalfLine;
 -- one that could have come from a beginning; any other is treated as over
 unfoldable pub isFit : Session → Bool
 isFit x =
-    leb (x .place .size) keptSize && (leb (x .place .start) (x .place .size) && (leb (x .half .field) 15 && areFit (x .totals)))
+    leb (x .place .size) keptSize && (leb (x .place .start) (x .place .size) && (leb (x .half .field) lastField && areFit (x .totals)))
 
 -- ---- set text
-
--- what a line is so far: 0 nothing, 1 *, 2 * and CR, 3 anything else
-unfoldable pub starAfter : ℕ → ℕ → ℕ
-starAfter s b =
-    elim (eqb s 0 && eqb b 42) [
-      | true ↦ 1
-      | false ↦ elim (eqb s 1 && eqb b CR) [ true ↦ 2 | false ↦ 3 ]
-    ]
-
-unfoldable pub starOn : ℕ → List ℕ → ℕ
-starOn s [] = s
-starOn s (b ∷ bs) = starOn (starAfter s b) bs
-
--- bytes of a line of set text
-unfoldable pub placeOn : Place → List ℕ → Place
-placeOn p l = record { size = min keptSize (p .size + length l); start = p .start; star = starOn (p .star) l }
-
--- its LF
-unfoldable pub placeEnd : Place → Place
-placeEnd p = record { size = min keptSize (p .size + 1); start = min keptSize (p .size + 1); star = 0 }
 
 -- the set text t is whole: it is loaded
 unfoldable pub opened : Machine → List ℕ → Fed
@@ -182,13 +155,6 @@ unfoldable pub finishedText : Machine → List ℕ
 finishedText m = elim (isFit (m .session)) [ true ↦ finished m | false ↦ [] ]
 
 -- ---- a piece of input
-
--- the bytes that output is handed over in, and those that one line of input may print
-abbrev pub outSize : ℕ
-outSize = 16384
-
-abbrev pub lineRoom : ℕ
-lineRoom = 12288
 
 -- what a piece of input came to: the machine, how much of the piece was taken, and what was printed
 pub record Work : Type 0 where

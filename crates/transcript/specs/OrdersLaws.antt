@@ -7,17 +7,18 @@ use lib.Dec.{eqb, ltb}
 use lib.IntN.{ℤ}
 use lib.ListN.{length, getD, length-append}
 use Rattle.values.specs.Choice.{either}
+use Rattle.engine.specs.Order.{maxOrders}
 use Rattle.engine.specs.OrderLaws.{eight-bytes}
 use Rattle.engine.specs.declared.order.Order.{Order}
 use Rattle.tokens.specs.Token.{END, M, SETAL, LOCK, isVariable, isDrive, whole, maxLines}
 use Rattle.tokens.specs.Descent.{Answer, good, stop, indexAt}
 use Rattle.working.specs.Operators.{isYes}
 use Rattle.working.specs.Working.{rightValue, conditionValue}
-use Rattle.checking.specs.declared.check.Line.{Line}
+use Rattle.checking.specs.declared.line.Line.{Line}
 use Rattle.engine.specs.declared.state.State.{State}
 use Rattle.engine.specs.Set.{rankIn, noLine, soundLines}
-use Rattle.soundness.specs.GoodAnswers.{Ok, bind-ok, ok-then}
-use Rattle.soundness.specs.SetSoundLaws.{lines-lined}
+use Rattle.tokens.specs.AnswerLaws.{Ok, bind-ok, ok-then}
+use Rattle.engine.specs.SetLinesLaws.{lines-lined}
 use Rattle.engine.specs.Sound.{isSound}
 use Rattle.engine.specs.Action.{World, Did, ordered, fromValueOrAlarm, lockOf, takenAt, assignmentOf, driveOf, commandOf, actionOf}
 use Rattle.engine.specs.Actions.{actionsOf}
@@ -139,10 +140,10 @@ bytes-within s st automatic word lent size =
     (λ h. tt))
     (λ e. tt)
 
-answered-within : (st : State) (a : Answer Turned) → Ok (λ (t : Turned). length (t .world .orders) ≤ 2048) a → answered st a .orders ≤ 256
+answered-within : (st : State) (a : Answer Turned) → Ok (λ (t : Turned). length (t .world .orders) ≤ 2048) a → answered st a .orders ≤ maxOrders
 answered-within st (good t) h = omega arith
 answered-within st (stop k) h = omega arith
 
-pub orders-within : (s : List ℕ) (st : State) (automatic : Bool) (word : ℕ) (lent : List ℤ) (b : List ℕ) → beatAnswer s st automatic word lent b .orders ≤ 256
+pub orders-within : (s : List ℕ) (st : State) (automatic : Bool) (word : ℕ) (lent : List ℤ) (b : List ℕ) → beatAnswer s st automatic word lent b .orders ≤ maxOrders
 unfolding beatAnswer
 orders-within s st automatic word lent b = answered-within st (beatOf s st automatic word lent (length b)) (bytes-within s st automatic word lent (length b))

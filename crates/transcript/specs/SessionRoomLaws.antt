@@ -4,26 +4,29 @@ use mathlib.Core.Bool.{true, false, _&&_, _||_}
 use mathlib.Core.List.{List, [], _∷_}
 use mathlib.Core.Logic.{_⊎_, inl, inr}
 use mathlib.Core.Option.{Option, none, some}
-use Prim.Native.Nat.{ℕ, zero, suc, _+_, _*_, _-_, _/_, _≤_}
+use Prim.Native.Nat.{ℕ, zero, suc, _+_, _≤_}
 use native.Mathlib.Omega.{arith}
 use lib.Dec.{eqb, leb, ltb}
-use lib.ListN.{length, take, drop, getD, replicate, length-append}
+use lib.ListN.{length, take, replicate, length-append}
 use borrow.Author.Tests.{leb-true, le-leb, ltb-true, eqb-true, eqb-false}
 use Rattle.values.specs.Choice.{either, both, and-true}
 use Rattle.text.specs.Byte.{CR, SPACE, isDigit}
 use Rattle.engine.specs.Beat.{bufferSize}
+use Rattle.engine.specs.Order.{maxOrders}
 use Rattle.reader.specs.Load.{loadAnswer}
-use Rattle.transcript.specs.declared.session.Place.{Place}
+use Rattle.transcript.specs.declared.set_text.Place.{Place}
 use Rattle.transcript.specs.declared.session.Session.{Session}
 use Rattle.transcript.specs.declared.beat_line.HalfLine.{HalfLine}
 use Rattle.transcript.specs.BeatLine.{Lent}
-use Rattle.transcript.specs.Output.{digitsUp, decimal, signedText, fourOf, loadLine, errorLine, codeLine, orderLine, orderLines, endLine}
+use Rattle.transcript.specs.Output.{lineRoom}
+use Rattle.transcript.specs.OutputLaws.{load-room, error-room, code-room, orders-room, end-room, beatRoom, endRoom}
 use Rattle.transcript.specs.declared.totals.Totals.{Totals}
 use Rattle.transcript.specs.Totals.{maxBeats, areFit}
 use Rattle.transcript.specs.TotalsLaws.{FitTotals, fit-totals, totals-fit, counting-fit}
 use Rattle.transcript.specs.Tally.{counted, answerOf, bufferOf, beatText}
-use Rattle.transcript.specs.HalfLine.{withField, closed, spaceAfter, modeByte, minusByte, digitByte, fieldByte, readByte, readOn, greatest, readLent, withoutCR, isUntouched}
-use Rattle.transcript.specs.Machine.{TEXT, BEATS, OVER, keptSize, Machine, Fed, isFit, placeOn, placeEnd, opened, textEnd, beatOf, beatEnd, chunk, lineEnd, textOver, lastOver, finished, finishedText, lineRoom}
+use Rattle.transcript.specs.HalfLine.{lastField, withField, closed, spaceAfter, modeByte, minusByte, digitByte, fieldByte, readByte, readOn, greatest, readLent, withoutCR, isUntouched}
+use Rattle.transcript.specs.Machine.{TEXT, BEATS, OVER, Machine, Fed, isFit, opened, textEnd, beatOf, beatEnd, chunk, lineEnd, textOver, lastOver, finished, finishedText}
+use Rattle.transcript.specs.SetText.{keptSize, placeOn, placeEnd}
 use Rattle.transcript.specs.OrdersLaws.{orders-within}
 
 -- ---- cases
@@ -44,76 +47,12 @@ byLent P (some a) f g = g a refl
 abbrev Short : ℕ → List ℕ → Type 0
 Short n bs = length bs ≤ n
 
-digits-room : (k n : ℕ) → Short k (digitsUp k n)
-unfolding digitsUp
-digits-room zero n = omega arith
-digits-room (suc k) n =
-    either (Short (suc k)) (ltb n 10) (λ e. omega arith) λ e.
-    let h = digits-room k (n / 10) in
-    simp length-append (omega arith)
-
-pub decimal-room : (n : ℕ) → length (decimal n) ≤ 10
-decimal-room n = digits-room 10 n
-
-pub signed-room : (n : ℕ) → length (signedText n) ≤ 11
-unfolding signedText
-signed-room n =
-    let a = decimal-room n in
-    let b = decimal-room (4294967296 - n) in
-    either (Short 11) (ltb n 2147483648) (λ e. omega arith) (λ e. omega arith)
-
-pub load-room : (code line : ℕ) → length (loadLine code line) ≤ 24
-unfolding loadLine
-load-room code line =
-    let a = decimal-room code in
-    let b = decimal-room line in
-    simp length-append (omega arith)
-
-pub error-room : (k : ℕ) → length (errorLine k) ≤ 13
-unfolding errorLine
-error-room k =
-    let a = decimal-room k in
-    simp length-append (omega arith)
-
-pub code-room : (beat code orders : ℕ) → length (codeLine beat code orders) ≤ 35
-unfolding codeLine
-code-room beat code orders =
-    let a = decimal-room beat in
-    let b = decimal-room code in
-    let c = decimal-room orders in
-    simp length-append (omega arith)
-
-pub end-room : (beats coded orders : ℕ) → length (endLine beats coded orders) ≤ 37
-unfolding endLine
-end-room beats coded orders =
-    let a = decimal-room beats in
-    let b = decimal-room coded in
-    let c = decimal-room orders in
-    simp length-append (omega arith)
-
-pub order-room : (o : List ℕ) → length (orderLine o) ≤ 47
-unfolding orderLine
-order-room o =
-    let a = decimal-room (getD o 1 0) in
-    let b = decimal-room (getD o 0 0) in
-    let c = decimal-room (getD o 2 0) in
-    let d = signed-room (fourOf (drop 4 o)) in
-    simp length-append (omega arith)
-
-pub orders-room : (n : ℕ) (b : List ℕ) → length (orderLines n b) ≤ 47 * n
-unfolding orderLines
-orders-room zero b = omega arith
-orders-room (suc n) b =
-    let a = order-room b in
-    let c = orders-room n (drop 8 b) in
-    simp length-append (omega arith)
-
 -- a beat has at most 256 orders
-pub beat-orders : (s : List ℕ) (n : Totals) (l : Lent) → answerOf s n l .orders ≤ 256
+pub beat-orders : (s : List ℕ) (n : Totals) (l : Lent) → answerOf s n l .orders ≤ maxOrders
 unfolding answerOf
 beat-orders s n l = orders-within s (n .state) (l .automatic) (l .word) (l .numbers) (replicate bufferSize 0)
 
-pub beat-room : (s : List ℕ) (n : Totals) (l : Lent) → length (beatText s n l) ≤ 12067
+pub beat-room : (s : List ℕ) (n : Totals) (l : Lent) → length (beatText s n l) ≤ beatRoom
 unfolding beatText
 beat-room s n l =
     let a = code-room (n .beats + 1) (answerOf s n l .code) (answerOf s n l .orders) in
@@ -121,21 +60,28 @@ beat-room s n l =
     let c = beat-orders s n l in
     simp length-append (omega arith)
 
+-- with END behind it, and with END at the end of input
+abbrev pub lineMost : ℕ
+lineMost = beatRoom + endRoom
+
+abbrev pub lastMost : ℕ
+lastMost = lineMost + endRoom
+
 -- what is printed with it
 abbrev Prints : ℕ → Fed → Type 0
 Prints n f = length (f .output) ≤ n
 
-beatOf-room : (m : Machine) (l : Lent) → Prints 12104 (beatOf m l)
+beatOf-room : (m : Machine) (l : Lent) → Prints lineMost (beatOf m l)
 unfolding beatOf
 beatOf-room m l =
     let n = counted (m .session .totals) (answerOf (m .lines) (m .session .totals) l) in
     let a = beat-room (m .lines) (m .session .totals) l in
     let b = end-room (n .beats) (n .coded) (n .orders) in
-    either (Prints 12104) (eqb (n .beats) maxBeats) (λ e. simp length-append (omega arith)) (λ e. omega arith)
+    either (Prints lineMost) (eqb (n .beats) maxBeats) (λ e. simp length-append (omega arith)) (λ e. omega arith)
 
-pub beat-end-room : (m : Machine) (r : HalfLine) → length (beatEnd m r .output) ≤ 12104
+pub beat-end-room : (m : Machine) (r : HalfLine) → length (beatEnd m r .output) ≤ lineMost
 unfolding beatEnd
-beat-end-room m r = byLent (Prints 12104) (readLent r) (λ e. let a = error-room (m .session .totals .beats + 1) in omega arith) (λ l e. beatOf-room m l)
+beat-end-room m r = byLent (Prints lineMost) (readLent r) (λ e. let a = error-room (m .session .totals .beats + 1) in omega arith) (λ l e. beatOf-room m l)
 
 opened-room : (m : Machine) (t : List ℕ) → Prints 24 (opened m t)
 unfolding opened
@@ -157,18 +103,18 @@ line-room m =
     either (Prints lineRoom) (eqb (m .session .phase) BEATS) (λ g. omega arith) (λ g. omega arith)
 
 -- and so does the end of input
-over-room : (m : Machine) (t : List ℕ) → Short 37 (textOver m t)
+over-room : (m : Machine) (t : List ℕ) → Short endRoom (textOver m t)
 unfolding textOver
 over-room m t =
-    byCode (Short 37) (loadAnswer t .code) (λ e. let n = m .session .totals in end-room (n .beats) (n .coded) (n .orders)) (λ c e. let a = load-room (suc c) (loadAnswer t .line) in omega arith)
+    byCode (Short endRoom) (loadAnswer t .code) (λ e. let n = m .session .totals in end-room (n .beats) (n .coded) (n .orders)) (λ c e. let a = load-room (suc c) (loadAnswer t .line) in omega arith)
 
-last-room : (m : Machine) (f : Fed) → Prints 12104 f → Short 12141 (lastOver m f)
+last-room : (m : Machine) (f : Fed) → Prints lineMost f → Short lastMost (lastOver m f)
 unfolding lastOver
 last-room m f h =
     let x = f .machine .session in
     let n = x .totals in
     let a = end-room (n .beats) (n .coded) (n .orders) in
-    either (Short 12141) (eqb (x .phase) BEATS) (λ e. simp length-append (omega arith)) (λ e. omega arith)
+    either (Short lastMost) (eqb (x .phase) BEATS) (λ e. simp length-append (omega arith)) (λ e. omega arith)
 
 pub finished-room : (m : Machine) → length (finished m) ≤ lineRoom
 unfolding finished
@@ -191,7 +137,7 @@ finished-text-room m = either (Short lineRoom) (isFit (m .session)) (λ e. finis
 pub record Fit (x : Session) : Type 0 where
   pub size : x .place .size ≤ keptSize
   pub start : x .place .start ≤ x .place .size
-  pub field : x .half .field ≤ 15
+  pub field : x .half .field ≤ lastField
   pub totals : FitTotals (x .totals)
 
 -- each of the tests
@@ -199,7 +145,7 @@ pub fit-parts : (x : Session) → isFit x ≡ true → Fit x
 unfolding isFit
 fit-parts x h =
     let n = areFit (x .totals) in
-    let f = leb (x .half .field) 15 in
+    let f = leb (x .half .field) lastField in
     let s = leb (x .place .start) (x .place .size) in
     let p = leb (x .place .size) keptSize in
     let h₁ = both p (s && (f && n)) h .1 in
@@ -218,7 +164,7 @@ fit-whole x f = and-true (le-leb _ _ (f .size)) (and-true (le-leb _ _ (f .start)
 -- ---- a line's fields: a space begins the next only below the fifteenth
 
 abbrev Narrow : HalfLine → Type 0
-Narrow r = r .field ≤ 15
+Narrow r = r .field ≤ lastField
 
 pub closed-field : (r : HalfLine) → closed r .field ≡ r .field
 unfolding closed withField
@@ -232,8 +178,8 @@ closed-field r =
 space-narrow : (r : HalfLine) → Narrow r → Narrow (spaceAfter r)
 unfolding spaceAfter
 space-narrow r n =
-    either Narrow (eqb (r .stage) 2 && ltb (r .field) 15)
-    (λ e. let h = ltb-true (r .field) 15 (both (eqb (r .stage) 2) (ltb (r .field) 15) e .1) in omega arith)
+    either Narrow (eqb (r .stage) 2 && ltb (r .field) lastField)
+    (λ e. let h = ltb-true (r .field) lastField (both (eqb (r .stage) 2) (ltb (r .field) lastField) e .1) in omega arith)
     (λ e. n)
 
 field-narrow : (r : HalfLine) (b : ℕ) → Narrow r → Narrow (fieldByte r b)
@@ -243,14 +189,14 @@ field-narrow r b n =
     either Narrow (isDigit b) (λ g. n) λ g.
     either Narrow (eqb b 45) (λ h. either Narrow (eqb (r .stage) 0 && leb 2 (r .field)) (λ k. n) (λ k. n)) (λ h. n)
 
-pub byte-narrow : (r : HalfLine) (b : ℕ) → r .field ≤ 15 → readByte r b .field ≤ 15
+pub byte-narrow : (r : HalfLine) (b : ℕ) → r .field ≤ lastField → readByte r b .field ≤ lastField
 unfolding readByte
 byte-narrow r b n =
     either Narrow (leb 3 (r .stage)) (λ e. n) λ e.
     either Narrow (eqb b SPACE) (λ g. space-narrow (closed r) (rw closed-field n)) λ g.
     either Narrow (eqb b CR) (λ h. either Narrow (eqb (r .stage) 2) (λ k. n) (λ k. n)) (λ h. field-narrow r b n)
 
-pub read-narrow : (r : HalfLine) (l : List ℕ) → r .field ≤ 15 → readOn r l .field ≤ 15
+pub read-narrow : (r : HalfLine) (l : List ℕ) → r .field ≤ lastField → readOn r l .field ≤ lastField
 unfolding readOn
 read-narrow r [] n = n
 read-narrow r (b ∷ bs) n = read-narrow (readByte r b) bs (byte-narrow r b n)

@@ -1,6 +1,5 @@
--- A beat of a session, counted, and what is printed of it (document 01, "On both sides of each edge"); with totals or at a place that no session has, nothing is counted or put. Definitions only.
-use mathlib.Core.Bool.{true, false}
-use mathlib.Core.List.{List, [], _++_}
+-- A beat of a session, counted, and what is printed of it (document 01, "On both sides of each edge"). Definitions only.
+use mathlib.Core.List.{List, _++_}
 use Prim.Native.Nat.{ℕ, _+_}
 use lib.ListN.{replicate}
 use Rattle.transcript.specs.BeatLine.{Lent}
@@ -8,7 +7,7 @@ use Rattle.engine.specs.declared.one_beat.Beaten.{Beaten}
 use Rattle.engine.specs.Beat.{bufferSize, beatAnswer, beatBuffer}
 use Rattle.transcript.specs.Output.{codeLine, orderLines}
 use Rattle.transcript.specs.declared.totals.Totals.{Totals}
-use Rattle.transcript.specs.Totals.{counting, isTaken}
+use Rattle.transcript.specs.Totals.{counting}
 
 -- the totals with what a beat answers
 abbrev pub counted : Totals → Beaten → Totals
@@ -24,15 +23,3 @@ bufferOf s n l = beatBuffer s (n .state) (l .automatic) (l .word) (l .numbers) (
 -- what is printed of a beat: C, then an O per order
 unfoldable pub beatText : List ℕ → Totals → Lent → List ℕ
 beatText s n l = codeLine (n .beats + 1) (answerOf s n l .code) (answerOf s n l .orders) ++ orderLines (answerOf s n l .orders) (bufferOf s n l)
-
--- what comes of a beat: the totals, and what is put
-pub record Tally : Type 0 where
-  pub totals : Totals
-  pub text : List ℕ
-
-unfoldable pub tallied : List ℕ → Totals → Lent → ℕ → Tally
-tallied s n l at =
-    elim (isTaken n (answerOf s n l .orders) at) [
-      | true ↦ record { totals = counted n (answerOf s n l); text = beatText s n l }
-      | false ↦ record { totals = n; text = [] }
-    ]

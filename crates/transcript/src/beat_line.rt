@@ -21,7 +21,7 @@ const M: u8 = 77;
 const MINUS: u8 = 45;
 
 // The last field, and the greatest input word and numbers.
-const LAST: u8 = 15;
+pub const LAST_FIELD: u8 = NUMBERS as u8 + 1;
 
 const WORD_TOP: u64 = 65535;
 
@@ -179,7 +179,7 @@ fn space_after(r: HalfLine) -> HalfLine
         return ill_formed(r);
     }
     let field = r.field;
-    if LAST <= field {
+    if LAST_FIELD <= field {
         return ill_formed(r);
     }
     let mut x = r;

@@ -2,14 +2,12 @@
 //
 // No public call asks anything of its caller.
 mod beat_line;
-mod buffer;
 mod printing;
 mod session;
+mod set_text;
 mod tally;
 mod totals;
 
-pub use session::Ended;
-pub use session::KEPT;
 pub use session::OUT;
 pub use session::Session;
 pub use session::Stepped;
@@ -17,3 +15,4 @@ pub use session::begin;
 pub use session::finish;
 pub use session::is_over;
 pub use session::step;
+pub use set_text::KEPT;

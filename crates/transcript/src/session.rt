@@ -1,26 +1,30 @@
 // A session of synrun: what it keeps between two pieces of its input, and how it works them line by line.
 ghost use mathlib.Core.Path.{_≡_};
-ghost use mathlib.Core.Bool.{cond, _||_};
 ghost use mathlib.Core.List.{List};
-ghost use Prim.Native.Nat.{ℕ, _+_, _≤_, min};
+ghost use Prim.Native.Nat.{ℕ, _≤_};
 ghost use lib.Dec.{eqb};
 ghost use lib.ListN.{length};
-ghost use Rattle.text.specs.PutAt.{putAt};
-ghost use Rattle.transcript.specs.Machine.{OVER, begun, isFit, starAfter, starOn, placeOn, placeEnd, opened, textEnd, beatOf, beatEnd, chunk, lineEnd, textOver, lastOver, finishedText, worked, keptSize};
-ghost use Rattle.transcript.specs.Put.{IsPut};
-ghost use Rattle.transcript.specs.SessionAnswers.{IsFed, IsWork, machineOf};
+ghost use Rattle.values.specs.PutAt.{putAt, IsPut};
+ghost use Rattle.transcript.specs.Machine.{OVER, begun, isFit, opened, textEnd, beatOf, beatEnd, chunk, lineEnd, textOver, lastOver, finishedText, worked};
+ghost use Rattle.transcript.specs.Output.{lastStart};
+ghost use Rattle.transcript.specs.SessionAnswers.{IsFed, machineOf, stepAnswer};
 ghost use Rattle.transcript.specs.MaybeLent.{lentIn};
 ghost use Rattle.transcript.specs.SessionRoomLaws.{Fit, Lives};
 use crate::beat_line::HalfLine;
+use crate::beat_line::LAST_FIELD;
 use crate::beat_line::MaybeLent;
 use crate::beat_line::is_untouched;
 use crate::beat_line::no_half_line;
 use crate::beat_line::read_bytes;
 use crate::beat_line::read_lent;
 use crate::beat_line::without_cr;
-use crate::buffer::put;
-use crate::buffer::put_bytes;
 use crate::printing::load_line;
+use crate::set_text::KEPT;
+use crate::set_text::Place;
+use crate::set_text::is_star;
+use crate::set_text::place_end;
+use crate::set_text::place_on;
+use crate::set_text::text_size;
 use crate::tally::tally_beat;
 use crate::totals::MAX_BEATS;
 use crate::totals::Totals;
@@ -29,24 +33,18 @@ use crate::totals::no_totals;
 use crate::totals::put_end;
 use crate::totals::put_error;
 use reader::load;
-use text::bytes::CR;
+use text::buffer::put;
+use text::buffer::put_bytes;
 use text::bytes::Kind;
 use text::bytes::LF;
 use text::bytes::run_end;
 use tokens::token::SIZE;
-use tokens::token::TEXT_SIZE;
 
-// The bytes of set text that are kept: one more than a text may have, so that a longer one is seen to be too long.
-pub const KEPT: usize = TEXT_SIZE + 1;
 // The bytes that output is handed over in.
 pub const OUT: usize = 16384;
 
-// The last place where a line's output may begin: one line prints at most 12288 bytes.
+// The last place where a line's output may begin, so that there is room for what one line prints.
 const LAST_START: usize = 4096;
-
-const LAST_FIELD: u8 = 15;
-
-const STAR: u8 = 42;
 
 // The phases: set text, beat lines, over.
 const TEXT: u8 = 0;
@@ -54,13 +52,6 @@ const TEXT: u8 = 0;
 const BEATS: u8 = 1;
 
 const OVER: u8 = 2;
-
-// Where the set text stands: how many bytes of it are kept, where its last line begins, and what that line is so far (0 nothing, 1 `*`, 2 `*` and CR, 3 anything else).
-pub struct Place {
-    pub size: usize,
-    pub start: usize,
-    pub star: u8,
-}
 
 pub struct Session {
     pub phase: u8,
@@ -124,84 +115,6 @@ fn is_fit(session: Session) -> bool
     are_fit(totals)
 }
 
-// ---- set text
-
-// What a line is with one more byte.
-fn star_after(star: u8, b: u8) -> u8
-    ensures { λ x. ⌜ x ≡ starAfter star b ⌝ }
-{
-    if star == 0 {
-        if b == STAR {
-            return 1;
-        }
-        return 3;
-    }
-    if star != 1 {
-        return 3;
-    }
-    if b == CR { 2 } else { 3 }
-}
-
-fn star_on(part: &[u8], star: u8) -> u8
-    ensures { λ x. ⌜ x ≡ starOn star (now (part .entry)) ⌝ }
-{
-    let mut s = star;
-    let mut i: usize = 0;
-    while i < part.len() {
-        s = star_after(s, part[i]);
-        i += 1;
-    }
-    s
-}
-
-// Whether a line is *, with or without a CR behind it.
-fn is_star(star: u8) -> bool
-    ensures { λ x. ⌜ x ≡ eqb star 1 || eqb star 2 ⌝ }
-{
-    if star == 1 {
-        return true;
-    }
-    star == 2
-}
-
-// The bytes kept with n more.
-fn size_with(size: usize, n: usize) -> usize
-    requires { ⌜ size ≤ keptSize ⌝ }
-    ensures { λ x. ⌜ x ≡ min keptSize (size + n) ⌝ }
-{
-    if KEPT - size <= n {
-        return KEPT;
-    }
-    size + n
-}
-
-// Bytes of a line, no LF among them, in set text.
-fn place_on(place: Place, part: &[u8]) -> Place
-    requires { ⌜ place .size ≤ keptSize ⌝ }
-    ensures { λ x. ⌜ x ≡ placeOn place (now (part .entry)) ⌝ }
-{
-    let size = size_with(place.size, part.len());
-    let star = star_on(part, place.star);
-    Place {
-        size: size,
-        start: place.start,
-        star: star,
-    }
-}
-
-// The LF of a line of set text.
-fn place_end(place: Place) -> Place
-    requires { ⌜ place .size ≤ keptSize ⌝ }
-    ensures { λ x. ⌜ x ≡ placeEnd place ⌝ }
-{
-    let size = size_with(place.size, 1);
-    Place {
-        size: size,
-        start: size,
-        star: 0,
-    }
-}
-
 // ---- beats
 
 // A beat line that lends something: C, an O per order, and END behind the last beat.
@@ -212,7 +125,7 @@ fn work_beat(
     out: &mut [u8],
     at: usize,
 ) -> Ended
-    requires { ⌜ Fit session × (at ≤ 4096) ⌝ }
+    requires { ⌜ Fit session × (at ≤ lastStart) ⌝ }
     ensures { λ x. ⌜ ((t : List ℕ) → IsFed (beatOf (machineOf t (now (set .entry)) session) (lentIn lent)) t (now (set .entry)) (now (out .entry)) at x (now (out .exit))) ⌝ }
 {
     let totals = session.totals;
@@ -237,7 +150,7 @@ fn work_beat(
 
 // A beat line that was read: E if it is ill-formed.
 fn beat_end(session: Session, set: &[u32; SIZE], half: HalfLine, out: &mut [u8], at: usize) -> Ended
-    requires { ⌜ Fit session × (at ≤ 4096) ⌝ }
+    requires { ⌜ Fit session × (at ≤ lastStart) ⌝ }
     ensures { λ x. ⌜ ((t : List ℕ) → IsFed (beatEnd (machineOf t (now (set .entry)) session) half) t (now (set .entry)) (now (out .entry)) at x (now (out .exit))) ⌝ }
 {
     let lent = read_lent(half);
@@ -280,7 +193,7 @@ fn take_bytes(session: Session, text: &mut [u8; KEPT], part: &[u8]) -> Session
 
 // The set text is whole: it is loaded.
 fn open_set(session: Session, t: &[u8], set: &mut [u32; SIZE], out: &mut [u8], at: usize) -> Ended
-    requires { ⌜ at ≤ 4096 ⌝ }
+    requires { ⌜ at ≤ lastStart ⌝ }
     ensures { λ x. ⌜ ((m : List ℕ) → IsFed (opened (machineOf m (now (set .entry)) session) (now (t .entry))) m (now (set .exit)) (now (out .entry)) at x (now (out .exit))) ⌝ }
 {
     let l = load(t, set);
@@ -310,7 +223,7 @@ fn text_end(
     out: &mut [u8],
     at: usize,
 ) -> Ended
-    requires { ⌜ Fit session × (at ≤ 4096) ⌝ }
+    requires { ⌜ Fit session × (at ≤ lastStart) ⌝ }
     ensures { λ x. ⌜ IsFed (textEnd (machineOf (now (text .entry)) (now (set .entry)) session)) (now (text .exit)) (now (set .exit)) (now (out .entry)) at x (now (out .exit)) ⌝ }
 {
     let place = session.place;
@@ -336,7 +249,7 @@ fn line_end(
     out: &mut [u8],
     at: usize,
 ) -> Ended
-    requires { ⌜ Lives session × (at ≤ 4096) ⌝ }
+    requires { ⌜ Lives session × (at ≤ lastStart) ⌝ }
     ensures { λ x. ⌜ IsFed (lineEnd (machineOf (now (text .entry)) (now (set .entry)) session)) (now (text .exit)) (now (set .exit)) (now (out .entry)) at x (now (out .exit)) ⌝ }
 {
     let phase = session.phase;
@@ -363,7 +276,10 @@ pub fn step(
     input: &[u8],
     out: &mut [u8; OUT],
 ) -> Stepped
-    ensures { λ x. ⌜ IsWork (worked (machineOf (now (text .entry)) (now (set .entry)) session) (now (input .entry))) (now (text .exit)) (now (set .exit)) (now (out .entry)) x (now (out .exit)) ⌝ }
+    ensures { λ x. ⌜ x ≡ stepAnswer (worked (machineOf (now (text .entry)) (now (set .entry)) session) (now (input .entry))) ⌝ }
+    ensures { λ x. ⌜ now (text .exit) ≡ worked (machineOf (now (text .entry)) (now (set .entry)) session) (now (input .entry)) .machine .text ⌝ }
+    ensures { λ x. ⌜ now (set .exit) ≡ worked (machineOf (now (text .entry)) (now (set .entry)) session) (now (input .entry)) .machine .lines ⌝ }
+    ensures { λ x. ⌜ now (out .exit) ≡ putAt (now (out .entry)) 0 (worked (machineOf (now (text .entry)) (now (set .entry)) session) (now (input .entry)) .output) ⌝ }
 {
     let mut s = session;
     let mut i: usize = 0;
@@ -396,14 +312,6 @@ pub fn step(
         taken: i,
         written: at,
     }
-}
-
-// Where the set text ends if its last line has no LF: before the line *, or behind all of it.
-fn text_size(place: Place) -> usize
-    ensures { λ x. ⌜ x ≡ cond (eqb (place .star) 1) (place .start) (place .size) ⌝ }
-{
-    let star = place.star;
-    if star == 1 { place.start } else { place.size }
 }
 
 // All input is set text: L, or END of no beat.

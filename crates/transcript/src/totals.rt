@@ -1,8 +1,11 @@
 // What a session has come to so far, a beat that is counted, and the lines that are printed of it: END and E.
 ghost use mathlib.Core.Path.{_≡_};
-ghost use Prim.Native.Nat.{_≤_};
-ghost use Rattle.transcript.specs.Put.{IsPut, inReach};
-ghost use Rattle.transcript.specs.Totals.{noTotals, ended, oneIf, areFit, isTaken, countingFit, errorText};
+ghost use Prim.Native.Nat.{_+_, _≤_, _<_};
+ghost use Rattle.engine.specs.Order.{maxOrders};
+ghost use Rattle.values.specs.PutAt.{IsPut};
+ghost use Rattle.transcript.specs.Output.{errorLine, outSize};
+ghost use Rattle.transcript.specs.Totals.{noTotals, ended, oneIf, areFit, counting, maxBeats};
+ghost use Rattle.transcript.specs.TotalsLaws.{FitTotals};
 use crate::printing::end_line;
 use crate::printing::error_line;
 use engine::State;
@@ -11,9 +14,6 @@ use engine::power_on;
 pub const MAX_BEATS: u32 = 1000000;
 
 const MAX_ORDERS: u32 = engine::MAX_ORDERS as u32;
-
-// The furthest place at which a beat is put.
-const FURTHEST_BEAT: usize = 64000;
 
 // So far: the state, the beats, those with a code, the orders.
 pub struct Totals {
@@ -49,19 +49,6 @@ pub fn are_fit(totals: Totals) -> bool
     totals.orders <= beats * MAX_ORDERS
 }
 
-// Whether a beat with so many orders is counted and put.
-pub fn is_taken(totals: Totals, orders: u32, at: usize) -> bool
-    ensures { λ x. ⌜ x ≡ isTaken totals orders at ⌝ }
-{
-    if MAX_ORDERS < orders {
-        return false;
-    }
-    if FURTHEST_BEAT < at {
-        return false;
-    }
-    are_fit(totals)
-}
-
 // One more beat with a code, or none.
 fn one_if(code: u8) -> u32
     ensures { λ x. ⌜ (x ≡ oneIf code) × (x ≤ 1) ⌝ }
@@ -69,16 +56,11 @@ fn one_if(code: u8) -> u32
     if code == 0 { 0 } else { 1 }
 }
 
-// The totals with a beat of this code and so many orders, that leaves this state; as they are where they are not fit, or the orders more than a beat may have.
+// The totals with a beat of this code and so many orders, that leaves this state.
 pub fn count(totals: Totals, code: u8, orders: u32, state: State) -> Totals
-    ensures { λ x. ⌜ x ≡ countingFit totals code orders state ⌝ }
+    requires { ⌜ FitTotals totals × (orders ≤ maxOrders) ⌝ }
+    ensures { λ x. ⌜ x ≡ counting totals code orders state ⌝ }
 {
-    if MAX_ORDERS < orders {
-        return totals;
-    }
-    if !are_fit(totals) {
-        return totals;
-    }
     let coded = one_if(code);
     Totals {
         state: state,
@@ -90,17 +72,16 @@ pub fn count(totals: Totals, code: u8, orders: u32, state: State) -> Totals
 
 // END
 pub fn put_end(totals: Totals, out: &mut [u8], at: usize) -> usize
-    ensures { λ x. ⌜ IsPut (now (out .entry)) at (inReach at (ended totals)) (now (out .exit)) x ⌝ }
+    requires { ⌜ at ≤ outSize ⌝ }
+    ensures { λ x. ⌜ IsPut (now (out .entry)) at (ended totals) (now (out .exit)) x ⌝ }
 {
     end_line(out, at, totals.beats, totals.coded, totals.orders)
 }
 
 // E of the line behind those of the beats.
 pub fn put_error(totals: Totals, out: &mut [u8], at: usize) -> usize
-    ensures { λ x. ⌜ IsPut (now (out .entry)) at (errorText totals at) (now (out .exit)) x ⌝ }
+    requires { ⌜ (totals .beats < maxBeats) × (at ≤ outSize) ⌝ }
+    ensures { λ x. ⌜ IsPut (now (out .entry)) at (errorLine (totals .beats + 1)) (now (out .exit)) x ⌝ }
 {
-    if MAX_BEATS <= totals.beats {
-        return at;
-    }
     error_line(out, at, totals.beats + 1)
 }

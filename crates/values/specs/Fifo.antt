@@ -15,7 +15,7 @@ use Rattle.values.specs.declared.fifo.Moved.{Moved}
 use Rattle.values.specs.declared.fifo.Moved.the-variants as M
 use Rattle.values.specs.declared.fifo.FifoValue.{FifoValue}
 use Rattle.values.specs.declared.fifo.FifoValue.the-variants as S
-use Rattle.values.specs.Value.{unit, equalTo, valued}
+use Rattle.values.specs.Value.{unit, codeOf, equalTo, valued}
 
 abbrev pub places : ℕ
 places = 16
@@ -67,12 +67,16 @@ removeAnswer xs n = cond (fits (length xs) n) (cond (eqb n 0) (M.Alarm fifoEmpty
 unfoldable pub removed : List ℤ → ℕ → List ℤ
 removed xs n = cond (fits (length xs) n) (cond (eqb n 0) xs (shifted xs n)) xs
 
--- [1] reads the oldest, [2] the newest; an empty FIFO gives alarm 32
+-- the value at a place; an empty FIFO gives alarm 32
+abbrev pub valueAt : List ℤ → ℕ → ℕ → FifoValue
+valueAt xs n i = cond (fits (length xs) n) (cond (eqb n 0) (S.Alarm fifoEmpty) (S.Value (getD xs i (pos 0)))) S.Unfit
+
+-- [1] reads the oldest, [2] the newest
 unfoldable pub oldestOf : List ℤ → ℕ → FifoValue
-oldestOf xs n = cond (fits (length xs) n) (cond (eqb n 0) (S.Alarm fifoEmpty) (S.Value (getD xs 0 (pos 0)))) S.Unfit
+oldestOf xs n = valueAt xs n 0
 
 unfoldable pub newestOf : List ℤ → ℕ → FifoValue
-newestOf xs n = cond (fits (length xs) n) (cond (eqb n 0) (S.Alarm fifoEmpty) (S.Value (getD xs (n - 1) (pos 0)))) S.Unfit
+newestOf xs n = valueAt xs n (n - 1)
 
 -- the exact sum of the first n places
 unfoldable pub sumFirst : List ℤ → ℕ → ℤ
@@ -86,7 +90,7 @@ sumAll (x ∷ xs) = x +ℤ sumAll xs
 
 abbrev pub asFifoValue : Worked → FifoValue
 asFifoValue (W.Value v) = S.Value v
-asFifoValue (W.Alarm k) = S.Alarm k
+asFifoValue (W.Alarm k) = S.Alarm (codeOf (W.Alarm k))
 
 -- [3] reads the exact sum, alarm 30 if it is out of range
 unfoldable pub totalOf : List ℤ → ℕ → FifoValue

@@ -19,7 +19,7 @@ use Rattle.values.specs.declared.arithmetic.Worked.{Worked}
 use Rattle.values.specs.declared.arithmetic.Worked.the-variants as W
 use Rattle.values.specs.Value.{unit, inRange, equalTo, valued}
 use Rattle.values.specs.ValueLaws.{Ranged, valued-in-range, abs-range}
-use Rattle.values.specs.Fifo.{places, contents, Unused, countAfter, fits, appendAnswer, appended, shifted, removeAnswer, removed, oldestOf, newestOf, sumFirst, sumAll, asFifoValue, totalOf, countOf, cleared, emptyAnswer, emptied}
+use Rattle.values.specs.Fifo.{places, contents, Unused, countAfter, fits, appendAnswer, appended, shifted, removeAnswer, removed, valueAt, oldestOf, newestOf, sumFirst, sumAll, asFifoValue, totalOf, countOf, cleared, emptyAnswer, emptied}
 use Rattle.values.specs.Numbers.{clash}
 
 -- ---- a part of sixteen places with at most sixteen in use
@@ -242,15 +242,19 @@ sum-contents xs (suc n) h =
     ∙ sym (sum-snoc (take n xs) (getD xs n (pos 0)))
     ∙ ap sumAll (sym (take-suc xs n (pos 0) h))
 
--- the oldest is the first of the contents
-pub oldest-contents : (xs : List ℤ) (n : ℕ) → length xs ≡ places → 0 < n → n ≤ places → oldestOf xs n ≡ S.Value (getD (contents xs n) 0 (pos 0))
-unfolding oldestOf
-oldest-contents xs n e l h = rw (fits-holds xs n e h, ne-eqb n 0 (λ q. omega arith), getD-take n xs 0 (pos 0) l)
+module _ (xs : List ℤ) (n : ℕ) (e : length xs ≡ places) (l : 0 < n) (h : n ≤ places) where
+  value-contents : (i : ℕ) → i < n → valueAt xs n i ≡ S.Value (getD (contents xs n) i (pos 0))
+  value-contents i m = rw (fits-holds xs n e h, ne-eqb n 0 (λ q. omega arith), getD-take n xs i (pos 0) m)
 
--- the newest is the last of the contents
-pub newest-contents : (xs : List ℤ) (n : ℕ) → length xs ≡ places → 0 < n → n ≤ places → newestOf xs n ≡ S.Value (getD (contents xs n) (n - 1) (pos 0))
-unfolding newestOf
-newest-contents xs n e l h = rw (fits-holds xs n e h, ne-eqb n 0 (λ q. omega arith), getD-take n xs (n - 1) (pos 0) (omega arith))
+  -- the oldest is the first of the contents
+  pub oldest-contents : oldestOf xs n ≡ S.Value (getD (contents xs n) 0 (pos 0))
+  unfolding oldestOf
+  oldest-contents = value-contents 0 l
+
+  -- the newest is the last of the contents
+  pub newest-contents : newestOf xs n ≡ S.Value (getD (contents xs n) (n - 1) (pos 0))
+  unfolding newestOf
+  newest-contents = value-contents (n - 1) (omega arith)
 
 -- ---- what is read is in range
 
@@ -273,15 +277,17 @@ place-ranged : (b : Bool) (z : ℤ) → inRange z ≡ true → FifoValueRanged (
 place-ranged true z h = alarm-ranged fifoEmpty
 place-ranged false z h = value-ranged z h
 
--- the oldest, where the places are
+-- the value at a place, the oldest and the newest, where the places are
+value-at-ranged : (xs : List ℤ) (n i : ℕ) → PlacesRanged xs → FifoValueRanged (valueAt xs n i)
+value-at-ranged xs n i r = fit-ranged (fits (length xs) n) _ (λ p. place-ranged (eqb n 0) (getD xs i (pos 0)) (r i))
+
 pub oldest-in-range : (xs : List ℤ) (n : ℕ) → PlacesRanged xs → FifoValueRanged (oldestOf xs n)
 unfolding oldestOf
-oldest-in-range xs n r = fit-ranged (fits (length xs) n) _ (λ p. place-ranged (eqb n 0) (getD xs 0 (pos 0)) (r 0))
+oldest-in-range xs n = value-at-ranged xs n 0
 
--- the newest, where the places are
 pub newest-in-range : (xs : List ℤ) (n : ℕ) → PlacesRanged xs → FifoValueRanged (newestOf xs n)
 unfolding newestOf
-newest-in-range xs n r = fit-ranged (fits (length xs) n) _ (λ p. place-ranged (eqb n 0) (getD xs (n - 1) (pos 0)) (r (n - 1)))
+newest-in-range xs n = value-at-ranged xs n (n - 1)
 
 asked-ranged : (w : Worked) → Ranged w → FifoValueRanged (asFifoValue w)
 asked-ranged (W.Value z) r = value-ranged z (r z refl)

@@ -1,7 +1,4 @@
--- What the crate's promises mean. Value is the definitions; the laws that follow from them stand in ValueLaws, those on numbers in Numbers, those on going by cases in Choice; Unique says what every promise rules out; Table computes document 01's examples.
--- Time is the definitions, TimeLaws the laws that follow from them.
--- A FIFO in its part of R. Fifo is the definitions, FifoLaws the laws that follow from them.
--- The two's complement of 32 bits.
+-- What the promises mean: values, time, FIFOs and the two's complement, document 01's codes, a list written into an array, and the laws that follow from them.
 pub mod Codes
 pub mod Value
 pub mod Choice
@@ -15,3 +12,5 @@ pub mod Fifo
 pub mod FifoLaws
 pub mod Complement
 pub mod ComplementLaws
+pub mod PutAt
+pub mod PutLaws

@@ -2,6 +2,7 @@
 use mathlib.Core.Path.{_≡_, refl}
 use mathlib.Core.List.{List, [], _∷_}
 use lib.IntN.{pos, negsuc}
+use Rattle.values.specs.Codes.{outOfRange, zeroDivisor}
 use Rattle.values.specs.declared.arithmetic.Worked.{Worked}
 use Rattle.values.specs.declared.arithmetic.Worked.the-variants.{Value, Alarm}
 use Rattle.values.specs.Value.{valued, inRange, sumOf, productOf, quotientOf, wholeUnits}
@@ -23,9 +24,9 @@ valueCases =
     -- 1000000*1 passes
     ∷ record { gives = productOf (pos 1000000000) (pos 1000); says = Value (pos 1000000000) }
     -- 1000000+0.001 gives alarm 30
-    ∷ record { gives = sumOf (pos 1000000000) (pos 1); says = Alarm 30 }
+    ∷ record { gives = sumOf (pos 1000000000) (pos 1); says = Alarm outOfRange }
     -- 1/0 gives alarm 31
-    ∷ record { gives = quotientOf (pos 1000) (pos 0); says = Alarm 31 }
+    ∷ record { gives = quotientOf (pos 1000) (pos 0); says = Alarm zeroDivisor }
     -- a marker from 1.999 is 1
     ∷ record { gives = Value (wholeUnits (pos 1999)); says = Value (pos 1000) }
     -- a marker from -1.999 is -1

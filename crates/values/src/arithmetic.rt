@@ -10,7 +10,6 @@ pub const TOP: i32 = 1000000000;
 // The thousandths of a unit.
 pub const UNIT: i32 = 1000;
 
-// The alarms that a value raises, by document 01's numbers.
 // What working gives: a value, or the number of an alarm.
 pub enum Worked {
     Value(i32),
@@ -31,7 +30,7 @@ pub fn in_range(v: i32) -> bool
 }
 
 // An exact number of thousandths as a value, or alarm 30.
-pub fn value_of(x: i64) -> Worked
+pub(crate) fn value_of(x: i64) -> Worked
     ensures { λ r. ⌜ r ≡ valued x ⌝ }
 {
     if x < -(TOP as i64) {

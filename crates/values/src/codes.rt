@@ -46,19 +46,19 @@ pub const WRONG_NUMBERS: u8 = 21;
 pub const UNSOUND: u8 = 22;
 
 // A result outside the values.
-pub const OUT_OF_RANGE: u8 = 30;
+pub(crate) const OUT_OF_RANGE: u8 = 30;
 
 // A zero divisor.
-pub const ZERO_DIVISOR: u8 = 31;
+pub(crate) const ZERO_DIVISOR: u8 = 31;
 
 // A reading of an empty FIFO.
-pub const FIFO_EMPTY: u8 = 32;
+pub(crate) const FIFO_EMPTY: u8 = 32;
 
 // A value more than a FIFO holds.
-pub const FIFO_FULL: u8 = 33;
+pub(crate) const FIFO_FULL: u8 = 33;
 
 // A value that the target does not take.
-pub const NOT_ALLOWED: u8 = 34;
+pub(crate) const NOT_ALLOWED: u8 = 34;
 
 // Host names a line not in the set, or cancelled.
 pub const UNKNOWN_LINE: u8 = 40;

@@ -6,7 +6,7 @@ ghost use mathlib.Core.Path.{_≡_};
 ghost use mathlib.Core.Bool.{true};
 ghost use Prim.Native.Nat.{_≤_, _<_};
 ghost use lib.ListN.{length};
-ghost use Rattle.values.specs.Fifo.{fits, sumFirst, shifted, appendAnswer, appended, removeAnswer, removed, oldestOf, newestOf, totalOf, countOf, cleared, emptyAnswer, emptied};
+ghost use Rattle.values.specs.Fifo.{places, fits, sumFirst, shifted, appendAnswer, appended, removeAnswer, removed, oldestOf, newestOf, totalOf, countOf, cleared, emptyAnswer, emptied};
 use crate::arithmetic::UNIT;
 use crate::arithmetic::Worked;
 use crate::arithmetic::value_of;
@@ -17,7 +17,6 @@ use crate::codes::NOT_ALLOWED;
 // The places of a FIFO.
 pub const PLACES: usize = 16;
 
-// The alarms of a FIFO, by document 01's numbers.
 // What a change gives: the value that went in or out with the new count, the number of an alarm, or that part and count are no FIFO.
 pub enum Moved {
     Done(i32, u8),
@@ -33,10 +32,10 @@ pub enum FifoValue {
 }
 
 // Whether so many places with so many in use are a FIFO.
-fn is_fit(places: usize, count: u8) -> bool
-    ensures { λ r. ⌜ (r ≡ fits places count) × (r ≡ true → (places ≡ 16) × (count ≤ 16)) ⌝ }
+fn is_fit(size: usize, count: u8) -> bool
+    ensures { λ r. ⌜ (r ≡ fits size count) × (r ≡ true → (size ≡ places) × (count ≤ places)) ⌝ }
 {
-    if places != PLACES {
+    if size != PLACES {
         return false;
     }
     count as usize <= PLACES
@@ -118,7 +117,7 @@ pub fn newest(part: &[i32], count: u8) -> FifoValue
 
 // The exact sum of the first n places.
 fn sum_first(part: &[i32], n: usize) -> i64
-    requires { ⌜ (n ≤ length (now part)) × (n ≤ 16) ⌝ }
+    requires { ⌜ (n ≤ length (now part)) × (n ≤ places) ⌝ }
     ensures { λ r. ⌜ r ≡ sumFirst (now (part .entry)) n ⌝ }
 {
     let mut all: i64 = 0;

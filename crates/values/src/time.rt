@@ -4,10 +4,10 @@ ghost use Rattle.values.specs.Time.{millisOf, grownTimer, writtenTimer};
 use crate::arithmetic::TOP;
 
 // The milliseconds of one beat.
-pub const BEAT_MILLIS: u32 = 4;
+const BEAT_MILLIS: u32 = 4;
 
 // A count of beats. It is no time.
-pub struct Beats(pub u32);
+struct Beats(u32);
 
 // A time in milliseconds: as a value, thousandths of a second.
 pub struct Millis(pub i32);
@@ -19,7 +19,7 @@ pub struct Timer {
 }
 
 // The time that a number of beats takes, at most the top: the only place that turns beats into milliseconds.
-pub fn millis_of(beats: Beats) -> Millis
+fn millis_of(beats: Beats) -> Millis
     ensures { λ r. ⌜ r ≡ millisOf beats ⌝ }
 {
     let n = beats.0;

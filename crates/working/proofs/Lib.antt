@@ -1,5 +1,4 @@
--- VariableCells: laws on counts and where cells lie, which several proofs cite.
--- Laws that several proofs cite: Joins on the operators, Pairs on what the walk hands on.
-pub mod VariableCells
+-- Laws that several proofs cite: CountLaws on a cell as a count, Joins on the operators, Pairs on what the walk hands on.
+mod CountLaws
 mod Joins
 mod Pairs

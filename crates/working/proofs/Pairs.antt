@@ -8,6 +8,7 @@ use lib.IntN.{ℤ, pos, negsuc}
 use mir.Syntax.{w32}
 use mir.Val.{SFits, toZ, ofZ}
 use borrow.Author.Tests.{eq-eqb, ne-eqb}
+use Rattle.tokens.specs.Token.{setSize, room}
 use Rattle.values.specs.declared.arithmetic.Worked.{Worked}
 use Rattle.values.proofs.Signed.{back}
 use Rattle.values.specs.Complement.{twosComplement, signed}
@@ -33,8 +34,8 @@ twos-bits {v = negsuc n} h = omega arith
 
 -- the pair w, whose next place is i
 module _ (w : ℕ) {i : ℕ} (e : i ≡ nextOf w) where
-  pub room : i < 8192
-  room = omega arith
+  pub in-room : i < room
+  in-room = omega arith
 
   pub said-stop : i ≡ 0 → said w ≡ ends (alarmIn w)
   unfolding said
@@ -54,30 +55,30 @@ module _ (w : ℕ) {i : ℕ} (e : i ≡ nextOf w) where
   passes f h = answers.passes f (said-stop h)
 
 -- what was paired is said again
-pub pair-said : {v : ℤ} (p : ℕ) → SFits w32 v → 0 < p → p < 8192 → said (pairOf v p) ≡ read v p
+pub pair-said : {v : ℤ} (p : ℕ) → SFits w32 v → 0 < p → p < room → said (pairOf v p) ≡ read v p
 unfolding pairOf valueOf
 pair-said {v} p h l m =
     let n = twosComplement v in
-    let b : (n * 8192 + p % 8192) / 8192 % 4294967296 ≡ n = omega (arith, twos-bits h) in
-    let e : p ≡ (n * 8192 + p % 8192) % 8192 = omega arith in
+    let b : (n * room + p % room) / room % 4294967296 ≡ n = omega (arith, twos-bits h) in
+    let e : p ≡ (n * room + p % room) % room = omega arith in
     said-value (pairOf v p) e (sym (ap signed b ∙ signed-back h)) (λ z. omega arith)
 
 pub alarm-said : (k : ℕ) → k < 256 → said (alarmOf k) ≡ ends k
 alarm-said k l =
-    let b : k * 8192 / 8192 % 256 ≡ k = omega arith in
-    let e : 0 ≡ k * 8192 % 8192 = omega arith in
+    let b : k * room / room % 256 ≡ k = omega arith in
+    let e : 0 ≡ k * room % room = omega arith in
     said-stop (alarmOf k) e refl ∙ ap ends b
 
 -- one more is the next place
-pub next-said : (w : ℕ) {i : ℕ} → i ≡ nextOf w → i < 4130 → said (w + 1) ≡ read (valueOf w) (i + 1)
+pub next-said : (w : ℕ) {i : ℕ} → i ≡ nextOf w → i < setSize → said (w + 1) ≡ read (valueOf w) (i + 1)
 unfolding valueOf
 next-said w {i} f l =
-    let b : (w + 1) / 8192 ≡ w / 8192 = omega arith in
-    let e : i + 1 ≡ (w + 1) % 8192 = omega arith in
+    let b : (w + 1) / room ≡ w / room = omega arith in
+    let e : i + 1 ≡ (w + 1) % room = omega arith in
     said-value (w + 1) e (sym (ap (λ (n : ℕ). signed (n % 4294967296)) b)) (λ z. omega arith)
 
 -- x is the pair of v and p, and v is z
-pub pairs : {x : ℕ} {v z : ℤ} (p : ℕ) → x ≡ pairOf (toZ w32 (ofZ w32 v)) p → SFits w32 v → v ≡ z → 0 < p → p < 8192 → said x ≡ read z p
+pub pairs : {x : ℕ} {v z : ℤ} (p : ℕ) → x ≡ pairOf (toZ w32 (ofZ w32 v)) p → SFits w32 v → v ≡ z → 0 < p → p < room → said x ≡ read z p
 pairs p e h f l m = ap said (e ∙ ap (λ (u : ℤ). pairOf u p) (back w32 h)) ∙ pair-said p h l m ∙ ap (λ (u : ℤ). read u p) f
 
 -- x is what a working gives, and that is an answer

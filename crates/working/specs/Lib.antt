@@ -1,7 +1,6 @@
--- Variables: where each variable lies and what it reads. Definitions only.
--- Operators what each operator makes of two values, Pair how the walk hands a value on. Definitions only.
--- Working: what a line's expressions are worth. Definitions only.
+-- What the promises mean: where the variables lie and what they read, what the operators make of two values, what a line's expressions are worth. VariableLaws has what follows from where variables lie.
 pub mod Variables
+pub mod VariableLaws
 pub mod Pair
 pub mod Operators
 pub mod Working

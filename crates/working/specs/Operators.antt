@@ -3,15 +3,16 @@ use mathlib.Core.Bool.{Bool, true, false, not, _&&_, _||_}
 use Prim.Native.Nat.{ℕ}
 use lib.Dec.{eqb}
 use lib.IntN.{ℤ, pos}
-use Rattle.values.specs.Value.{sumOf, differenceOf, productOf, quotientOf, lessThan, equalTo}
+use Rattle.values.specs.Value.{codeOf, sumOf, differenceOf, productOf, quotientOf, lessThan, equalTo}
 use Rattle.values.specs.declared.arithmetic.Worked.{Worked}
 use Rattle.values.specs.declared.arithmetic.Worked.the-variants as W
 use Rattle.tokens.specs.Token.{SAME, OTHER, LESS, MORE, ATMOST, ATLEAST, PLUS, MINUS, TIMES, OVER, AND, OR}
 use Rattle.tokens.specs.Descent.{Answer, good, stop}
 
+-- an alarm ends the working with its code
 abbrev pub fromWorked : Worked → Answer ℤ
 fromWorked (W.Value v) = good v
-fromWorked (W.Alarm k) = stop k
+fromWorked (W.Alarm k) = stop (codeOf (W.Alarm k))
 
 abbrev pub yesNo : Bool → ℤ
 yesNo true = pos 1

@@ -8,7 +8,7 @@ use lib.Dec.{eqb, leb}
 use lib.IntN.{ℤ, pos, negsuc}
 use lib.ListN.{take, drop, getD}
 use Rattle.values.specs.Codes.{unsound}
-use Rattle.values.specs.Fifo.{places, oldestOf, newestOf, totalOf, countOf}
+use Rattle.values.specs.Fifo.{places, fifoValueCode, oldestOf, newestOf, totalOf, countOf}
 use Rattle.values.specs.declared.arithmetic.Worked.{Worked}
 use Rattle.values.specs.declared.arithmetic.Worked.the-variants.{Value, Alarm}
 use Rattle.values.specs.declared.fifo.FifoValue.{FifoValue}
@@ -56,8 +56,8 @@ countAt c w = asCount (getD c (counts + (w - FIFO1)) (pos 0))
 
 abbrev pub fromFifoValue : FifoValue → Worked
 fromFifoValue (S.Value v) = Value v
-fromFifoValue (S.Alarm k) = Alarm k
-fromFifoValue S.Unfit = Alarm unsound
+fromFifoValue (S.Alarm k) = Alarm (fifoValueCode (S.Alarm k))
+fromFifoValue S.Unfit = Alarm (fifoValueCode S.Unfit)
 
 -- [1] the oldest, [2] the newest, [3] the sum, [4] the count; [0] is not read here, so that no condition changes anything
 unfoldable pub fifoValue : List ℤ → ℕ → ℕ → Worked

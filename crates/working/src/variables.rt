@@ -27,19 +27,19 @@ pub const RS: usize = 164;
 // The cells, and the first of them for each variable that is no R and no FIFO.
 pub const CELLS: usize = 122;
 
-pub const IN_CELLS: usize = 0;
+const IN_CELLS: usize = 0;
 
-pub const INA_CELLS: usize = 16;
+const INA_CELLS: usize = 16;
 
-pub const IM_CELLS: usize = 24;
+const IM_CELLS: usize = 24;
 
-pub const OUT_CELLS: usize = 30;
+const OUT_CELLS: usize = 30;
 
-pub const MARKER_CELLS: usize = 46;
+const MARKER_CELLS: usize = 46;
 
-pub const PARAM_CELLS: usize = 78;
+const PARAM_CELLS: usize = 78;
 
-pub const TIMER_CELLS: usize = 110;
+const TIMER_CELLS: usize = 110;
 
 // The counts of the four FIFOs.
 pub const COUNT_CELLS: usize = 118;
@@ -56,7 +56,8 @@ pub const COUNT_AT: usize = 88;
 pub const TIMERS: usize = 8;
 // Where the first FIFO's run of R starts.
 pub const RUNS: usize = 100;
-// Document 01's code for what no sound set or state has.
+
+// The first cell of a variable.
 fn cell_start(w: u32) -> usize
     ensures { λ r. ⌜ r ≡ cellStart w ⌝ }
 {
@@ -146,7 +147,7 @@ fn fifo_at(r: &[i32; RS], cells: &[i32; CELLS], w: u32, i: u32) -> Worked
 }
 
 // What the variable w[i] reads.
-pub fn variable_value(r: &[i32; RS], cells: &[i32; CELLS], w: u32, i: u32) -> Worked
+pub(crate) fn variable_value(r: &[i32; RS], cells: &[i32; CELLS], w: u32, i: u32) -> Worked
     ensures { λ x. ⌜ x ≡ variableValue (now (r .entry)) (now (cells .entry)) w i ⌝ }
 {
     if !is_inside(w, i) {

@@ -15,23 +15,55 @@ const ODD_BUT_GOOD: [&str; 8] = [
 const EDGES: [i64; 8] =
     [1_000_000_000, -1_000_000_000, 1_000_000_001, -1_000_000_001, 2_147_483_647, -2_147_483_648, 0, 1];
 
+/// Beats of a long input, at least.
+const LONG: i64 = 1000;
+
 /// The inputs of a run of beats: a few bits switch now and then, and stay for a while.
 #[derive(Default)]
 pub struct Inputs {
     word: usize,
+    /// For thousands of beats: the mode stays for a while too, and the last four bits only flash.
+    steady: bool,
+    manual: bool,
 }
 
 impl Inputs {
-    /// The fields of a beat line after the mode, with up to `most` numbers.
-    pub fn next(&mut self, random: &mut Random, most: usize) -> String {
+    pub fn steady() -> Inputs {
+        Inputs { steady: true, ..Inputs::default() }
+    }
+
+    pub fn mode(&mut self, random: &mut Random) -> &'static str {
+        self.manual = match (self.steady, self.manual) {
+            (false, _) => random.chance(20),
+            (true, false) => random.chance(3),
+            (true, true) => random.chance(88),
+        };
+        if self.manual {
+            "M"
+        } else {
+            "A"
+        }
+    }
+
+    /// Switches bits of the word, and gives those that flash.
+    fn switch(&mut self, random: &mut Random) -> usize {
         if random.chance(60) {
             self.word ^= 1 << random.below(4);
         }
         if random.chance(3) {
-            self.word ^= 1 << random.below(16);
+            self.word ^= 1 << if self.steady { 4 + random.below(4) } else { random.below(16) };
         }
+        if self.steady && random.below(300) == 0 {
+            self.word ^= 1 << (8 + random.below(4));
+        }
+        usize::from(self.steady && random.chance(14)) << (12 + random.below(4))
+    }
+
+    /// The fields of a beat line after the mode, with up to `most` numbers.
+    pub fn next(&mut self, random: &mut Random, most: usize) -> String {
+        let flashing = self.switch(random);
         let count = if random.chance(40) { random.below(most + 1) } else { 0 };
-        let mut fields = self.word.to_string();
+        let mut fields = (self.word | flashing).to_string();
         for _ in 0..count {
             fields.push_str(&format!(" {}", lent_number(random)));
         }
@@ -47,30 +79,23 @@ fn lent_number(random: &mut Random) -> i64 {
     }
 }
 
-pub fn mode(random: &mut Random) -> &'static str {
-    if random.chance(80) {
-        "A"
-    } else {
-        "M"
-    }
-}
-
-/// A script of beats; a few have an ill-formed line.
-pub fn script(random: &mut Random) -> Vec<u8> {
+/// A script of beats; a few have an ill-formed line. A long one has a thousand beats before it.
+pub fn script(random: &mut Random, long: bool) -> Vec<u8> {
     let beats = match random.below(100) {
-        0 => random.between(300, 3000),
-        1..=3 => random.between(45, 300),
+        _ if long => random.between(LONG, 2 * LONG),
+        0..=3 => random.between(45, 300),
         _ => random.between(0, 45),
     };
+    let first = if long { LONG } else { 0 };
+    let spoiled = random.chance(12).then(|| random.between(first, beats.max(1)));
+    let mut inputs = if long { Inputs::steady() } else { Inputs::default() };
     let end = if random.chance(10) { "\r\n" } else { "\n" };
-    let spoiled = random.chance(12).then(|| random.between(0, beats.max(1)));
-    let mut inputs = Inputs::default();
     let mut text = String::new();
     for beat in 0..beats {
         let line = match random.below(60) {
             _ if spoiled == Some(beat) => random.pick(&ILL_FORMED).to_string(),
             0 => random.pick(&ODD_BUT_GOOD).to_string(),
-            _ => format!("{} {}", mode(random), inputs.next(random, 14)),
+            _ => format!("{} {}", inputs.mode(random), inputs.next(random, 14)),
         };
         text.push_str(&line);
         text.push_str(end);

@@ -1,6 +1,6 @@
 //! Random host sessions: beats, host calls, lent lists and buffers, damage, dumps.
 
-use super::beats::{mode, Inputs};
+use super::beats::Inputs;
 use super::{random_set, RandomSet};
 use crate::load::TEXT;
 use crate::random::Random;
@@ -23,9 +23,9 @@ const TOKENS: [&str; 26] = [
     "2.0", "0.5", "164", "2000000", "X", "$R", "$AC_FIFO1", "M",
 ];
 
-struct Session<'a> {
-    random: &'a mut Random,
-    set: RandomSet,
+pub struct Session<'a> {
+    pub random: &'a mut Random,
+    pub set: RandomSet,
     /// The set holds the lines of the generator, so that damage can name places in them.
     lines_known: bool,
     inputs: Inputs,
@@ -35,18 +35,11 @@ struct Session<'a> {
 pub fn session(random: &mut Random) -> Vec<u8> {
     let set = random_set(random, 8);
     let calls = random.between(3, 40);
-    let lines_known = is_taken(&set);
-    let mut session = Session { random, set, lines_known, inputs: Inputs::default(), script: Vec::new() };
+    let mut session = Session::new(random, set, Inputs::default());
     for _ in 0..calls {
         session.step();
     }
-    session.add("D");
-    let Session { set, script, .. } = session;
-    let mut input = set.text;
-    input.extend(b"*\n");
-    input.extend(script.join("\n").as_bytes());
-    input.push(b'\n');
-    input
+    session.end()
 }
 
 /// The set has lines, and they are surely taken when loaded.
@@ -55,7 +48,21 @@ fn is_taken(set: &RandomSet) -> bool {
 }
 
 impl Session<'_> {
-    fn add(&mut self, line: impl Into<String>) {
+    pub fn new(random: &mut Random, set: RandomSet, inputs: Inputs) -> Session<'_> {
+        Session { random, lines_known: is_taken(&set), set, inputs, script: Vec::new() }
+    }
+
+    /// The input of the session, a dump as its last line.
+    pub fn end(mut self) -> Vec<u8> {
+        self.add("D");
+        let mut input = self.set.text;
+        input.extend(b"*\n");
+        input.extend(self.script.join("\n").as_bytes());
+        input.push(b'\n');
+        input
+    }
+
+    pub fn add(&mut self, line: impl Into<String>) {
         self.script.push(line.into());
     }
 
@@ -84,17 +91,17 @@ impl Session<'_> {
         }
     }
 
-    fn beat(&mut self) {
-        let line = format!("{} {}", mode(self.random), self.inputs.next(self.random, 14));
+    pub fn beat(&mut self) {
+        let line = format!("{} {}", self.inputs.mode(self.random), self.inputs.next(self.random, 14));
         self.add(line);
     }
 
-    fn lent_beat(&mut self) {
+    pub fn lent_beat(&mut self) {
         let buffer = self.random.pick(&BUFFERS);
         let list = self.random.pick(&LISTS);
         let inputs = self.inputs.next(self.random, list);
         let (word, numbers) = inputs.split_once(' ').unwrap_or((&inputs, ""));
-        let line = format!("B {} {word} {buffer} {list} {numbers}", mode(self.random));
+        let line = format!("B {} {word} {buffer} {list} {numbers}", self.inputs.mode(self.random));
         self.add(line.trim_end());
     }
 
@@ -126,7 +133,7 @@ impl Session<'_> {
     }
 
     /// Damage, some calls on it, and mostly the way back.
-    fn damage_episode(&mut self) {
+    pub fn damage_episode(&mut self) {
         self.add("K");
         for _ in 0..self.random.between(1, 2) {
             if self.random.chance(50) {

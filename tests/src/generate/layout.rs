@@ -3,7 +3,16 @@
 use crate::load::TEXT;
 use crate::random::Random;
 
+/// The text of these lines; some are filled up to the most bytes, or one more.
 pub fn set_text(random: &mut Random, lines: &[String]) -> Vec<u8> {
+    let mut text = lines_text(random, lines);
+    if random.chance(3) {
+        fill(random, &mut text);
+    }
+    text
+}
+
+pub fn lines_text(random: &mut Random, lines: &[String]) -> Vec<u8> {
     let end: &[u8] = if random.chance(15) { b"\r\n" } else { b"\n" };
     let mut text = Vec::new();
     for line in lines {
@@ -16,9 +25,6 @@ pub fn set_text(random: &mut Random, lines: &[String]) -> Vec<u8> {
             text.extend(b" ; ID=1 # \xFF");
         }
         text.extend(end);
-    }
-    if random.chance(3) {
-        fill(random, &mut text);
     }
     text
 }

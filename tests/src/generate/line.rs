@@ -3,7 +3,15 @@
 use super::expression::{axis, condition, index, number, readable, switched};
 use crate::random::Random;
 
-const KEYWORDS: [(usize, &str); 5] = [(15, ""), (27, "WHENEVER"), (20, "WHEN"), (13, "FROM"), (25, "EVERY")];
+pub const KEYWORDS: [(usize, &str); 5] =
+    [(15, ""), (27, "WHENEVER"), (20, "WHEN"), (13, "FROM"), (25, "EVERY")];
+
+/// Actions that alarm.
+pub const ALARMS: [&str; 7] = [
+    "$R [ 0 ] = 1000000 + 0.001", "$R [ 0 ] = 1 / 0", "$R [ 0 ] = $AC_FIFO1 [ 2 ]",
+    "$R [ 0 ] = $AC_FIFO2 [ 0 ] $AC_FIFO2 [ 0 ] = 1", "$A_OUT [ 1 ] = 2", "FA [ X ] = 0",
+    "$AC_FIFO1 [ 4 ] = 1",
+];
 
 /// A line of the set with this number; LOCK and UNLOCK name any of `numbers`.
 pub fn line(random: &mut Random, number: i64, numbers: &[i64]) -> String {
@@ -77,7 +85,7 @@ pub fn held_lines(random: &mut Random, number: i64) -> [String; 3] {
     ]
 }
 
-fn lock(random: &mut Random, numbers: &[i64]) -> String {
+pub fn lock(random: &mut Random, numbers: &[i64]) -> String {
     let word = random.pick(&["LOCK", "UNLOCK"]);
     format!("{word} ( {} )", random.pick(numbers))
 }
@@ -95,11 +103,7 @@ fn timer_line(random: &mut Random) -> String {
 
 /// Raises an alarm when two inputs meet, so that it passes again.
 fn alarm_line(random: &mut Random) -> String {
-    let alarm = random.pick(&[
-        "$R [ 0 ] = 1000000 + 0.001", "$R [ 0 ] = 1 / 0", "$R [ 0 ] = $AC_FIFO1 [ 2 ]",
-        "$R [ 0 ] = $AC_FIFO2 [ 0 ] $AC_FIFO2 [ 0 ] = 1", "$A_OUT [ 1 ] = 2", "FA [ X ] = 0",
-        "$AC_FIFO1 [ 4 ] = 1",
-    ]);
+    let alarm = random.pick(&ALARMS);
     format!("WHENEVER ( {} ) AND ( {} ) DO {alarm}", switched(random), switched(random))
 }
 

@@ -1,4 +1,4 @@
-//! Random inputs by seed: set text with beats, and host sessions.
+//! Random inputs by seed: set text with beats, and host sessions, short and long.
 
 mod beats;
 mod expression;
@@ -6,7 +6,10 @@ mod fault;
 mod host;
 mod layout;
 mod line;
+mod long;
+mod steady;
 
+use crate::load::TEXT;
 use crate::random::Random;
 use crate::runner::Form;
 
@@ -21,8 +24,10 @@ struct RandomSet {
 /// The input of this form that the seed gives.
 pub fn input(form: Form, seed: u64) -> Vec<u8> {
     match form {
-        Form::Synrun => synrun_input(&mut Random::new(2 * seed)),
-        Form::Host => host::session(&mut Random::new(2 * seed + 1)),
+        Form::Synrun if seed % 10 == 0 => long_synrun_input(&mut Random::new(3 * seed)),
+        Form::Synrun => synrun_input(&mut Random::new(3 * seed)),
+        Form::Host => host::session(&mut Random::new(3 * seed + 1)),
+        Form::Long => long::session(&mut Random::new(3 * seed + 2)),
     }
 }
 
@@ -31,11 +36,20 @@ fn synrun_input(random: &mut Random) -> Vec<u8> {
     if random.chance(98) {
         let star: &[u8] = if random.chance(5) { b"*\r\n" } else { b"*\n" };
         input.extend(star);
-        input.extend(beats::script(random));
+        input.extend(beats::script(random, false));
     }
     if random.chance(5) {
         fault::spoil_bytes(random, &mut input);
     }
+    input
+}
+
+/// A thousand beats and more, over a full set or a small one.
+fn long_synrun_input(random: &mut Random) -> Vec<u8> {
+    let small = Some(random_set(random, 0)).filter(|set| set.text.len() <= TEXT && random.chance(50));
+    let mut input = small.unwrap_or_else(|| steady::full_set(random)).text;
+    input.extend(b"*\n");
+    input.extend(beats::script(random, true));
     input
 }
 

@@ -1,7 +1,7 @@
--- `code_line_fault` meets its contract: it is the fault of what `check::line_at` gives.
+-- `code_line_fault` meets its contract: it is the fault of what `line::line_at` gives.
 use borrow.Author.Needs.{needs}
 use mathlib.Core.Path.{ap}
-use Rattle.checking.specs.declared.check.Line.{Line}
+use Rattle.checking.specs.declared.line.Line.{Line}
 use Rattle.exports.proofs.code_line_fault.Statement.{statement}
 use Rattle.exports.proofs.code_line_fault.Tie as tie
 

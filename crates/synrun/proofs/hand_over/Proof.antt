@@ -16,7 +16,7 @@ abbrev μ-loop : tie.MeasureT-loop
 μ-loop text₀ set₀ piece s₀ at₀ text set s at = length piece - at
 
 prefix : tie.Need-array-share-prefix-out Inv-loop μ-loop
-prefix c = written-room _ _ (c .before .step .ensures) (length-replicate {A = ℕ} 16384 0)
+prefix c = written-room _ _ (c .before .step .ensures .0) _ (c .before .step .ensures .1 .1 .1) (length-replicate {A = ℕ} 16384 0)
 
 counted : tie.Need-slice-aggregate-not-written Inv-loop μ-loop
 counted c = sym (length-take-le _ _ (prefix (c .before)))
@@ -41,7 +41,7 @@ hand-over-spec =
     let b = s .before .before .before .before .before .before in
     let p = b .before .before .args .piece .now in
     let d = left-length (b .loop .at) p in
-    let r : s .step .result .taken ≤ length (take (length p - b .loop .at) (drop (b .loop .at) p)) = no-more _ _ (s .step .ensures) in
+    let r : s .step .result .taken ≤ length (take (length p - b .loop .at) (drop (b .loop .at) p)) = no-more _ _ (s .step .ensures .0) in
     let f = b .before .shared-slice-known .given in
     omega (arith, b .loop .inv, s .before .before .before .before .before .loop-test .taken))
     (λ c.
@@ -49,16 +49,16 @@ hand-over-spec =
     let b = s .before .before .before .before .before .before in
     let p = b .before .before .args .piece .now in
     let d = left-length (b .loop .at) p in
-    let r : s .step .result .taken ≤ length (take (length p - b .loop .at) (drop (b .loop .at) p)) = no-more _ _ (s .step .ensures) in
+    let r : s .step .result .taken ≤ length (take (length p - b .loop .at) (drop (b .loop .at) p)) = no-more _ _ (s .step .ensures .0) in
     let t : b .loop .at < length p = s .before .before .before .before .before .loop-test .taken in
-    let q = some _ _ (s .step .ensures) (omega arith) in
+    let q = some _ _ (s .step .ensures .0) (omega arith) in
     omega arith)
     (λ c.
     let s = c .before .before .before .before .before in
     let b = s .before .before .before .before .before .before in
     let p = b .before .before .args .piece .now in
     let d = left-length (b .loop .at) p in
-    let r : s .step .result .taken ≤ length (take (length p - b .loop .at) (drop (b .loop .at) p)) = no-more _ _ (s .step .ensures) in
+    let r : s .step .result .taken ≤ length (take (length p - b .loop .at) (drop (b .loop .at) p)) = no-more _ _ (s .step .ensures .0) in
     let i : b .loop .at ≤ length p = b .loop .inv in
     omega arith)
     (λ c κs. search needs)

@@ -24,4 +24,4 @@ add-order-spec =
     let a = p .before .before .before .args in
     let n = a .flags .count in
     let l : 8 * n + 8 ≤ length (now (a .out)) = search needs in
-    (λ r cs. rw (c .did-all .ensures) (refl, (refl, with-orders (worldOf r cs (now (a .out)) (a .flags)) (ap (take (8 * (n + 1))) (p .put .ensures .1) ∙ one-more (now (a .out)) n (a .o) l))), rw (c .did-all .ensures) (omega arith, refl))))
+    (λ r cs. rw (c .did-all .ensures) (refl, (refl, with-orders (worldOf r cs (now (a .out)) (a .flags)) (ap (take (8 * (n + 1))) (p .put .ensures) ∙ one-more (now (a .out)) n (a .o) l))), rw (c .did-all .ensures) (omega arith, refl))))

@@ -20,7 +20,7 @@ small : (c : tie.After-whole-of) → c .whole-of .result < 2147483648
 small c = omega (arith, c .whole-of .ensures)
 
 number : (c : tie.After-whole-of) → let a = c .before .before .before .args in c .whole-of .result ≡ whole (getD (now (a .set)) (a .p + 2) 0)
-number c = c .whole-of .ensures ∙ ap whole (c .before .token-at .ensures .0)
+number c = c .whole-of .ensures ∙ ap whole (c .before .token-at .ensures)
 
 value : (c : tie.After-whole-of) → let a = c .before .before .before .args in toZ w32 (c .whole-of .result) ≡ pos (whole (getD (now (a .set)) (a .p + 2) 0))
 value c = toZ-pos w32 _ (small c) ∙ ap pos (number c)

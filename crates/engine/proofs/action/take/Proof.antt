@@ -16,7 +16,6 @@ use Rattle.engine.specs.Action.{fromValueOrAlarm, takenAt}
 use Rattle.engine.specs.WriteAnswers.{IsChanged}
 use Rattle.engine.proofs.ActionAnswerLaws.{worked-taken}
 use Rattle.engine.proofs.WriteAnswerLaws.{changed-good, changed-stop}
-use Rattle.engine.proofs.WriteLaws.{oldest-taken}
 use Rattle.engine.proofs.ActionLaws.{removal-fifo}
 use Rattle.engine.proofs.action.take.Statement.{statement}
 use Rattle.engine.proofs.action.take.Tie as tie
@@ -30,9 +29,7 @@ removal c = let a = c .before .before .before .before .before .before .before .a
 
 -- what it came to
 changes : (c : tie.After-take-oldest) → IsChanged (c .take-oldest .result) (c .take-oldest .last .0) (c .take-oldest .last .1 .0) (removal c)
-changes c =
-    let a = c .before .before .before .before .before .before .before .args in
-    rw (c .before .token-at .ensures .0, oldest-taken (now (a .r)) (now (a .cells)) (getD (now (a .set)) (a .p) 0) (removal-fifo _ _ (removes (c .before .before .before .before .before)))) at (c .take-oldest .ensures)
+changes c = rw (c .before .token-at .ensures) at (c .take-oldest .ensures)
 
 pub take-spec : {M : Type 1} → statement M
 unfolding takenAt
@@ -47,7 +44,7 @@ take-spec =
     simp (takenAt, sym (s .before .is-removal .ensures) ∙ not-true _ (s .if1 .taken))
     (worked-taken (c .work .result) (now (a .r)) (now (a .cells)) (a .runs) (fromValueOrAlarm (rightValue (now (a .set)) (now (a .r)) (now (a .cells)) (a .p))) (c .work .ensures)))
     (λ c κs. search needs)
-    (λ c κs. search needs)
+    (λ c κs. rw (c .token-at .ensures) (removal-fifo _ _ (removes (c .before .before .before .before))))
     (λ c. search needs)
     (λ c. search needs)
     (λ c. search needs)

@@ -1,4 +1,4 @@
--- `cells::beat_cells` meets its contract: all 0 by the test of the count; else the inputs are put, then the numbers and the grown cells copied behind them.
+-- `cells::beat_cells` meets its contract: the inputs are put, then the numbers and the grown cells copied behind them.
 use borrow.Author.Needs.{needs}
 use native.Mathlib.Omega.{arith}
 use mathlib.Core.Path.{_≡_, refl, sym, ap, _∙_}
@@ -7,22 +7,22 @@ use lib.IntN.{ℤ, pos}
 use lib.ListN.{length, replicate}
 use Rattle.engine.specs.Cells.{inputCells, beatCells}
 use Rattle.engine.proofs.TimerLaws.{length-grown}
-use Rattle.engine.proofs.CellLaws.{length-inputs, parts, cells-told, cells-none}
+use Rattle.engine.specs.InputLaws.{length-inputs}
+use Rattle.engine.proofs.CellLaws.{parts}
 use Rattle.engine.proofs.cells.beat_cells.Statement.{statement}
 use Rattle.engine.proofs.cells.beat_cells.Tie as tie
 
-whole : (c : tie.After-runs) → length (c .before .before .before .args .state-cells) ≡ 92
+whole : (c : tie.After-runs) → length (c .before .before .args .state-cells) ≡ 92
 whole c = search needs
 
 long : (c : tie.After-grow-timers) → length (c .grow-timers .last .0) ≡ 92
-long c = ap length (c .grow-timers .ensures) ∙ (length-grown _ (c .before .before .before .before .args .state-cells) 8 ∙ whole (c .before))
+long c = ap length (c .grow-timers .ensures) ∙ (length-grown _ (c .before .before .before .args .state-cells) 8 ∙ whole (c .before))
 
 pub beat-cells-spec : {M : Type 1} → statement M
 unfolding beatCells
 beat-cells-spec =
     tie.close
     (tie.spec
-    (λ c. sym (cells-none _ _ _ _ (c .if1 .taken)))
     (λ c κs. search needs)
     (λ c. search needs)
     (λ c κs. search needs)
@@ -34,9 +34,7 @@ beat-cells-spec =
     (λ c.
     let b = c .before .before .before .before .before in
     let d = b .before .before .before in
-    let e = d .before .before .before .before .before in
-    let start = e .before in
+    let start = d .before .before .before .before .before in
     c .before .copy-at2 .ensures
-    ∙ (parts (inputCells (start .args .word) 16) (start .args .lent .now) (d .before .before .grow-timers .last .0) (replicate 122 (pos 0)) (length-inputs (start .args .word) 16) (e .if1 .left) (long (d .before .before)) refl (d .put-inputs .last .0) (d .put-inputs .ensures) (b .copy-at .last .0) (b .copy-at .ensures)
-    ∙ (ap (λ (g : List ℤ). inputCells (start .args .word) 16 ++ (start .args .lent .now ++ g)) (d .before .before .grow-timers .ensures)
-    ∙ sym (cells-told (start .args .word) (start .args .lent .now) _ _ (e .if1 .left))))))
+    ∙ (parts (inputCells (start .args .word) 16) (start .args .lent .now) (d .before .before .grow-timers .last .0) (replicate 122 (pos 0)) (length-inputs (start .args .word) 16) (start .pre) (long (d .before .before)) refl (d .put-inputs .last .0) (d .put-inputs .ensures) (b .copy-at .last .0) (b .copy-at .ensures)
+    ∙ (ap (λ (g : List ℤ). inputCells (start .args .word) 16 ++ (start .args .lent .now ++ g)) (d .before .before .grow-timers .ensures)))))

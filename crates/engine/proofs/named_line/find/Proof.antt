@@ -6,7 +6,7 @@ use mathlib.Core.Path.{_≡_, sym, _∙_}
 use mathlib.Core.Bool.{true}
 use Prim.Native.Nat.{_≤_}
 use Rattle.engine.specs.Sound.{isSound}
-use Rattle.engine.proofs.SetLaws.{sound-count}
+use Rattle.engine.specs.SetCountLaws.{sound-count}
 use Rattle.engine.proofs.SoundTestLaws.{unsound-set, sound-as}
 use Rattle.engine.proofs.NamedLineLaws.{found-unsound, found-none, found-cancelled, found-rank}
 use Rattle.engine.proofs.named_line.find.Statement.{statement}

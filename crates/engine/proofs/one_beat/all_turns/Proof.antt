@@ -8,8 +8,7 @@ use Rattle.tokens.specs.Descent.{Answer}
 use Rattle.engine.specs.Turn.{Turned, turnsFrom}
 use Rattle.engine.specs.Beat.{begun}
 use Rattle.engine.specs.TurnAnswers.{IsTurned}
-use Rattle.engine.proofs.TurnLaws.{turned-good, turned-stop, few-lines}
-use Rattle.engine.proofs.CellLaws.{cells-told}
+use Rattle.engine.proofs.TurnLaws.{turned-good, turned-stop}
 use Rattle.engine.proofs.BeatLaws.{refuses, answers, writes}
 use Rattle.engine.proofs.one_beat.all_turns.Statement.{statement}
 use Rattle.engine.proofs.one_beat.all_turns.Tie as tie
@@ -20,7 +19,7 @@ all c = let a = c .before .before .before .before .before .before .before .befor
 
 came : (c : tie.After-turns) → let d = c .turns in let o = d .last .1 .1 .1 .1 in IsTurned (d .result) (o .0) (o .1 .0) (o .1 .1 .0) (all c)
 unfolding begun
-came c = let s = c .before .before .before .before .before .before .before .before .before .before in rw (few-lines (s .args .lines .count) _ (s .pre .0), c .before .before .before .before .before .beat-cells .ensures ∙ cells-told (s .args .inputs) (now (s .args .lent)) (s .args .state .runs) (s .args .state .cells) (s .pre .1 .0)) at (c .turns .ensures .0)
+came c = rw (c .before .before .before .before .before .beat-cells .ensures) at (c .turns .ensures .0)
 
 pub all-turns-spec : {M : Type 1} → statement M
 all-turns-spec =

@@ -7,8 +7,9 @@ use denote.Ref.{now}
 use Rattle.engine.specs.Set.{soundLines}
 use Rattle.engine.specs.Sound.{stateSound}
 use Rattle.engine.specs.Beat.{areInputs, beatAnswer, beatBuffer}
-use Rattle.engine.proofs.SetLaws.{sound-count}
-use Rattle.engine.proofs.BeatLaws.{inputs-length, lines-unsound, state-unsound, too-short, no-inputs, turns-told, refuses}
+use Rattle.engine.specs.SetCountLaws.{sound-count}
+use Rattle.engine.specs.InputLaws.{inputs-length}
+use Rattle.engine.proofs.BeatLaws.{lines-unsound, state-unsound, too-short, no-inputs, turns-told, refuses}
 use Rattle.engine.proofs.one_beat.beat.Statement.{statement}
 use Rattle.engine.proofs.one_beat.beat.Tie as tie
 

@@ -9,5 +9,4 @@ finished-spec =
     tie.close
     (tie.spec
     (λ c. search needs)
-    (λ c. search needs)
     (λ c. refl))

@@ -5,6 +5,7 @@ use mathlib.Core.Path.{_≡_, refl, sym, _∙_}
 use mathlib.Core.Logic.{⊎-elim}
 use Rattle.engine.specs.Set.{namesKnown}
 use Rattle.engine.proofs.SetLaws.{names-end, names-other, names-unknown, names-lock, names-none}
+use Rattle.tokens.proofs.Between.{lies-inside}
 use Rattle.engine.proofs.set.names_known.Statement.{statement}
 use Rattle.engine.proofs.set.names_known.Tie as tie
 
@@ -22,21 +23,27 @@ names-known-spec =
     μ-loop
     (λ c. refl)
     (λ c κs. search needs)
-    (λ c. sym (names-end _ _ _ _ (c .before .token-at .ensures .0) (c .if1 .taken) _ (omega arith)) ∙ c .before .before .before .before .loop .inv)
+    (λ c. sym (names-end _ _ _ _ (c .before .token-at .ensures) (c .if1 .taken) _ (omega arith)) ∙ c .before .before .before .before .loop .inv)
     (λ c κs. search needs)
-    (λ c. omega (arith, c .before .before .before .before .token-at .ensures .1 (c .before .before .before .if1 .left)))
+    (λ c.
+    let e = c .before .before .before in
+    let b = e .before .before .before .before in
+    omega (arith, lies-inside (b .before .args .set .now) (b .loop .p) (e .before .token-at .ensures) (e .if1 .left)))
     (λ c κs. search needs)
     (λ c κs. search needs)
     (λ c κs. search needs)
     (λ c.
     let d = c .before .before .before .before .before in
-    sym (names-unknown _ _ _ _ (d .before .before .before .token-at .ensures .0) (d .before .before .if1 .left) (sym (d .before .is-lock .ensures) ∙ d .if2 .taken) _ _ _ (c .before .before .before .token-at2 .ensures .0) (c .before .before .whole-of .ensures) (c .before .rank-in .ensures) (c .if3 .taken) _ (omega arith)) ∙ d .before .before .before .before .before .before .loop .inv)
-    (λ c. omega (arith, c .before .before .before .token-at .ensures .1 (c .before .before .if1 .left)))
+    sym (names-unknown _ _ _ _ (d .before .before .before .token-at .ensures) (d .before .before .if1 .left) (sym (d .before .is-lock .ensures) ∙ d .if2 .taken) _ _ _ (c .before .before .before .token-at2 .ensures) (c .before .before .whole-of .ensures) (c .before .rank-in .ensures) (c .if3 .taken) _ (omega arith)) ∙ d .before .before .before .before .before .before .loop .inv)
+    (λ c.
+    let e = c .before .before in
+    let b = e .before .before .before .before in
+    omega (arith, lies-inside (b .before .args .set .now) (b .loop .p) (e .before .token-at .ensures) (e .if1 .left)))
     (λ c. omega arith)
     (λ c. omega arith)
     (λ c.
     let b = c .before .before .before .before .before in
-    ⊎-elim (λ w. sym (names-lock _ _ _ _ (c .before .before .before .token-at .ensures .0) (c .before .before .if1 .left) (sym (c .before .is-lock .ensures) ∙ w .0 .taken) _ _ _ (w .2 .ensures .0) (w .3 .ensures) (w .4 .ensures) (w .5 .left) (b .before .loop .left) (omega arith)) ∙ b .before .loop .inv)
-    (λ w. sym (names-other _ _ _ _ (c .before .before .before .token-at .ensures .0) (c .before .before .if1 .left) (sym (c .before .is-lock .ensures) ∙ w .left) (b .before .loop .left) (omega arith)) ∙ b .before .loop .inv)
+    ⊎-elim (λ w. sym (names-lock _ _ _ _ (c .before .before .before .token-at .ensures) (c .before .before .if1 .left) (sym (c .before .is-lock .ensures) ∙ w .0 .taken) _ _ _ (w .2 .ensures) (w .3 .ensures) (w .4 .ensures) (w .5 .left) (b .before .loop .left) (omega arith)) ∙ b .before .loop .inv)
+    (λ w. sym (names-other _ _ _ _ (c .before .before .before .token-at .ensures) (c .before .before .if1 .left) (sym (c .before .is-lock .ensures) ∙ w .left) (b .before .loop .left) (omega arith)) ∙ b .before .loop .inv)
     (c .if2 .came))
     (λ c. sym (names-none _ _ _ _ (omega arith)) ∙ c .before .loop .inv))

@@ -2,7 +2,8 @@
 use borrow.Author.Needs.{needs}
 use borrow.Author.Tests.{not-true, not-false}
 use mathlib.Core.Path.{sym, _∙_}
-use Rattle.engine.proofs.SetLaws.{read-count, named-not, named-all}
+use Rattle.engine.specs.SetCountLaws.{read-count}
+use Rattle.engine.proofs.SetLaws.{named-not, named-all}
 use Rattle.engine.proofs.set.sound_lines.Statement.{statement}
 use Rattle.engine.proofs.set.sound_lines.Tie as tie
 

@@ -4,16 +4,17 @@ use borrow.Author.Tests.{not-true, not-false}
 use native.Mathlib.Omega.{arith}
 use mathlib.Core.Path.{_≡_, refl, sym, _∙_}
 use Prim.Native.Nat.{_-_, _≤_}
+use Rattle.tokens.specs.Token.{maxLines}
 use Rattle.engine.specs.Sound.{areFlags}
 use Rattle.engine.proofs.SoundTestLaws.{flags-not, flags-on, flags-none}
 use Rattle.engine.proofs.sound.are_flags.Statement.{statement}
 use Rattle.engine.proofs.sound.are_flags.Tie as tie
 
 abbrev Inv-loop : tie.InvT-loop
-Inv-loop count locked cancelled memory k₀ k = (areFlags count locked cancelled memory (32 - k) k ≡ areFlags count locked cancelled memory 32 0) × (k ≤ 32)
+Inv-loop count locked cancelled memory k₀ k = (areFlags count locked cancelled memory (maxLines - k) k ≡ areFlags count locked cancelled memory maxLines 0) × (k ≤ maxLines)
 
 abbrev μ-loop : tie.MeasureT-loop
-μ-loop count locked cancelled memory k₀ k = 32 - k
+μ-loop count locked cancelled memory k₀ k = maxLines - k
 
 pub are-flags-spec : {M : Type 1} → statement M
 are-flags-spec =

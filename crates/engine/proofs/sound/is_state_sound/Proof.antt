@@ -4,7 +4,8 @@ use borrow.Author.Tests.{not-true, not-false}
 use mathlib.Core.Path.{_≡_, sym, _∙_}
 use mathlib.Core.Bool.{true}
 use Rattle.engine.specs.declared.state.State.{State}
-use Rattle.engine.specs.Sound.{allRanged, areCells, isFifoSound, stateSound}
+use Rattle.engine.specs.State.{fifos}
+use Rattle.engine.specs.Sound.{allRanged, areCells, areFifos, stateSound}
 use Rattle.engine.proofs.sound.is_state_sound.Statement.{statement}
 use Rattle.engine.proofs.sound.is_state_sound.Tie as tie
 
@@ -24,26 +25,8 @@ ok2 c = sym (c .before .are-cells .ensures) ∙ not-false _ (c .if2 .left)
 abbrev state3 : tie.Else3 → State
 state3 c = state2 (c .before .before .before .before)
 
-ok3 : (c : tie.Else3) → isFifoSound (state3 c .r) (state3 c .cells) 0 ≡ true
-ok3 c = sym (c .before .is-fifo-sound .ensures) ∙ not-false _ (c .if3 .left)
-
-abbrev state4 : tie.Else4 → State
-state4 c = state3 (c .before .before .before .before)
-
-ok4 : (c : tie.Else4) → isFifoSound (state4 c .r) (state4 c .cells) 1 ≡ true
-ok4 c = sym (c .before .is-fifo-sound2 .ensures) ∙ not-false _ (c .if4 .left)
-
-abbrev state5 : tie.Else5 → State
-state5 c = state4 (c .before .before .before .before)
-
-ok5 : (c : tie.Else5) → isFifoSound (state5 c .r) (state5 c .cells) 2 ≡ true
-ok5 c = sym (c .before .is-fifo-sound3 .ensures) ∙ not-false _ (c .if5 .left)
-
-abbrev state6 : tie.Else6 → State
-state6 c = state5 (c .before .before .before .before)
-
-ok6 : (c : tie.Else6) → isFifoSound (state6 c .r) (state6 c .cells) 3 ≡ true
-ok6 c = sym (c .before .is-fifo-sound4 .ensures) ∙ not-false _ (c .if6 .left)
+ok3 : (c : tie.Else3) → areFifos (state3 c .r) (state3 c .cells) fifos 0 ≡ true
+ok3 c = sym (c .before .are-fifos .ensures) ∙ not-false _ (c .if3 .left)
 
 pub is-state-sound-spec : {M : Type 1} → statement M
 unfolding stateSound
@@ -57,12 +40,9 @@ is-state-sound-spec =
     (λ c κs. search needs)
     (λ c. simp (stateSound, ok1 (c .before .before .before .before), sym (c .before .are-cells .ensures) ∙ not-true _ (c .if2 .taken)))
     (λ c κs. search needs)
-    (λ c. simp (stateSound, ok1 (c .before .before .before .before .before .before .before .before), ok2 (c .before .before .before .before), sym (c .before .is-fifo-sound .ensures) ∙ not-true _ (c .if3 .taken)))
+    (λ c. simp (stateSound, ok1 (c .before .before .before .before .before .before .before .before), ok2 (c .before .before .before .before), sym (c .before .are-fifos .ensures) ∙ not-true _ (c .if3 .taken)))
     (λ c κs. search needs)
-    (λ c. simp (stateSound, ok1 (c .before .before .before .before .before .before .before .before .before .before .before .before), ok2 (c .before .before .before .before .before .before .before .before), ok3 (c .before .before .before .before), sym (c .before .is-fifo-sound2 .ensures) ∙ not-true _ (c .if4 .taken)))
-    (λ c κs. search needs)
-    (λ c. simp (stateSound, ok1 (c .before .before .before .before .before .before .before .before .before .before .before .before .before .before .before .before), ok2 (c .before .before .before .before .before .before .before .before .before .before .before .before), ok3 (c .before .before .before .before .before .before .before .before), ok4 (c .before .before .before .before), sym (c .before .is-fifo-sound3 .ensures) ∙ not-true _ (c .if5 .taken)))
-    (λ c κs. search needs)
-    (λ c. simp (stateSound, ok1 (c .before .before .before .before .before .before .before .before .before .before .before .before .before .before .before .before .before .before .before .before), ok2 (c .before .before .before .before .before .before .before .before .before .before .before .before .before .before .before .before), ok3 (c .before .before .before .before .before .before .before .before .before .before .before .before), ok4 (c .before .before .before .before .before .before .before .before), ok5 (c .before .before .before .before), sym (c .before .is-fifo-sound4 .ensures) ∙ not-true _ (c .if6 .taken)))
-    (λ c κs. search needs)
-    (λ c. simp (stateSound, ok1 (c .before .before .before .before .before .before .before .before .before .before .before .before .before .before .before .before .before .before .before .before .before .before .before .before), ok2 (c .before .before .before .before .before .before .before .before .before .before .before .before .before .before .before .before .before .before .before .before), ok3 (c .before .before .before .before .before .before .before .before .before .before .before .before .before .before .before .before), ok4 (c .before .before .before .before .before .before .before .before .before .before .before .before), ok5 (c .before .before .before .before .before .before .before .before), ok6 (c .before .before .before .before)) (c .are-flags .ensures)))
+    (λ c.
+    let f = c .before .before .before .before in
+    let e = f .before .before .before .before in
+    simp (stateSound, ok1 (e .before .before .before .before), ok2 e, ok3 f) (c .are-flags .ensures)))

@@ -2,13 +2,14 @@
 use borrow.Author.Needs.{needs}
 use borrow.Author.Tests.{not-true, not-false}
 use mathlib.Core.Path.{refl}
+use Prim.Native.Nat.{_+_}
 use native.Mathlib.Omega.{arith}
 use denote.Ref.{now}
+use Rattle.tokens.specs.Token.{maxActions}
 use Rattle.engine.specs.Actions.{actionsOf}
 use Rattle.engine.specs.Turn.{doTurn, counted}
 use Rattle.engine.specs.ActionAnswers.{worldOf}
-use Rattle.engine.proofs.ActionsLaws.{with-room}
-use Rattle.engine.proofs.TurnLaws.{done-turned}
+use Rattle.engine.proofs.TurnLaws.{next-bit, word-fits, same-turn, done-turned}
 use Rattle.engine.proofs.turn.act.Statement.{statement}
 use Rattle.engine.proofs.turn.act.Tie as tie
 
@@ -18,18 +19,20 @@ act-spec =
     tie.close
     (tie.spec
     (λ c κs. search needs)
-    (λ c. (λ k es automatic e. rw (not-true (c .before .before .args .yes) (c .before .if1 .taken), c .did-all .ensures) (refl, refl), rw (c .did-all .ensures) (omega arith, omega arith)))
-    (λ c. search needs)
+    (λ c. let s = c .before .before in (λ es automatic. rw (not-true (s .args .yes) (c .before .if1 .taken), c .did-all .ensures) (refl, refl), rw (c .did-all .ensures) (same-turn (s .args .k) (s .args .flags) (s .pre .1))))
+    (λ c κs. search needs)
+    (λ c. let s = c .before .before .before in omega (arith, c .before .line-bit .ensures, next-bit (s .args .k), word-fits (s .args .k + 1) (omega arith)))
     (λ c κs. search needs)
     (λ c.
-    let i = c .before .before .before .before .before in
+    let b = c .before .before .before .before .before in
+    let i = b .before in
     let a = i .before .args in
     let d = c .actions in
     let o = d .last .1 .1 .1 in (
-      λ k es automatic e.
+      λ es automatic.
           rw (not-false (a .yes) (i .if1 .left))
           (done-turned (d .result) (o .0) (o .1 .0) (o .1 .1 .0)
-          (actionsOf (now (a .set)) (now (a .numbers)) (now (a .cancelled)) (a .l .number) 8 (counted (worldOf (now (a .r)) (now (a .cells)) (now (a .out)) (a .flags)) k) (a .l .actions))
-          es (rw (with-room (a .flags .count) _ (omega arith), e) at (d .ensures .0))),
-      (omega arith, omega (arith, d .ensures .1 .1)),
+          (actionsOf (now (a .set)) (now (a .numbers)) (now (a .cancelled)) (a .l .number) maxActions (counted (worldOf (now (a .r)) (now (a .cells)) (now (a .out)) (a .flags)) (a .k)) (a .l .actions))
+          es (rw (b .line-bit .ensures) at (d .ensures .0))),
+      (omega arith, omega (arith, d .ensures .1 .1, b .line-bit .ensures, next-bit (a .k))),
     )))

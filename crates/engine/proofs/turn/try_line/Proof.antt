@@ -19,7 +19,7 @@ use Rattle.engine.specs.Turn.{worked}
 use Rattle.engine.specs.Keyword.{tries, acts, remembers}
 use Rattle.engine.specs.ActionAnswers.{worldOf}
 use Rattle.engine.proofs.ActionAnswerLaws.{value-good, value-stop}
-use Rattle.engine.proofs.TurnLaws.{room, untried, stops, tried-so}
+use Rattle.engine.proofs.TurnLaws.{same-turn, untried, stops, tried-so}
 use Rattle.engine.proofs.turn.try_line.Statement.{statement}
 use Rattle.engine.proofs.turn.try_line.Tie as tie
 
@@ -51,13 +51,13 @@ try-line-spec =
     (λ c. search needs)
     (λ c κs. search needs)
     (λ c κs. search needs)
-    (λ c κs. let p = c .before .before .before .before .before .before .before .pre in (omega arith, room _ (p .0) (p .1 .0) (p .1 .1 .1)))
+    (λ c κs. search needs)
     (λ c.
     let m = c .before .before .before .before in
     let n = m .before in
     let s = n .before .before .before in
     let a = s .args in
-    (λ automatic. rw (untried (now (a .set)) (now (a .numbers)) (now (a .cancelled)) automatic (a .l) (a .k) (world s) (not-tried n)) (rw (m .acts-now .ensures) at (c .act .ensures .0 (a .k) [] automatic (s .pre .1 .0))), c .act .ensures .1))
+    (λ automatic. rw (untried (now (a .set)) (now (a .numbers)) (now (a .cancelled)) automatic (a .l) (a .k) (world s) (not-tried n)) (rw (m .acts-now .ensures) at (c .act .ensures .0 [] automatic)), c .act .ensures .1))
     (λ c κs. search needs)
     (λ c κs. search needs)
     (λ c κs. search needs)
@@ -66,12 +66,12 @@ try-line-spec =
     let n = i .before .before .before .before in
     let s = n .before .before .before in
     let a = s .args in
-    (λ automatic. rw (stops (now (a .set)) (now (a .numbers)) (now (a .cancelled)) automatic (a .l) (a .k) (world s) (tried n) (failed i), c .not-done .ensures) (refl, c .before .alarm-of .ensures ∙ ap alarmOf (back w32 (record { sfits = c .before .before .struct-told .given .1 .0 .1 }))), rw (c .not-done .ensures) (omega arith, omega arith)))
+    (λ automatic. rw (stops (now (a .set)) (now (a .numbers)) (now (a .cancelled)) automatic (a .l) (a .k) (world s) (tried n) (failed i), c .not-done .ensures) (refl, c .before .alarm-of .ensures ∙ ap alarmOf (back w32 (record { sfits = c .before .before .struct-told .given .1 .0 .1 }))), rw (c .not-done .ensures) (same-turn (a .k) (a .flags) (s .pre .1))))
     (λ c κs. search needs)
     (λ c κs. search needs)
     (λ c. search needs)
     (λ c κs. search needs)
-    (λ c κs. let p = c .before .before .before .before .before .before .before .before .before .before .before .before .before .before .pre in (omega arith, room _ (p .0) (p .1 .0) (p .1 .1 .1)))
+    (λ c κs. search needs)
     (λ c.
     let j = c .before .before .before .before in
     let m = j .before in
@@ -83,4 +83,4 @@ try-line-spec =
     let y = yes q in
     let u = j .acts-now2 .ensures ∙ ap (acts (a .l .keyword) (getD (a .flags .memory) (a .k) false)) y in
     let v = m .remembers-now .ensures ∙ ap (remembers (a .l .keyword) (getD (a .flags .memory) (a .k) false)) y in
-    (λ automatic. rw (tried-so (now (a .set)) (now (a .numbers)) (now (a .cancelled)) automatic (a .l) (a .k) (world s) (tried n) (gave i)) (rw (u, v) at (c .act2 .ensures .0 (a .k) (worked (a .k) (isYes (i .before .condition .result .value)) ∷ []) automatic (s .pre .1 .0))), c .act2 .ensures .1)))
+    (λ automatic. rw (tried-so (now (a .set)) (now (a .numbers)) (now (a .cancelled)) automatic (a .l) (a .k) (world s) (tried n) (gave i)) (rw (u, v) at (c .act2 .ensures .0 (worked (a .k) (isYes (i .before .condition .result .value)) ∷ []) automatic)), c .act2 .ensures .1)))

@@ -5,6 +5,7 @@ use mathlib.Core.Path.{refl}
 use mathlib.Core.Bool.{_||_}
 use native.Mathlib.Omega.{arith}
 use Rattle.engine.specs.Turn.{takesTurn, turnOf}
+use Rattle.engine.proofs.TurnLaws.{same-turn}
 use Rattle.engine.proofs.turn.turn.Statement.{statement}
 use Rattle.engine.proofs.turn.turn.Tie as tie
 
@@ -15,12 +16,12 @@ turn-spec =
     (tie.spec
     (λ c. search needs)
     (λ c κs. search needs)
-    (λ c. (simp (turnOf, takesTurn, c .before .if1 .taken, c .did-all .ensures) (refl, refl), rw (c .did-all .ensures) (omega arith, omega arith)))
+    (λ c. (simp (turnOf, takesTurn, c .before .if1 .taken, c .did-all .ensures) (refl, refl), let s = c .before .before .before in rw (c .did-all .ensures) (same-turn (s .args .k) (s .args .flags) (s .pre .1))))
     (λ c. search needs)
     (λ c κs. search needs)
-    (λ c. (simp (turnOf, takesTurn, c .before .before .before .if1 .left, c .before .if2 .taken, c .did-all2 .ensures) (refl, refl), rw (c .did-all2 .ensures) (omega arith, omega arith)))
+    (λ c. (simp (turnOf, takesTurn, c .before .before .before .if1 .left, c .before .if2 .taken, c .did-all2 .ensures) (refl, refl), let s = c .before .before .before .before .before in rw (c .did-all2 .ensures) (same-turn (s .args .k) (s .args .flags) (s .pre .1))))
     (λ c κs. search needs)
-    (λ c. let i = c .before .before .before in let a = i .before .before .before .before .args in (simp (turnOf, takesTurn, i .before .before .if1 .left, i .if2 .left, not-true (a .l .ids || a .automatic) (c .before .if3 .taken), c .did-all3 .ensures) (refl, refl), rw (c .did-all3 .ensures) (omega arith, omega arith)))
+    (λ c. let i = c .before .before .before in let a = i .before .before .before .before .args in (simp (turnOf, takesTurn, i .before .before .if1 .left, i .if2 .left, not-true (a .l .ids || a .automatic) (c .before .if3 .taken), c .did-all3 .ensures) (refl, refl), rw (c .did-all3 .ensures) (same-turn (a .k) (a .flags) (i .before .before .before .before .pre .1))))
     (λ c κs. search needs)
     (λ c.
     let i = c .before .before .before .before in

@@ -8,15 +8,17 @@ use mir.Syntax.{w32}
 use Rattle.values.specs.Value.{wholeUnits, outputOf}
 use Rattle.values.proofs.Signed.{back}
 use Rattle.tokens.proofs.Indices.{last-inside}
-use Rattle.working.proofs.VariableCells.{cell-inside}
+use Rattle.working.specs.Variables.{cellCount}
+use Rattle.working.specs.VariableLaws.{cell-inside}
+use Rattle.engine.specs.State.{timerCount}
 use Rattle.engine.specs.Write.{writeCell}
 use Rattle.engine.proofs.write.write_cell.Statement.{statement}
 use Rattle.engine.proofs.write.write_cell.Tie as tie
 
-cell-fits : (c : tie.After-cell-of) → c .cell-of .result < 122
+cell-fits : (c : tie.After-cell-of) → c .cell-of .result < cellCount
 cell-fits c = let p = c .before .pre in rw (c .cell-of .ensures) (cell-inside _ _ (p .1 .1) (p .1 .0) (p .0))
 
-timer-fits : (c : tie.Else4) → let s = c .before .before .before .before .before in s .args .i < 8
+timer-fits : (c : tie.Else4) → let s = c .before .before .before .before .before in s .args .i < timerCount
 timer-fits c = omega (arith, rw (c .if4 .left) at (last-inside _ _ (c .before .before .before .before .before .pre .0)))
 
 pub write-cell-spec : {M : Type 1} → statement M
@@ -61,16 +63,8 @@ write-cell-spec =
     (λ c.
     let s = c .before .before .before .before in
     simp (writeCell, ne-eqb _ _ (s .if1 .left), ne-eqb _ _ (c .before .before .before .if2 .left), ne-eqb _ _ (c .before .before .if3 .left), ne-eqb _ _ (c .before .if4 .taken), c .not-written2 .ensures) (refl, refl))
-    (λ c. omega (arith, cell-fits (c .before .before .before .before)))
-    (λ c. cell-fits (c .before .before .before .before))
-    (λ c. omega (arith, timer-fits (c .before)))
-    (λ c κs. search needs)
-    (λ c. omega (arith, cell-fits (c .before .before .before .before .before .before .before)))
-    (λ c. cell-fits (c .before .before .before .before .before .before .before))
-    (λ c. omega (arith, timer-fits (c .before .before .before)))
-    (λ c κs. search needs)
+    (λ c κs. let e = c .before in (cell-fits (e .before .before .before .before), timer-fits e))
     (λ c.
-    let w = c .before .before in
-    let s = w .before .before .before .before .before .before in
-    let e = rw (back w32 (record { sfits = w .before .before2 .given }), back w32 (s .before .fits .v)) at (w .written .ensures) in
-    rw (c .written-so4 .ensures, back w32 (record { sfits = c .before .struct-told .given .0 .1 .1 .0 .1 }), e, s .cell-of .ensures, w .before .before .if4 .left) (refl, (refl, refl))))
+    let e = c .before .before in
+    let s = e .before .before .before .before in
+    rw (e .if4 .left) (rw (s .cell-of .ensures, back w32 (s .before .fits .v), e .if4 .left) at (c .write-timer .ensures))))

@@ -8,7 +8,6 @@ use Prim.Native.Nat.{_+_, _-_, _≤_}
 use lib.ListN.{length, drop}
 use denote.Ref.{now}
 use Rattle.text.specs.Lines.{textLines, bodies, isBlank, numbered, tokenLines}
-use Rattle.reader.specs.StoredTokensLaws.{count-is, count-none}
 use Rattle.reader.proofs.TokenLineLaws.{lines-none, line-inside, part-is, lines-step, count-blank, count-full}
 use Rattle.reader.proofs.line_count.count_lines.Statement.{statement}
 use Rattle.reader.proofs.line_count.count_lines.Tie as tie
@@ -20,8 +19,8 @@ abbrev μ-loop : tie.MeasureT-loop
 μ-loop text n₀ i₀ n i = length text + 1 - i
 
 -- the line at hand stands in the text
-inside : (c : tie.After-line-bounds Inv-loop μ-loop) → let b = c .line-bounds .result in (c .before .before .loop .i ≤ b .body) × (b .body ≤ b .end) × (b .end ≤ length (now (c .before .before .before .before .before .args .text)))
-inside c = let g = line-inside (now (c .before .before .before .before .before .args .text)) (c .before .before .loop .i) _ (c .line-bounds .ensures) (omega arith) in (g .0, g .1, g .2)
+inside : (c : tie.After-line-bounds Inv-loop μ-loop) → let b = c .line-bounds .result in (c .before .before .loop .i ≤ b .body) × (b .body ≤ b .end) × (b .end ≤ length (now (c .before .before .before .before .args .text)))
+inside c = let g = line-inside (now (c .before .before .before .before .args .text)) (c .before .before .loop .i) _ (c .line-bounds .ensures) (omega arith) in (g .0, g .1, g .2)
 
 pub count-lines-spec : {M : Type 1} → statement M
 unfolding tokenLines
@@ -30,7 +29,6 @@ count-lines-spec =
     (tie.spec
     Inv-loop
     μ-loop
-    (λ c. sym (count-none _ (c .if1 .taken)))
     (λ c. (omega arith, omega arith, omega arith))
     (λ c κs. search needs)
     (λ c. inside c .0)
@@ -43,9 +41,9 @@ count-lines-spec =
     (λ c.
     let l = c .before .before .before .before in
     let b = l .before .before in
-    let t = now (b .before .before .before .args .text) in
+    let t = now (b .before .before .args .text) in
     let e = ap length (lines-step t (b .loop .i) _ (l .line-bounds .ensures) 1) in
     let p = ap isBlank (sym (part-is t (b .loop .i) _ (l .line-bounds .ensures))) ∙ sym (c .before .before .is-blank .ensures) in
     let g = inside l in
-    ⊎-elim (λ w. let f = e ∙ count-full _ _ (p ∙ not-true _ (w .0 .taken)) in (omega arith, omega arith, omega arith)) (λ w. let f = e ∙ count-blank _ _ (p ∙ not-false _ (w .0 .left)) in (omega arith, omega arith, omega arith)) (c .before .if2 .came))
-    (λ c. let b = c .before in let e = ap length (lines-none (now (b .before .before .before .args .text)) (b .loop .i) (omega arith) 1) in let g = count-is (now (b .before .before .before .args .text)) (omega arith) in omega arith))
+    ⊎-elim (λ w. let f = e ∙ count-full _ _ (p ∙ not-true _ (w .0 .taken)) in (omega arith, omega arith, omega arith)) (λ w. let f = e ∙ count-blank _ _ (p ∙ not-false _ (w .0 .left)) in (omega arith, omega arith, omega arith)) (c .before .if1 .came))
+    (λ c. let b = c .before in let e = ap length (lines-none (now (b .before .before .args .text)) (b .loop .i) (omega arith) 1) in omega arith))

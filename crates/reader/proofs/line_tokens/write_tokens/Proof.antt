@@ -7,16 +7,14 @@ use Prim.Native.Nat.{_+_, _-_, _≤_}
 use lib.ListN.{length, drop}
 use denote.Ref.{now}
 use Rattle.text.specs.Tokens.{tokensOf}
-use Rattle.reader.specs.StoredTokens.{ended}
-use Rattle.text.specs.PutAt.{putAt}
-use Rattle.reader.proofs.TokenLaws.{ends-at, space-at, size-within, none-at, one-at}
-use Rattle.reader.proofs.TokenLaws.{same-written}
+use Rattle.values.specs.PutAt.{putAt}
+use Rattle.reader.proofs.TokenLaws.{ends-at, space-at, size-within, none-at, one-at, same-written}
 use Rattle.reader.proofs.line_tokens.write_tokens.Statement.{statement}
 use Rattle.reader.proofs.line_tokens.write_tokens.Tie as tie
 
 abbrev Inv-loop : tie.InvT-loop
 Inv-loop body s₀ at n₀ i₀ s n i =
-    (putAt s (at + n) (ended (tokensOf (drop i body) .list)) ≡ putAt s₀ at (ended (tokensOf body .list)))
+    (putAt s (at + n) (tokensOf (drop i body) .list) ≡ putAt s₀ at (tokensOf body .list))
     × (tokensOf (drop i body) .good ≡ tokensOf body .good)
     × (n + length (tokensOf (drop i body) .list) ≡ length (tokensOf body .list))
     × (n ≤ i) × (i ≤ length body)
@@ -41,45 +39,42 @@ write-tokens-spec =
     let v = b .loop .inv in
     (rw e at (v .0), rw e at (v .1), rw e at (v .2), omega arith, omega arith))
     (λ c κs. search needs)
-    (λ c. omega arith)
-    (λ c κs. search needs)
     (λ c.
-    let f = c .before .before .before in
+    let f = c .before in
     let b = f .before .before .before .before in
     let t = now (b .before .before .args .body) in
-    let e = none-at t (b .loop .i) (omega arith) (f .before .if1 .left) _ (f .first-token .ensures) (c .before .before .if2 .taken) in
+    let e = none-at t (b .loop .i) (omega arith) (f .before .if1 .left) _ (f .first-token .ensures) (c .if2 .taken) in
     let v = b .loop .inv in
     let l = rw e at (v .2) in
-    (same-written (rw e at (v .1)) (omega arith), c .put .ensures ∙ rw e at (v .0)))
+    (same-written (rw e at (v .1)) (omega arith), rw e at (v .0)))
     (λ c. omega arith)
-    (λ c κs. search needs)
+    (λ c. omega arith)
+    (λ c. omega arith)
     (λ c. omega arith)
     (λ c.
-    let f = c .before .before .before in
+    let f = c .before in
     let b = f .before .before .before .before in
     let t = now (b .before .before .args .body) in
     omega (arith, size-within t (b .loop .i) (omega arith) (f .before .if1 .left) _ (f .first-token .ensures)))
     (λ c.
-    let f = c .before .before .before in
+    let f = c .before in
     let b = f .before .before .before .before in
     let t = now (b .before .before .args .body) in
-    omega (arith, c .before .before .if2 .left, size-within t (b .loop .i) (omega arith) (f .before .if1 .left) _ (f .first-token .ensures)))
+    omega (arith, c .if2 .left, size-within t (b .loop .i) (omega arith) (f .before .if1 .left) _ (f .first-token .ensures)))
     (λ c.
-    let f = c .before .before .before in
+    let f = c .before in
     let b = f .before .before .before .before in
     let t = now (b .before .before .args .body) in
-    let e = one-at t (b .loop .i) (omega arith) (f .before .if1 .left) _ (f .first-token .ensures) (c .before .before .if2 .left) in
+    let e = one-at t (b .loop .i) (omega arith) (f .before .if1 .left) _ (f .first-token .ensures) (c .if2 .left) in
     let w = size-within t (b .loop .i) (omega arith) (f .before .if1 .left) _ (f .first-token .ensures) in
     let v = b .loop .inv in
     let p : b .before .before .args .at + (b .loop .n + 1) ≡ b .before .before .args .at + b .loop .n + 1 = omega arith in
     let l = rw e at (v .2) in
-    (rw (p, c .put2 .ensures) (rw e at (v .0)), rw e at (v .1), omega arith, omega (arith, c .before .before .if2 .left), omega arith))
-    (λ c. omega arith)
-    (λ c κs. search needs)
+    (rw p (rw e at (v .0)), rw e at (v .1), omega arith, omega (arith, c .if2 .left), omega arith))
     (λ c.
-    let b = c .before .before .before in
+    let b = c .before in
     let t = now (b .before .before .args .body) in
     let e = ends-at t (b .loop .i) (omega arith) in
     let v = b .loop .inv in
     let l = rw e at (v .2) in
-    (same-written (rw e at (v .1)) (omega arith), c .put3 .ensures ∙ rw e at (v .0))))
+    (same-written (rw e at (v .1)) (omega arith), rw e at (v .0))))

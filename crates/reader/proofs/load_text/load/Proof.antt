@@ -1,35 +1,53 @@
 -- `load_text::load` meets its contract, by its tests; LoadLaws has what a text comes to.
 use borrow.Author.Needs.{needs}
 use native.Mathlib.Omega.{arith}
-use mathlib.Core.Path.{_≡_, ap, _∙_}
-use mathlib.Core.List.{List}
-use Prim.Native.Nat.{ℕ, _≤_, min}
+use mathlib.Core.Path.{_≡_, sym, _∙_}
+use mathlib.Core.List.{List, []}
+use Prim.Native.Nat.{ℕ, _≤_}
+use lib.ListN.{length}
 use denote.Ref.{now}
+use Rattle.tokens.specs.Token.{maxLines, textSize}
 use Rattle.engine.specs.Set.{emptySet}
-use Rattle.reader.specs.Draft.{Drafted}
-use Rattle.reader.specs.TextDraft.{textDraft}
-use Rattle.reader.proofs.LoadLaws.{text-faulty, text-unknown, text-good, text-count}
+use Rattle.text.specs.Lines.{tokenLines}
+use Rattle.reader.specs.declared.draft.Draft.{Draft}
+use Rattle.reader.specs.Load.{taken, rowsFrom}
+use Rattle.reader.specs.Draft.{rowsIn, Held, Apart}
+use Rattle.reader.proofs.LoadLaws.{text-long, text-many, text-faulty, text-rows, text-unknown, text-good}
 use Rattle.reader.proofs.load_text.load.Statement.{statement}
 use Rattle.reader.proofs.load_text.load.Tie as tie
 
-module _ (c : tie.After-read-text) where
+-- the text, and that the set is cleared
+module _ (c : tie.After-empty-set) where
   abbrev text : List ℕ
-  text = now (c .before .before .before .before .before .args .text)
+  text = now (c .before .before .args .text)
 
-  abbrev drafted : Drafted
-  drafted = record { array = c .read-text .last .1 .0; draft = c .read-text .result }
+  cleared : c .empty-set .result ≡ emptySet
+  cleared = c .empty-set .ensures
 
-  is-draft : drafted ≡ textDraft emptySet text
-  is-draft = rw (c .before .before .empty-set2 .ensures) at (c .read-text .ensures)
+-- it is no longer than a text may be, and has no more lines
+module _ (c : tie.Else2) where
+  abbrev start : tie.After-empty-set
+  start = c .before .before .before
 
-  count-fits : c .read-text .result .count ≤ 32
-  count-fits = let e = ap (λ (x : Drafted). x .draft .count) is-draft in let g = text-count text in omega arith
+  short : length (text start) ≤ textSize
+  short = c .before .before .if1 .left
 
-  all-lines : min (c .read-text .result .count) 32 ≡ c .read-text .result .count
-  all-lines = omega (arith, count-fits)
+  few : length (tokenLines (text start)) ≤ maxLines
+  few = let e = c .before .count-lines .ensures in let l = c .if2 .left in omega arith
 
-  cleared : c .before .before .before .empty-set .result ≡ emptySet
-  cleared = c .before .before .before .empty-set .ensures
+-- its lines are read
+module _ (c : tie.After-read-lines) where
+  abbrev small : tie.Else2
+  small = c .before .before .before .before
+
+  abbrev array : List ℕ
+  array = c .read-lines .last .1 .0
+
+  abbrev draft : Draft
+  draft = c .read-lines .result
+
+  rows : draft .code ≡ 0 → (rowsFrom [] (tokenLines (text (start small))) ≡ taken (rowsIn array draft)) × Held array draft × Apart (rowsIn array draft)
+  rows z = text-rows (text (start small)) (short small) (few small) array draft (c .read-lines .ensures .0) z
 
 pub load-spec : {M : Type 1} → statement M
 load-spec =
@@ -37,26 +55,41 @@ load-spec =
     (tie.spec
     (λ c κs. search needs)
     (λ c κs. search needs)
+    (λ c. let s = c .before .before in let w = text-long (text s) (c .before .if1 .taken) in (c .answered .ensures ∙ w .0, cleared s ∙ w .1))
+    (λ c κs. c .if1 .left)
     (λ c κs. search needs)
+    (λ c.
+    let l = c .before .before in
+    let s = l .before .before in
+    let e = l .count-lines .ensures in
+    let m = c .before .if2 .taken in
+    let w = text-many (text s) (l .before .if1 .left) (omega arith) in
+    (c .answered2 .ensures ∙ w .0, cleared s ∙ w .1))
+    (λ c κs. search needs)
+    (λ c κs. let l = c .before .before .before in (short l, few l, c .before .before .empty-set2 .ensures, cleared (start l)))
     (λ c κs. search needs)
     (λ c.
     let r = c .before .before in
-    let w = text-faulty (text r) (drafted r) (is-draft r) (c .before .if1 .taken) in
-    (c .answered .ensures ∙ w .0, cleared r ∙ w .1))
-    (λ c κs. search needs)
+    let l = small r in
+    let w = text-faulty (text (start l)) (short l) (few l) (array r) (draft r) (r .read-lines .ensures .0) (c .before .if3 .taken) in
+    (c .answered3 .ensures ∙ w .0, r .read-lines .ensures .1 ∙ w .1))
+    (λ c κs. let i = c .before .before in (rows (i .before) (i .if3 .left) .1, i .before .read-lines .ensures .1))
     (λ c κs. search needs)
     (λ c.
     let u = c .before .before in
-    let r = u .before .before .before in
-    let w = text-unknown (text r) (drafted r) (is-draft r) (u .before .before .if1 .left) _ (rw (all-lines r) at (u .first-unknown .ensures)) (c .before .if2 .taken) in
-    (c .answered2 .ensures ∙ w .0, cleared r ∙ w .1))
-    (λ c. omega (arith, count-fits (c .before .before .before .before .before .before)))
-    (λ c κs. search needs)
-    (λ c κs. search needs)
+    let i = u .before .before .before in
+    let r = i .before in
+    let l = small r in
+    let w = text-unknown (text (start l)) (short l) (few l) (rowsIn (array r) (draft r)) (rows r (i .if3 .left) .0) _ (u .first-unknown .ensures .0) (c .before .if4 .taken) in
+    (c .answered4 .ensures ∙ w .0, u .first-unknown .ensures .1 ∙ w .1))
+    (λ c κs. let i = c .before .before .before .before .before .before in let w = rows (i .before) (i .if3 .left) in (w .1, w .2))
     (λ c κs. search needs)
     (λ c.
-    let p = c .before .before .before .before in
-    let u = p .before .before .before .before in
-    let r = u .before .before .before in
-    let w = text-good (text r) (drafted r) (is-draft r) (u .before .before .if1 .left) _ (rw (all-lines r) at (u .first-unknown .ensures)) (p .before .before .before .if2 .left) _ (rw (cleared r) at (rw (p .put .ensures) at (rw (all-lines r) at (c .before .arrange .ensures)))) in
-    (c .answered3 .ensures ∙ w .0, w .1)))
+    let p = c .before in
+    let n = p .before .before .before in
+    let u = n .before in
+    let i = u .before .before .before in
+    let r = i .before in
+    let l = small r in
+    let w = text-good (text (start l)) (short l) (few l) (rowsIn (array r) (draft r)) (rows r (i .if3 .left) .0) _ (u .first-unknown .ensures .0) (n .if4 .left) _ (rw (u .first-unknown .ensures .1) at (p .put-by-number .ensures)) in
+    (c .answered5 .ensures ∙ w .0, w .1)))

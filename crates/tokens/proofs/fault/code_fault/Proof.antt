@@ -4,6 +4,7 @@ use mathlib.Core.Path.{sym}
 use native.Mathlib.Omega.{arith}
 use mathlib.Core.Bool.{_||_}
 use lib.Dec.{eqb}
+use Rattle.values.specs.Codes.{mAlone}
 use Rattle.tokens.specs.Token.{WHEN, EVERY}
 use Rattle.tokens.specs.SingleFault.{codeFault}
 use Rattle.tokens.proofs.SingleFaultLaws.{none-first, outside-first}
@@ -15,6 +16,6 @@ unfolding codeFault
 code-fault-spec =
     tie.close
     (tie.spec
-    (λ c. sym (simp (codeFault, lt-leb _ _ (c .if1 .taken)) (outside-first (eqb (c .before .args .keyword) WHEN || eqb (c .before .args .keyword) EVERY) 9 (omega arith))))
+    (λ c. sym (simp (codeFault, lt-leb _ _ (c .if1 .taken)) (outside-first (eqb (c .before .args .keyword) WHEN || eqb (c .before .args .keyword) EVERY) mAlone (omega arith))))
     (λ c. simp (codeFault, le-leb _ _ (c .before .if1 .left), c .if2 .taken, none-first))
     (λ c. simp (codeFault, le-leb _ _ (c .before .if1 .left), c .if2 .left, none-first)))

@@ -35,11 +35,11 @@ opens-too-many-spec =
     μ-loop
     (λ c. refl)
     (λ c κs. search needs)
-    (λ c. sym (bracket-end _ _ _ _ (c .before .before .loop-test .taken) (c .before .token-at .ensures .0) (c .if1 .taken)) ∙ c .before .before .before .loop .inv)
+    (λ c. sym (bracket-end _ _ _ _ (c .before .before .loop-test .taken) (c .before .token-at .ensures) (c .if1 .taken)) ∙ c .before .before .before .loop .inv)
     (λ c κs. search needs)
     (λ c.
     let s = c .before .before .before .before .before in
-    sym (bracket-deep _ _ _ _ (s .before .loop-test .taken) (s .token-at .ensures .0) (c .before .if3 .taken) (omega arith)) ∙ s .before .before .loop .inv)
+    sym (bracket-deep _ _ _ _ (s .before .loop-test .taken) (s .token-at .ensures) (c .before .if3 .taken) (omega arith)) ∙ s .before .before .loop .inv)
     (λ c. omega arith)
     (λ c. omega arith)
     (λ c. omega arith)
@@ -48,7 +48,7 @@ opens-too-many-spec =
     let b = c .before .is-bracket .ensures in
     let s = c .before .before .before in
     let l = s .before .loop-test .taken in
-    let t = s .token-at .ensures .0 in
+    let t = s .token-at .ensures in
     let i = s .before .before .loop .inv in
     ⊎-elim (λ w. sym (bracket-open _ _ _ _ l t _ (w .1 .taken) (omega (arith, w .2 .left)) (w .3)) ∙ i)
     (⊎-elim (λ w. sym (bracket-close _ _ _ _ l t _ (closes _ b (w .0 .taken) (w .1 .left)) (w .3)) ∙ i)

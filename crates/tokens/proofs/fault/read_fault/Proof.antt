@@ -5,6 +5,7 @@ use mathlib.Core.Path.{sym, _∙_}
 use native.Mathlib.Omega.{arith}
 use mathlib.Core.Bool.{not, _&&_, and-false}
 use lib.Dec.{eqb}
+use Rattle.values.specs.Codes.{readOnly}
 use Rattle.tokens.specs.Token.{isFifo}
 use Rattle.tokens.specs.SingleFault.{readFault}
 use Rattle.tokens.proofs.SingleFaultLaws.{none-first, outside-first}
@@ -17,7 +18,7 @@ read-fault-spec =
     tie.close
     (tie.spec
     (λ c κs. search needs)
-    (λ c. sym (simp (readFault, sym (c .before .is-inside .ensures) ∙ not-true _ (c .if1 .taken)) (outside-first (not (isFifo (c .before .before .args .w) && eqb (c .before .before .args .i) 0)) 8 (omega arith))))
+    (λ c. sym (simp (readFault, sym (c .before .is-inside .ensures) ∙ not-true _ (c .if1 .taken)) (outside-first (not (isFifo (c .before .before .args .w) && eqb (c .before .before .args .i) 0)) readOnly (omega arith))))
     (λ c. simp (readFault, sym (c .before .before .is-inside .ensures) ∙ not-false _ (c .before .if1 .left), ne-eqb _ _ (c .if2 .taken), and-false, none-first))
     (λ c κs. search needs)
     (λ c.

@@ -17,4 +17,4 @@ index-at-spec =
     (λ c. search needs)
     (λ c κs. search needs)
     (λ c κs. search needs)
-    (λ c. c .index-of2 .ensures ∙ ap (indexOf _) (c .before .token-at .ensures .0)))
+    (λ c. c .index-of2 .ensures ∙ ap (indexOf _) (c .before .token-at .ensures)))

@@ -1,6 +1,6 @@
 -- `token::token_at` meets its contract: each return by the tests that led to it.
 use borrow.Author.Needs.{needs}
-use mathlib.Core.Path.{refl, sym}
+use mathlib.Core.Path.{sym}
 use lib.ListN.{List·getD-eq-default}
 use Rattle.tokens.proofs.token.token_at.Statement.{statement}
 use Rattle.tokens.proofs.token.token_at.Tie as tie
@@ -12,4 +12,4 @@ token-at-spec =
     (λ c. search needs)
     (λ c. search needs)
     (λ c. search needs)
-    (λ c. (sym (List·getD-eq-default (c .before .args .set .now) 0 (c .if1 .left)), λ ne. absurd (ne refl))))
+    (λ c. sym (List·getD-eq-default (c .before .args .set .now) 0 (c .if1 .left))))

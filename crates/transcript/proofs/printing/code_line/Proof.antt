@@ -1,9 +1,6 @@
--- `printing::code_line` meets its contract: its parts, one behind the other.
+-- `printing::code_line` meets its contract: a word and numbers.
 use borrow.Author.Needs.{needs}
-use denote.Ref.{now}
-use native.Mathlib.Omega.{arith}
-use Rattle.transcript.specs.Output.{decimal, codeLine}
-use Rattle.transcript.proofs.OutLaws.{in-reach, out-of-reach, put-both, put-on}
+use Rattle.transcript.specs.Output.{codeLine}
 use Rattle.transcript.proofs.printing.code_line.Statement.{statement}
 use Rattle.transcript.proofs.printing.code_line.Tie as tie
 
@@ -12,17 +9,8 @@ unfolding codeLine
 code-line-spec =
     tie.close
     (tie.spec
-    (λ c. let a = c .before .before .args in (out-of-reach (now (a .out)) (a .at) _ (c .if1 .taken), omega arith))
-    (λ c κs. search needs)
-    (λ c κs. search needs)
-    (λ c κs. search needs)
+    (λ c. search needs)
+    (λ c. search needs)
     (λ c κs. search needs)
     (λ c. search needs)
-    (λ c.
-    let d = c .before .before in
-    let b = d .before .before .before .before in
-    let a = b .before .before .before .before in
-    let l = a .before .before .before .before in
-    let i = l .before .before in
-    let s = i .before .before in
-    (rw (in-reach (s .args .at) _ (i .if1 .left)) (put-both (l .put-letter .ensures) (put-on (decimal (s .args .beat)) 32 (a .put-number .ensures .0) (put-on (decimal (s .args .code)) 32 (b .put-number2 .ensures .0) (d .put-number3 .ensures .0)))), search needs)))
+    (λ c. c .before .before .put-line .ensures))

@@ -1,6 +1,7 @@
 -- `session::beat_end` meets its contract: by what the line lends.
 use borrow.Author.Needs.{needs}
-use Rattle.transcript.proofs.StepLaws.{fed, fed-as, lent-some, lent-none, beat-good, beat-ill, error-put}
+use native.Mathlib.Omega.{arith}
+use Rattle.transcript.proofs.StepLaws.{fed, fed-as, lent-some, lent-none, beat-good, beat-ill}
 use Rattle.transcript.proofs.session.beat_end.Statement.{statement}
 use Rattle.transcript.proofs.session.beat_end.Tie as tie
 
@@ -15,10 +16,9 @@ beat-end-spec =
     let p = c .before .before in
     let i = p .before .before in
     fed-as (beat-good t _ _ _ (lent-some _ (i .before .read-lent .ensures) (i .if1 .taken))) (p .work-beat .ensures t))
-    (λ c κs. search needs)
+    (λ c κs. let p = c .before .before .before .before .before .pre in (p .0 .totals .beats, omega (arith, p .1)))
     (λ c. search needs)
     (λ c t.
     let p = c .before .before in
     let i = p .before .before .before in
-    let b = i .before .before .before in
-    fed (beat-ill t _ _ _ (lent-none _ (i .before .read-lent .ensures) (i .if1 .left))) (error-put _ _ (b .pre .0 .totals .beats) (b .pre .1) (p .put-error .ensures))))
+    fed (beat-ill t _ _ _ (lent-none _ (i .before .read-lent .ensures) (i .if1 .left))) (p .put-error .ensures)))

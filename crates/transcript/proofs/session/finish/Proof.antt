@@ -9,7 +9,7 @@ use lib.Seq.{length-take-le}
 use denote.Ref.{now}
 use Rattle.transcript.specs.Machine.{isFit}
 use Rattle.transcript.specs.SessionRoomLaws.{fit-parts}
-use Rattle.transcript.proofs.OutLaws.{put-nothing, reached}
+use Rattle.values.specs.PutLaws.{put-nothing}
 use Rattle.transcript.proofs.WorkLaws.{put-whole, size-within, finish-unfit, finish-text, finish-over, finish-new, finish-last}
 use Rattle.transcript.proofs.session.finish.Statement.{statement}
 use Rattle.transcript.proofs.session.finish.Tie as tie
@@ -36,7 +36,7 @@ finish-spec =
     (λ c.
     let u = c .before .before .before .before in
     let i = u .before .before in
-    put-whole (finish-new _ _ _ (fit (i .before .before)) (i .if3 .left) (sym (u .is-untouched .ensures) ∙ c .before .before .before .if4 .taken)) (reached _ _ (c .put-end .ensures) (omega arith)))
+    put-whole (finish-new _ _ _ (fit (i .before .before)) (i .if3 .left) (sym (u .is-untouched .ensures) ∙ c .before .before .before .if4 .taken)) (c .put-end .ensures))
     (λ c κs. fit-parts _ (fit (c .before .before .before .before .before .before)))
     (λ c.
     let u = c .before .before .before in

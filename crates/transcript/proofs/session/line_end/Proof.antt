@@ -2,7 +2,7 @@
 use borrow.Author.Needs.{needs}
 use native.Mathlib.Omega.{arith}
 use Rattle.transcript.proofs.StepLaws.{alive, fed, fed-as, ends-text, ends-beat, ends-over}
-use Rattle.transcript.proofs.OutLaws.{put-nothing}
+use Rattle.values.specs.PutLaws.{put-nothing}
 use Rattle.transcript.proofs.session.line_end.Statement.{statement}
 use Rattle.transcript.proofs.session.line_end.Tie as tie
 

@@ -1,8 +1,7 @@
 -- `session::open_set` meets its contract: by the code of the load.
 use borrow.Author.Needs.{needs}
-use native.Mathlib.Omega.{arith}
 use Rattle.transcript.proofs.StepLaws.{fed, opens, opens-not}
-use Rattle.transcript.proofs.OutLaws.{put-nothing, reached}
+use Rattle.values.specs.PutLaws.{put-nothing}
 use Rattle.transcript.proofs.session.open_set.Statement.{statement}
 use Rattle.transcript.proofs.session.open_set.Tie as tie
 
@@ -17,7 +16,7 @@ open-set-spec =
     let p = c .before .before in
     let i = p .before .before in
     let l = i .before .load in
-    fed (opens-not m _ _ _ (l .ensures .0) (l .ensures .1) (i .if1 .taken)) (reached _ _ (p .load-line .ensures) (omega arith)))
+    fed (opens-not m _ _ _ (l .ensures .0) (l .ensures .1) (i .if1 .taken)) (p .load-line .ensures))
     (λ c κs. search needs)
     (λ c m.
     let i = c .before in

@@ -7,7 +7,7 @@ use Prim.Native.Nat.{_-_}
 use lib.ListN.{length}
 use Rattle.transcript.specs.Machine.{worked}
 use Rattle.transcript.specs.SessionAnswers.{machineOf}
-use Rattle.transcript.proofs.OutLaws.{put-nothing}
+use Rattle.values.specs.PutLaws.{put-nothing}
 use Rattle.transcript.proofs.WorkLaws.{work-is, unfit-work, end-within, Going, set-out, going-full, going-lives, going-ends, going-on}
 use Rattle.transcript.proofs.session.step.Statement.{statement}
 use Rattle.transcript.proofs.session.step.Tie as tie

@@ -6,7 +6,7 @@ use lib.ListN.{length}
 use lib.Seq.{length-take-le}
 use denote.Ref.{now}
 use Rattle.transcript.proofs.StepLaws.{fed, fed-as, text-star, text-plain}
-use Rattle.transcript.proofs.OutLaws.{put-nothing}
+use Rattle.values.specs.PutLaws.{put-nothing}
 use Rattle.transcript.proofs.session.text_end.Statement.{statement}
 use Rattle.transcript.proofs.session.text_end.Tie as tie
 

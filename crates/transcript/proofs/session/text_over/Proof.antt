@@ -1,8 +1,6 @@
 -- `session::text_over` meets its contract: by the code of the load.
 use borrow.Author.Needs.{needs}
-use native.Mathlib.Omega.{arith}
-use Rattle.transcript.proofs.OutLaws.{reached}
-use Rattle.transcript.proofs.TestLaws.{put-as}
+use Rattle.values.specs.PutLaws.{put-as}
 use Rattle.transcript.proofs.WorkLaws.{over-good, over-not}
 use Rattle.transcript.proofs.session.text_over.Statement.{statement}
 use Rattle.transcript.proofs.session.text_over.Tie as tie
@@ -17,10 +15,10 @@ text-over-spec =
     (λ c m s.
     let p = c .before .before in
     let i = p .before .before in
-    put-as (over-not _ _ (i .before .load .ensures .0) (i .if1 .taken)) (reached _ _ (p .load-line .ensures) (omega arith)))
+    put-as (over-not _ _ (i .before .load .ensures .0) (i .if1 .taken)) (p .load-line .ensures))
     (λ c κs. search needs)
     (λ c. search needs)
     (λ c m s.
     let p = c .before .before in
     let i = p .before .before .before in
-    put-as (over-good _ _ (i .before .load .ensures .0) (i .if1 .left)) (reached _ _ (p .put-end .ensures) (omega arith))))
+    put-as (over-good _ _ (i .before .load .ensures .0) (i .if1 .left)) (p .put-end .ensures)))

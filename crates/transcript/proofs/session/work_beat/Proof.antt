@@ -1,8 +1,9 @@
 -- `session::work_beat` meets its contract: what the beat comes to, and END behind the last.
 use borrow.Author.Needs.{needs}
+use denote.Ref.{now}
 use Rattle.transcript.specs.MaybeLent.{lentIn}
 use Rattle.transcript.proofs.StepLaws.{fed, end-near, beat-last, beat-more}
-use Rattle.transcript.proofs.OutLaws.{put-both, reached}
+use Rattle.values.specs.PutLaws.{put-both}
 use Rattle.transcript.proofs.session.work_beat.Statement.{statement}
 use Rattle.transcript.proofs.session.work_beat.Tie as tie
 
@@ -10,9 +11,12 @@ pub work-beat-spec : {M : Type 1} → statement M
 work-beat-spec =
     tie.close
     (tie.spec
+    (λ c κs. let p = c .before .before .before .pre in (p .0 .totals, p .1))
     (λ c κs. search needs)
-    (λ c κs. search needs)
-    (λ c κs. search needs)
+    (λ c κs.
+    let b = c .before .before .before .before .before .before .before in
+    let a = b .before .before .before .before in
+    end-near (now (a .args .set)) (a .args .session .totals) (lentIn (a .args .lent)) (a .pre .1) (b .tally-beat .ensures .1))
     (λ c. search needs)
     (λ c t.
     let e = c .before .before in
@@ -21,11 +25,11 @@ work-beat-spec =
     let b = r .before .before .before .before in
     let a = b .before .before .before .before in
     let l = lentIn (a .args .lent) in
-    fed (beat-last t _ _ l _ (a .pre .0) (a .pre .1) (b .tally-beat .ensures .0) (r .no-half-line .ensures) (i .if1 .taken))
-    (put-both (b .tally-beat .ensures .1) (reached _ _ (e .put-end .ensures) (end-near t _ _ l _ (a .pre .0) (a .pre .1) (b .tally-beat .ensures .1)))))
+    fed (beat-last t _ _ l (b .tally-beat .ensures .0) (r .no-half-line .ensures) (i .if1 .taken))
+    (put-both (b .tally-beat .ensures .1) (e .put-end .ensures)))
     (λ c. search needs)
     (λ c t.
     let r = c .before .before in
     let b = r .before .before .before .before in
     let a = b .before .before .before .before in
-    fed (beat-more t _ _ (lentIn (a .args .lent)) _ (a .pre .0) (a .pre .1) (b .tally-beat .ensures .0) (r .no-half-line .ensures) (c .if1 .left)) (b .tally-beat .ensures .1)))
+    fed (beat-more t _ _ (lentIn (a .args .lent)) (b .tally-beat .ensures .0) (r .no-half-line .ensures) (c .if1 .left)) (b .tally-beat .ensures .1)))

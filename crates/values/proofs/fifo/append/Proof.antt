@@ -7,14 +7,14 @@ use native.Mathlib.Omega.{arith}
 use lib.ListN.{length}
 use denote.Ref.{now}
 use mir.Syntax.{w32}
-use Rattle.values.specs.Fifo.{appendAnswer, appended}
+use Rattle.values.specs.Fifo.{places, appendAnswer, appended}
 use Rattle.values.proofs.Signed.{back}
 use Rattle.values.proofs.Fit.{unfit, fit, bounds}
 use Rattle.values.proofs.fifo.append.Statement.{statement}
 use Rattle.values.proofs.fifo.append.Tie as tie
 
 -- what is_fit told where there is a place
-place : (c : tie.Else2) → (length (now (c .before .before .before .args .part)) ≡ 16) × (c .before .before .before .args .count ≤ 16)
+place : (c : tie.Else2) → (length (now (c .before .before .before .args .part)) ≡ places) × (c .before .before .before .args .count ≤ places)
 place c = bounds (c .before .before .is-fit .ensures) (c .before .if1 .left)
 
 returns-2 : tie.Need-returns-2

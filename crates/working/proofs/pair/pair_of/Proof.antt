@@ -3,6 +3,7 @@ use borrow.Author.Needs.{needs}
 use mathlib.Core.Path.{ap, _∙_}
 use Prim.Native.Nat.{ℕ, _+_, _*_, _%_}
 use mir.Syntax.{w32}
+use Rattle.tokens.specs.Token.{room}
 use Rattle.values.proofs.Signed.{back}
 use Rattle.values.specs.Complement.{twosComplement}
 use Rattle.working.specs.Pair.{pairOf}
@@ -18,4 +19,4 @@ pair-of-spec =
     (λ c. search needs)
     (λ c. search needs)
     (λ c. search needs)
-    (λ c. let a = c .before .args in ap (λ (n : ℕ). n * 8192 + a .next % 8192) (c .twos-complement .ensures ∙ ap twosComplement (back w32 (c .before .fits .v)))))
+    (λ c. let a = c .before .args in ap (λ (n : ℕ). n * room + a .next % room) (c .twos-complement .ensures ∙ ap twosComplement (back w32 (c .before .fits .v)))))

@@ -3,6 +3,7 @@ use borrow.Author.Needs.{needs}
 use mathlib.Core.Path.{_≡_, ap, _∙_}
 use Prim.Native.Nat.{_-_, _/_, _%_}
 use native.Mathlib.Omega.{arith}
+use Rattle.tokens.specs.Token.{room}
 use Rattle.values.specs.Complement.{signed}
 use Rattle.working.specs.Pair.{valueOf}
 use Rattle.working.proofs.Pairs.{bits-signed}
@@ -20,6 +21,6 @@ value-of-spec =
     (λ c. record { sfits = omega (arith, c .if1 .left) })
     (λ c. bits-signed _)
     (λ c.
-    let n = c .before .args .w / 8192 % 4294967296 in
+    let n = c .before .args .w / room % 4294967296 in
     let e : 4294967295 - (4294967295 - n) ≡ n = omega arith in
     bits-signed _ ∙ ap signed e))

@@ -2,7 +2,7 @@
 use borrow.Author.Needs.{needs}
 use native.Mathlib.Omega.{arith}
 use Rattle.working.specs.Variables.{cellOf}
-use Rattle.working.proofs.VariableCells.{start-most}
+use Rattle.working.specs.VariableLaws.{start-most}
 use Rattle.working.proofs.variables.cell_of.Statement.{statement}
 use Rattle.working.proofs.variables.cell_of.Tie as tie
 

@@ -1,6 +1,6 @@
 -- `variables::count_of` meets its contract: each return by the two tests of the cell.
 use borrow.Author.Needs.{needs}
-use Rattle.working.proofs.VariableCells.{count-fits, count-below, count-above, count-held}
+use Rattle.working.proofs.CountLaws.{count-fits, count-below, count-above, count-held}
 use Rattle.working.proofs.variables.count_of.Statement.{statement}
 use Rattle.working.proofs.variables.count_of.Tie as tie
 

@@ -13,7 +13,7 @@ use Rattle.values.proofs.Signed.{back}
 use Rattle.tokens.specs.Index.{isInside}
 use Rattle.tokens.proofs.Indices.{last-inside}
 use Rattle.working.specs.Variables.{variableValue}
-use Rattle.working.proofs.VariableCells.{cell-inside}
+use Rattle.working.specs.VariableLaws.{cell-inside}
 use Rattle.working.proofs.variables.variable_value.Statement.{statement}
 use Rattle.working.proofs.variables.variable_value.Tie as tie
 

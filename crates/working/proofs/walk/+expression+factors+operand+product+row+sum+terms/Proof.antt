@@ -15,7 +15,7 @@ use Rattle.working.specs.Pair.{pairOf, said}
 use Rattle.working.specs.Working.{valueOver, negated, inverted}
 use Rattle.tokens.proofs.AnswerLaws.{stepped}
 use Rattle.tokens.proofs.Arms.{spent, number-arm, variable-arm, open-arm, minus-arm, not-arm, truth-arm}
-use Rattle.tokens.proofs.Between.{no-end, row-no-end}
+use Rattle.tokens.proofs.Between.{no-end, row-no-end, lies-inside}
 use Rattle.tokens.proofs.Rows.{Kept, row-stops, row-ends, row-spent, row-goes, product-is, product-begins, sum-is, sum-begins, expression-is, expression-stops, rest-compares, rest-rows, rest-none}
 use Rattle.working.proofs.Pairs.{said-stop, said-value, pair-said, alarm-said}
 use Rattle.tokens.proofs.token.is_compare.Reads as is-compare
@@ -89,7 +89,7 @@ unfolding valueOver sumAt expressionAt
     (λ c κs. search needs)
     (λ c κs. search needs)
     (λ c κs. search needs)
-    (λ c. let d = c .before .before .before in omega (arith, d .token-at .ensures .1 (no-end SAME ATLEAST (d .token-at .result) (omega arith) (c .before .before .is-compare .ensures) (c .before .if2 .taken))))
+    (λ c. let d = c .before .before .before in omega (arith, lies-inside (d .before .before .before .before .before .args .set .now) (d .before .before .before .next-of .result) (d .token-at .ensures) (no-end SAME ATLEAST (d .token-at .result) (omega arith) (c .before .before .is-compare .ensures) (c .before .if2 .taken))))
     (λ c κs. omega arith)
     (λ c κs. sym (c .before .before .before .is-compare .ensures) ∙ c .before .before .if2 .taken)
     (λ c.
@@ -97,19 +97,19 @@ unfolding valueOver sumAt expressionAt
     let d = v .before .before .before in
     let n = d .before .before .before in
     expression-is _ _ _ _ _ (n .before .sum .ensures)
-    (rest-compares _ _ _ _ (said-value _ (n .next-of .ensures) (back w32 (record { sfits = v .value-of .ok }) ∙ v .value-of .ensures) (d .before .before .if1 .left)) (d .token-at .ensures .0) (v .before .before .is-compare .ensures) (v .before .if2 .taken) (c .before .sum2 .ensures) (c .join-compare .ensures)))
+    (rest-compares _ _ _ _ (said-value _ (n .next-of .ensures) (back w32 (record { sfits = v .value-of .ok }) ∙ v .value-of .ensures) (d .before .before .if1 .left)) (d .token-at .ensures) (v .before .before .is-compare .ensures) (v .before .if2 .taken) (c .before .sum2 .ensures) (c .join-compare .ensures)))
     (λ c κs. search needs)
     (λ c.
     let e = c .before .before in
     let d = e .before .before in
     let n = d .before .before .before in
-    expression-is _ _ _ _ _ (n .before .sum .ensures) (rest-none _ _ _ _ (said-value _ (n .next-of .ensures) refl (d .before .before .if1 .left)) (d .token-at .ensures .0) (e .before .is-compare .ensures) (e .if2 .left) (c .before .is-logic .ensures) (c .if3 .taken)))
+    expression-is _ _ _ _ _ (n .before .sum .ensures) (rest-none _ _ _ _ (said-value _ (n .next-of .ensures) refl (d .before .before .if1 .left)) (d .token-at .ensures) (e .before .is-compare .ensures) (e .if2 .left) (c .before .is-logic .ensures) (c .if3 .taken)))
     (λ c κs. omega arith)
     (λ c.
     let e = c .before .before .before in
     let d = e .before .before in
     let n = d .before .before .before in
-    expression-is _ _ _ _ _ (n .before .sum .ensures) (rest-rows _ _ _ _ (said-value _ (n .next-of .ensures) refl (d .before .before .if1 .left)) (d .token-at .ensures .0) (e .before .is-compare .ensures) (e .if2 .left) (c .row .ensures))))
+    expression-is _ _ _ _ _ (n .before .sum .ensures) (rest-rows _ _ _ _ (said-value _ (n .next-of .ensures) refl (d .before .before .if1 .left)) (d .token-at .ensures) (e .before .is-compare .ensures) (e .if2 .left) (c .row .ensures))))
     -- factors
     (λ t. factors-lts.spec (_, next-of.Learnt, _, token-at.Learnt, _, is-factor.Learnt, _, value-of.Learnt, _, operand.Post, _, join-factor.Learnt) _ factors.Post factors-Inv (λ tokens r cells w left a₀ rounds₀ a rounds. rounds)
     (λ c. record { is-whole = refl })
@@ -121,9 +121,9 @@ unfolding valueOver sumAt expressionAt
     let d = c .before .before in
     let n = d .before .before .before in
     let i = n .before .before .loop in
-    row-ends (i .inv) (said-value (i .a) (n .next-of .ensures) refl (d .before .before .if1 .left)) (d .token-at .ensures .0) (c .before .is-factor .ensures) (c .if2 .taken))
+    row-ends (i .inv) (said-value (i .a) (n .next-of .ensures) refl (d .before .before .if1 .left)) (d .token-at .ensures) (c .before .is-factor .ensures) (c .if2 .taken))
     (λ c κs. search needs)
-    (λ c. let d = c .before .before .before in omega (arith, d .token-at .ensures .1 (no-end TIMES OVER (d .token-at .result) (omega arith) (c .before .before .is-factor .ensures) (not-false _ (c .before .if2 .left)))))
+    (λ c. let d = c .before .before .before in omega (arith, lies-inside (d .before .before .before .before .before .before .args .set .now) (d .before .before .before .next-of .result) (d .token-at .ensures) (no-end TIMES OVER (d .token-at .result) (omega arith) (c .before .before .is-factor .ensures) (not-false _ (c .before .if2 .left)))))
     (λ c κs. omega arith)
     (λ c κs. sym (c .before .before .before .is-factor .ensures) ∙ not-false _ (c .before .before .if2 .left))
     (λ c. omega arith)
@@ -133,7 +133,7 @@ unfolding valueOver sumAt expressionAt
     let d = v .before .before .before in
     let n = d .before .before .before in
     let i = n .before .before .loop in
-    row-goes (i .inv) (said-value (i .a) (n .next-of .ensures) (back w32 (record { sfits = v .value-of .ok }) ∙ v .value-of .ensures) (d .before .before .if1 .left)) (d .token-at .ensures .0) (v .before .before .is-factor .ensures) (v .before .if2 .left) (omega arith) (c .before .operand .ensures) (c .join-factor .ensures))
+    row-goes (i .inv) (said-value (i .a) (n .next-of .ensures) (back w32 (record { sfits = v .value-of .ok }) ∙ v .value-of .ensures) (d .before .before .if1 .left)) (d .token-at .ensures) (v .before .before .is-factor .ensures) (v .before .if2 .left) (omega arith) (c .before .operand .ensures) (c .join-factor .ensures))
     (λ c. row-spent (c .before .loop .inv) (omega arith)))
     -- operand
     (λ t. operand-lts.spec (_, alarm-of.Learnt, _, token-at.Learnt, _, pair-of.Learnt, _, is-variable.Learnt, _, variable.Learnt, _, expression.Post, _, closed.Learnt, _, operand.Post, _, negated-pair.Learnt, _, inverted-pair.Learnt, _, truth.Learnt) _ operand.Post
@@ -141,43 +141,43 @@ unfolding valueOver sumAt expressionAt
     (λ c. ap said (c .alarm-of .ensures) ∙ alarm-said _ (omega arith) ∙ sym (spent _ _ _ _ (c .before .if1 .taken)))
     (λ c κs. search needs)
     (λ c. search needs)
-    (λ c. omega (arith, c .before .token-at .ensures .1 (λ e. omega arith)))
+    (λ c. omega (arith, lies-inside (c .before .before .before .before .args .set .now) (c .before .before .before .before .args .at) (c .before .token-at .ensures) (λ e. omega arith)))
     (λ c κs. search needs)
     (λ c.
     let d = c .before .before in
     let p = d .before .before .before .args .at + 1 in
     ap said (c .pair-of .ensures ∙ ap (λ (v : ℤ). pairOf v p) (toZ-pos w32 _ (omega arith))) ∙
-    pair-said p (record { sfits = omega arith }) (omega arith) (omega (arith, d .token-at .ensures .1 (λ e. omega arith))) ∙
-    number-arm _ _ _ _ _ (d .before .before .if1 .left) (d .token-at .ensures .0) (c .before .if2 .taken))
+    pair-said p (record { sfits = omega arith }) (omega arith) (omega (arith, lies-inside (d .before .before .before .args .set .now) (d .before .before .before .args .at) (d .token-at .ensures) (λ e. omega arith))) ∙
+    number-arm _ _ _ _ _ (d .before .before .if1 .left) (d .token-at .ensures) (c .before .if2 .taken))
     (λ c κs. search needs)
-    (λ c κs. let d = c .before .before .before in omega (arith, d .token-at .ensures .1 (no-end IN IM (d .token-at .result) (omega arith) (c .before .is-variable .ensures) (c .if3 .taken))))
+    (λ c κs. let d = c .before .before .before in omega (arith, lies-inside (d .before .before .before .args .set .now) (d .before .before .before .args .at) (d .token-at .ensures) (no-end IN IM (d .token-at .result) (omega arith) (c .before .is-variable .ensures) (c .if3 .taken))))
     (λ c.
     let d = c .before .before .before .before in
-    c .variable .ensures ∙ variable-arm _ _ _ _ _ (d .before .before .if1 .left) (d .token-at .ensures .0) (c .before .before .before .if2 .left) (sym (c .before .before .is-variable .ensures) ∙ c .before .if3 .taken))
-    (λ c. omega (arith, c .before .before .before .before .token-at .ensures .1 (λ e. omega arith)))
+    c .variable .ensures ∙ variable-arm _ _ _ _ _ (d .before .before .if1 .left) (d .token-at .ensures) (c .before .before .before .if2 .left) (sym (c .before .before .is-variable .ensures) ∙ c .before .if3 .taken))
+    (λ c. omega (arith, lies-inside (c .before .before .before .before .before .before .before .args .set .now) (c .before .before .before .before .before .before .before .args .at) (c .before .before .before .before .token-at .ensures) (λ e. omega arith)))
     (λ c. omega arith)
     (λ c κs. omega arith)
     (λ c κs. search needs)
     (λ c.
     let d = c .before .before .before .before .before .before in
     let a = d .before .before .before .args in
-    stepped (readClose (a .set .now) (valueOver (a .r .now) (a .cells .now))) _ (c .before .expression .ensures) (c .closed .ensures) (open-arm _ _ _ _ _ (d .before .before .if1 .left) (d .token-at .ensures .0) (c .before .before .if4 .taken)))
-    (λ c. omega (arith, c .before .before .before .before .before .token-at .ensures .1 (λ e. omega arith)))
+    stepped (readClose (a .set .now) (valueOver (a .r .now) (a .cells .now))) _ (c .before .expression .ensures) (c .closed .ensures) (open-arm _ _ _ _ _ (d .before .before .if1 .left) (d .token-at .ensures) (c .before .before .if4 .taken)))
+    (λ c. omega (arith, lies-inside (c .before .before .before .before .before .before .before .before .args .set .now) (c .before .before .before .before .before .before .before .before .args .at) (c .before .before .before .before .before .token-at .ensures) (λ e. omega arith)))
     (λ c. omega arith)
     (λ c κs. omega arith)
     (λ c κs. search needs)
-    (λ c. let d = c .before .before .before .before .before .before .before in stepped negated _ (c .before .operand .ensures) (c .negated-pair .ensures) (minus-arm _ _ _ _ _ (d .before .before .if1 .left) (d .token-at .ensures .0) (c .before .before .if5 .taken)))
-    (λ c. omega (arith, c .before .before .before .before .before .before .token-at .ensures .1 (λ e. omega arith)))
+    (λ c. let d = c .before .before .before .before .before .before .before in stepped negated _ (c .before .operand .ensures) (c .negated-pair .ensures) (minus-arm _ _ _ _ _ (d .before .before .if1 .left) (d .token-at .ensures) (c .before .before .if5 .taken)))
+    (λ c. omega (arith, lies-inside (c .before .before .before .before .before .before .before .before .before .args .set .now) (c .before .before .before .before .before .before .before .before .before .args .at) (c .before .before .before .before .before .before .token-at .ensures) (λ e. omega arith)))
     (λ c. omega arith)
     (λ c κs. omega arith)
     (λ c κs. search needs)
-    (λ c. let d = c .before .before .before .before .before .before .before .before in stepped inverted _ (c .before .operand2 .ensures) (c .inverted-pair .ensures) (not-arm _ _ _ _ _ (d .before .before .if1 .left) (d .token-at .ensures .0) (c .before .before .if6 .taken)))
-    (λ c κs ne. omega (arith, c .before .before .before .before .before .before .token-at .ensures .1 ne))
+    (λ c. let d = c .before .before .before .before .before .before .before .before in stepped inverted _ (c .before .operand2 .ensures) (c .inverted-pair .ensures) (not-arm _ _ _ _ _ (d .before .before .if1 .left) (d .token-at .ensures) (c .before .before .if6 .taken)))
+    (λ c κs ne. omega (arith, lies-inside (c .before .before .before .before .before .before .before .before .before .args .set .now) (c .before .before .before .before .before .before .before .before .before .args .at) (c .before .before .before .before .before .before .token-at .ensures) ne))
     (λ c.
     let i = c .before .before .before .before in
     let d = i .before .before .before in
     c .truth .ensures ∙
-    truth-arm _ _ _ _ _ (d .before .before .if1 .left) (d .token-at .ensures .0) (i .before .before .if2 .left) (sym (i .before .is-variable .ensures) ∙ i .if3 .left) (c .before .before .before .if4 .left) (c .before .before .if5 .left) (c .before .if6 .left)))
+    truth-arm _ _ _ _ _ (d .before .before .if1 .left) (d .token-at .ensures) (i .before .before .if2 .left) (sym (i .before .is-variable .ensures) ∙ i .if3 .left) (c .before .before .before .if4 .left) (c .before .before .if5 .left) (c .before .if6 .left)))
     -- product
     (λ t. product-lts.spec (_, operand.Post, _, next-of.Learnt, _, token-at.Learnt, _, is-factor.Learnt, _, factors.Post) _ product.Post
     (λ c κs. omega arith)
@@ -188,7 +188,7 @@ unfolding valueOver sumAt expressionAt
     (λ c.
     let d = c .before .before in
     let n = d .before .before .before in
-    row-ends (product-begins _ _ _ _ _ (n .before .operand .ensures)) (said-value _ (n .next-of .ensures) refl (d .before .before .if1 .left)) (d .token-at .ensures .0) (c .before .is-factor .ensures) (c .if2 .taken))
+    row-ends (product-begins _ _ _ _ _ (n .before .operand .ensures)) (said-value _ (n .next-of .ensures) refl (d .before .before .if1 .left)) (d .token-at .ensures) (c .before .is-factor .ensures) (c .if2 .taken))
     (λ c κs. omega arith)
     (λ c. product-is _ _ _ _ _ (c .before .before .before .before .before .before .before .operand .ensures) (c .factors .ensures)))
     -- row
@@ -202,9 +202,9 @@ unfolding valueOver sumAt expressionAt
     let d = c .before .before in
     let n = d .before .before .before in
     let i = n .before .before .loop in
-    row-ends (i .inv) (said-value (i .a) (n .next-of .ensures) refl (d .before .before .if1 .left)) (d .token-at .ensures .0) (c .before .is-row .ensures) (c .if2 .taken))
+    row-ends (i .inv) (said-value (i .a) (n .next-of .ensures) refl (d .before .before .if1 .left)) (d .token-at .ensures) (c .before .is-row .ensures) (c .if2 .taken))
     (λ c κs. search needs)
-    (λ c. let d = c .before .before .before in omega (arith, d .token-at .ensures .1 (row-no-end _ (d .token-at .result) (c .before .before .is-row .ensures) (not-false _ (c .before .if2 .left)))))
+    (λ c. let d = c .before .before .before in omega (arith, lies-inside (d .before .before .before .before .before .before .args .set .now) (d .before .before .before .next-of .result) (d .token-at .ensures) (row-no-end _ (d .token-at .result) (c .before .before .is-row .ensures) (not-false _ (c .before .if2 .left)))))
     (λ c κs. omega arith)
     (λ c κs. both _ _ (sym (c .before .before .before .is-row .ensures) ∙ not-false _ (c .before .before .if2 .left)) .0)
     (λ c. omega arith)
@@ -214,7 +214,7 @@ unfolding valueOver sumAt expressionAt
     let d = v .before .before .before in
     let n = d .before .before .before in
     let i = n .before .before .loop in
-    row-goes (i .inv) (said-value (i .a) (n .next-of .ensures) (back w32 (record { sfits = v .value-of .ok }) ∙ v .value-of .ensures) (d .before .before .if1 .left)) (d .token-at .ensures .0) (v .before .before .is-row .ensures) (v .before .if2 .left) (omega arith) (c .before .sum .ensures) (c .join-row .ensures))
+    row-goes (i .inv) (said-value (i .a) (n .next-of .ensures) (back w32 (record { sfits = v .value-of .ok }) ∙ v .value-of .ensures) (d .before .before .if1 .left)) (d .token-at .ensures) (v .before .before .is-row .ensures) (v .before .if2 .left) (omega arith) (c .before .sum .ensures) (c .join-row .ensures))
     (λ c. row-spent (c .before .loop .inv) (omega arith)))
     -- sum
     (λ t. sum-lts.spec (_, product.Post, _, next-of.Learnt, _, token-at.Learnt, _, is-term.Learnt, _, terms.Post) _ sum.Post
@@ -226,7 +226,7 @@ unfolding valueOver sumAt expressionAt
     (λ c.
     let d = c .before .before in
     let n = d .before .before .before in
-    row-ends (sum-begins _ _ _ _ _ (n .before .product .ensures)) (said-value _ (n .next-of .ensures) refl (d .before .before .if1 .left)) (d .token-at .ensures .0) (c .before .is-term .ensures) (c .if2 .taken))
+    row-ends (sum-begins _ _ _ _ _ (n .before .product .ensures)) (said-value _ (n .next-of .ensures) refl (d .before .before .if1 .left)) (d .token-at .ensures) (c .before .is-term .ensures) (c .if2 .taken))
     (λ c κs. omega arith)
     (λ c. sum-is _ _ _ _ _ (c .before .before .before .before .before .before .before .product .ensures) (c .terms .ensures)))
     -- terms
@@ -240,9 +240,9 @@ unfolding valueOver sumAt expressionAt
     let d = c .before .before in
     let n = d .before .before .before in
     let i = n .before .before .loop in
-    row-ends (i .inv) (said-value (i .a) (n .next-of .ensures) refl (d .before .before .if1 .left)) (d .token-at .ensures .0) (c .before .is-term .ensures) (c .if2 .taken))
+    row-ends (i .inv) (said-value (i .a) (n .next-of .ensures) refl (d .before .before .if1 .left)) (d .token-at .ensures) (c .before .is-term .ensures) (c .if2 .taken))
     (λ c κs. search needs)
-    (λ c. let d = c .before .before .before in omega (arith, d .token-at .ensures .1 (no-end PLUS MINUS (d .token-at .result) (omega arith) (c .before .before .is-term .ensures) (not-false _ (c .before .if2 .left)))))
+    (λ c. let d = c .before .before .before in omega (arith, lies-inside (d .before .before .before .before .before .before .args .set .now) (d .before .before .before .next-of .result) (d .token-at .ensures) (no-end PLUS MINUS (d .token-at .result) (omega arith) (c .before .before .is-term .ensures) (not-false _ (c .before .if2 .left)))))
     (λ c κs. omega arith)
     (λ c κs. sym (c .before .before .before .is-term .ensures) ∙ not-false _ (c .before .before .if2 .left))
     (λ c. omega arith)
@@ -252,5 +252,5 @@ unfolding valueOver sumAt expressionAt
     let d = v .before .before .before in
     let n = d .before .before .before in
     let i = n .before .before .loop in
-    row-goes (i .inv) (said-value (i .a) (n .next-of .ensures) (back w32 (record { sfits = v .value-of .ok }) ∙ v .value-of .ensures) (d .before .before .if1 .left)) (d .token-at .ensures .0) (v .before .before .is-term .ensures) (v .before .if2 .left) (omega arith) (c .before .product .ensures) (c .join-term .ensures))
+    row-goes (i .inv) (said-value (i .a) (n .next-of .ensures) (back w32 (record { sfits = v .value-of .ok }) ∙ v .value-of .ensures) (d .before .before .if1 .left)) (d .token-at .ensures) (v .before .before .is-term .ensures) (v .before .if2 .left) (omega arith) (c .before .product .ensures) (c .join-term .ensures))
     (λ c. row-spent (c .before .loop .inv) (omega arith))

@@ -7,6 +7,7 @@ use Rattle.working.specs.Pair.{said}
 use Rattle.working.specs.Working.{valueOver}
 use Rattle.tokens.proofs.Arms.{closes, closes-not}
 use Rattle.working.proofs.Pairs.{passes, enters, alarm-said, next-said}
+use Rattle.tokens.proofs.Between.{lies-inside}
 use Rattle.working.proofs.walk.closed.Statement.{statement}
 use Rattle.working.proofs.walk.closed.Tie as tie
 
@@ -24,11 +25,11 @@ closed-spec =
     let n = d .before .before .before in
     let a = n .before .args in
     enters _ (n .next-of .ensures) refl (readClose (a .set .now) (valueOver (a .r .now) (a .cells .now))) (d .before .before .if1 .left)
-    (ap said (c .alarm-of .ensures) ∙ alarm-said _ (omega arith) ∙ sym (closes-not _ _ _ _ _ (d .token-at .ensures .0) (c .before .if2 .taken))))
-    (λ c. let d = c .before in record { fits = omega (arith, d .before .before .before .next-of .ensures, d .token-at .ensures .1 (λ e. omega arith)) })
+    (ap said (c .alarm-of .ensures) ∙ alarm-said _ (omega arith) ∙ sym (closes-not _ _ _ _ _ (d .token-at .ensures) (c .before .if2 .taken))))
+    (λ c. let d = c .before in record { fits = omega (arith, d .before .before .before .next-of .ensures, lies-inside (d .before .before .before .before .args .set .now) (d .before .before .before .next-of .result) (d .token-at .ensures) (λ e. omega arith)) })
     (λ c.
     let d = c .before in
     let n = d .before .before .before in
     let a = n .before .args in
     enters _ (n .next-of .ensures) refl (readClose (a .set .now) (valueOver (a .r .now) (a .cells .now))) (d .before .before .if1 .left)
-    (next-said (a .a) (n .next-of .ensures) (omega (arith, d .token-at .ensures .1 (λ e. omega arith))) ∙ sym (closes _ _ _ _ _ (d .token-at .ensures .0) (c .if2 .left)))))
+    (next-said (a .a) (n .next-of .ensures) (omega (arith, lies-inside (d .before .before .before .before .args .set .now) (d .before .before .before .next-of .result) (d .token-at .ensures) (λ e. omega arith))) ∙ sym (closes _ _ _ _ _ (d .token-at .ensures) (c .if2 .left)))))

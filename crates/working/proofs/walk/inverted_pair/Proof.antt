@@ -7,7 +7,7 @@ use mir.Syntax.{w32}
 use Rattle.values.proofs.Signed.{back}
 use Rattle.working.specs.Operators.{isYes, yesNo}
 use Rattle.working.specs.Working.{inverted}
-use Rattle.working.proofs.Pairs.{room, passes, enters, pairs}
+use Rattle.working.proofs.Pairs.{in-room, passes, enters, pairs}
 use Rattle.working.proofs.walk.inverted_pair.Statement.{statement}
 use Rattle.working.proofs.walk.inverted_pair.Tie as tie
 
@@ -26,4 +26,4 @@ inverted-pair-spec =
     let v = y .before .before in
     let n = v .before .before in
     enters _ (n .next-of .ensures) (v .value-of .ensures) inverted (v .before .if1 .left)
-    (pairs _ (c .pair-of .ensures) (record { sfits = y .yes-no .ok }) (y .yes-no .ensures ∙ ap (λ (b : Bool). yesNo (not b)) (y .before .is-yes .ensures ∙ ap isYes (back w32 (record { sfits = v .value-of .ok })))) (omega (arith, v .before .if1 .left)) (room _ (n .next-of .ensures)))))
+    (pairs _ (c .pair-of .ensures) (record { sfits = y .yes-no .ok }) (y .yes-no .ensures ∙ ap (λ (b : Bool). yesNo (not b)) (y .before .is-yes .ensures ∙ ap isYes (back w32 (record { sfits = v .value-of .ok })))) (omega (arith, v .before .if1 .left)) (in-room _ (n .next-of .ensures)))))

@@ -1,14 +1,10 @@
 -- `walk::join_compare` meets its contract: an alarm passes through, a value is joined.
 use borrow.Author.Needs.{needs}
-use mathlib.Core.Path.{sym, ap, _∙_}
-use Prim.Native.Nat.{ℕ}
-use native.Mathlib.Omega.{arith}
-use lib.IntN.{ℤ}
-use Rattle.tokens.specs.Descent.{Answer, upTo}
-use Rattle.working.specs.Operators.{yesNo, joinTruths, joinValues}
+use mathlib.Core.Path.{ap, _∙_}
+use Rattle.working.specs.Operators.{yesNo, joinTruths}
 use Rattle.values.proofs.Signed.{both}
-use Rattle.working.proofs.Joins.{compared}
-use Rattle.working.proofs.Pairs.{room, passes, enters, pairs}
+use Rattle.working.proofs.Joins.{compared, join-told}
+use Rattle.working.proofs.Pairs.{passes}
 use Rattle.working.proofs.walk.join_compare.Statement.{statement}
 use Rattle.working.proofs.walk.join_compare.Tie as tie
 
@@ -27,6 +23,6 @@ join-compare-spec =
     let v = y .before .before in
     let n = v .before .before in
     let a = n .before .args in
-    enters _ (n .next-of .ensures) (v .value-of .ensures) (λ (z : ℤ) (q : ℕ). upTo (joinValues (a .op) (a .a) z) q) (v .before .if1 .left)
-    (pairs _ (c .pair-of .ensures) (record { sfits = y .yes-no .ok }) (y .yes-no .ensures ∙ ap yesNo (y .before .join-truths .ensures ∙ both (joinTruths (a .op)) (n .before .fits .a) (record { sfits = v .value-of .ok }))) (omega (arith, v .before .if1 .left)) (room _ (n .next-of .ensures)) ∙
-    ap (λ (x : Answer ℤ). upTo x (n .next-of .result)) (sym (compared (a .op) (a .a) _ (n .before .pre))))))
+    join-told _ _ _ (n .next-of .ensures) (v .before .if1 .left) (v .value-of .ensures) (c .pair-of .ensures) (record { sfits = y .yes-no .ok })
+    (y .yes-no .ensures ∙ ap yesNo (y .before .join-truths .ensures ∙ both (joinTruths (a .op)) (n .before .fits .a) (record { sfits = v .value-of .ok })))
+    (compared (a .op) (a .a) _ (n .before .pre))))

@@ -1,15 +1,8 @@
 -- `walk::join_factor` meets its contract: an alarm passes through, a value is joined.
 use borrow.Author.Needs.{needs}
-use mathlib.Core.Path.{_∙_}
-use Prim.Native.Nat.{ℕ}
-use native.Mathlib.Omega.{arith}
-use lib.IntN.{ℤ}
 use Rattle.values.specs.Value.{productOf, quotientOf}
-use Rattle.tokens.specs.Descent.{upTo}
-use Rattle.working.specs.Operators.{joinValues}
-use Rattle.values.proofs.Signed.{both}
-use Rattle.working.proofs.Joins.{times, over}
-use Rattle.working.proofs.Pairs.{room, passes, enters, gives}
+use Rattle.working.proofs.Joins.{times, over, join-worked}
+use Rattle.working.proofs.Pairs.{passes}
 use Rattle.working.proofs.walk.join_factor.Statement.{statement}
 use Rattle.working.proofs.walk.join_factor.Tie as tie
 
@@ -25,15 +18,11 @@ join-factor-spec =
     (λ c.
     let v = c .before .before in
     let n = v .before .before .before in
-    let a = n .before .args in
-    enters _ (n .next-of .ensures) (v .value-of .ensures) (λ (y : ℤ) (q : ℕ). upTo (joinValues (a .op) (a .a) y) q) (v .before .before .if1 .left)
-    (gives _ (c .worked-pair .ensures .1 (omega (arith, v .before .before .if1 .left), room _ (n .next-of .ensures))) (c .before .product .ensures ∙ both productOf (n .before .fits .a) (record { sfits = v .value-of .ok })) (times (a .op) (a .a) _ (v .before .if2 .taken))))
+    join-worked _ _ _ (n .next-of .ensures) (v .before .before .if1 .left) (v .value-of .ensures) productOf (n .before .fits .a) (record { sfits = v .value-of .ok }) (c .before .product .ensures) (c .worked-pair .ensures .1) (times _ _ _ (v .before .if2 .taken)))
     (λ c κs. search needs)
     (λ c κs. search needs)
     (λ c κs. search needs)
     (λ c.
     let v = c .before .before in
     let n = v .before .before .before in
-    let a = n .before .args in
-    enters _ (n .next-of .ensures) (v .value-of2 .ensures) (λ (y : ℤ) (q : ℕ). upTo (joinValues (a .op) (a .a) y) q) (v .before .before .if1 .left)
-    (gives _ (c .worked-pair2 .ensures .1 (omega (arith, v .before .before .if1 .left), room _ (n .next-of .ensures))) (c .before .quotient .ensures ∙ both quotientOf (n .before .fits .a) (record { sfits = v .value-of2 .ok })) (over (a .op) (a .a) _ (n .before .pre) (v .before .if2 .left)))))
+    join-worked _ _ _ (n .next-of .ensures) (v .before .before .if1 .left) (v .value-of2 .ensures) quotientOf (n .before .fits .a) (record { sfits = v .value-of2 .ok }) (c .before .quotient .ensures) (c .worked-pair2 .ensures .1) (over _ _ _ (n .before .pre) (v .before .if2 .left))))

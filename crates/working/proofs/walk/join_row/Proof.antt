@@ -1,16 +1,13 @@
 -- `walk::join_row` meets its contract: an alarm passes through, a value is joined.
 use borrow.Author.Needs.{needs}
-use mathlib.Core.Path.{_≡_, sym, ap, _∙_}
+use mathlib.Core.Path.{_≡_, ap, _∙_}
 use mathlib.Core.Bool.{Bool}
 use Prim.Native.Nat.{ℕ}
-use native.Mathlib.Omega.{arith}
-use lib.IntN.{ℤ}
 use mir.Syntax.{w32}
 use Rattle.values.proofs.Signed.{back}
-use Rattle.tokens.specs.Descent.{Answer, upTo}
-use Rattle.working.specs.Operators.{yesNo, isYes, joinLogic, joinValues}
-use Rattle.working.proofs.Joins.{in-row}
-use Rattle.working.proofs.Pairs.{room, passes, enters, pairs}
+use Rattle.working.specs.Operators.{yesNo, isYes, joinLogic}
+use Rattle.working.proofs.Joins.{in-row, join-told}
+use Rattle.working.proofs.Pairs.{passes}
 use Rattle.working.proofs.walk.join_row.Statement.{statement}
 use Rattle.working.proofs.walk.join_row.Tie as tie
 
@@ -35,8 +32,6 @@ join-row-spec =
     let v = l .before .before in
     let n = v .before .before .before in
     let a = n .before .args in
-    enters _ (n .next-of .ensures) (v .value-of .ensures) (λ (z : ℤ) (q : ℕ). upTo (joinValues (a .op) (a .a) z) q) (v .before .before .if1 .left)
-    (pairs _ (c .pair-of .ensures) (record { sfits = y .yes-no .ok })
+    join-told _ _ _ (n .next-of .ensures) (v .before .before .if1 .left) (v .value-of .ensures) (c .pair-of .ensures) (record { sfits = y .yes-no .ok })
     (y .yes-no .ensures ∙ ap yesNo (l .join-logic .ensures ∙ same (a .op) (v .before .is-yes .ensures ∙ ap isYes (back w32 (n .before .fits .a))) (l .before .is-yes2 .ensures ∙ ap isYes (back w32 (record { sfits = v .value-of .ok })))))
-    (omega (arith, v .before .before .if1 .left)) (room _ (n .next-of .ensures)) ∙
-    ap (λ (x : Answer ℤ). upTo x (n .next-of .result)) (sym (in-row (a .op) (a .a) _ (n .before .pre))))))
+    (in-row (a .op) (a .a) _ (n .before .pre))))

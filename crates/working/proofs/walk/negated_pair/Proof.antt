@@ -6,7 +6,7 @@ use mir.Syntax.{w32}
 use Rattle.values.specs.Value.{negationOf}
 use Rattle.values.proofs.Signed.{back}
 use Rattle.working.specs.Working.{negated}
-use Rattle.working.proofs.Pairs.{room, passes, enters, gives}
+use Rattle.working.proofs.Pairs.{in-room, passes, enters, gives}
 use Rattle.working.proofs.walk.negated_pair.Statement.{statement}
 use Rattle.working.proofs.walk.negated_pair.Tie as tie
 
@@ -23,4 +23,4 @@ negated-pair-spec =
     let v = c .before .before in
     let n = v .before .before in
     enters _ (n .next-of .ensures) (v .value-of .ensures) negated (v .before .if1 .left)
-    (gives _ (c .worked-pair .ensures .1 (omega (arith, v .before .if1 .left), room _ (n .next-of .ensures))) (c .before .negation .ensures ∙ ap negationOf (back w32 (record { sfits = v .value-of .ok }))) refl)))
+    (gives _ (c .worked-pair .ensures .1 (omega (arith, v .before .if1 .left), in-room _ (n .next-of .ensures))) (c .before .negation .ensures ∙ ap negationOf (back w32 (record { sfits = v .value-of .ok }))) refl)))

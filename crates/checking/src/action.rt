@@ -1,0 +1,151 @@
+// The check of actions: the faults 5 to 10 in them.
+ghost use mathlib.Core.Path.{_≡_};
+ghost use Prim.Native.Nat.{_+_, _<_};
+ghost use Rattle.tokens.specs.Token.{setSize};
+ghost use Rattle.checking.specs.SightNumber.{nextOf, faultOf, faulted};
+ghost use Rattle.checking.specs.Brackets.{NoBracket, InGrammar, Counted, Onward};
+ghost use Rattle.checking.specs.Fault.{isRemoval, assignedAt, assignmentAt, commandAt, actionAt, countFault, actionsAt};
+use crate::expression::sum;
+use crate::sight::as_wanted;
+use crate::sight::join_faults;
+use crate::sight_number::NOTHING;
+use crate::sight_number::next_of;
+use crate::sight_number::number_seen;
+use tokens::fault::call_fault;
+use tokens::fault::code_fault;
+use tokens::fault::write_fault;
+use tokens::token::ACTIONS;
+use tokens::token::CLOSE;
+use tokens::token::END;
+use tokens::token::EQUALS;
+use tokens::token::M;
+use tokens::token::OPEN;
+use tokens::token::SIZE;
+use tokens::token::index_at;
+use tokens::token::is_arithmetic;
+use tokens::token::is_call;
+use tokens::token::is_drive;
+use tokens::token::is_fifo;
+use tokens::token::is_indexed;
+use tokens::token::is_variable;
+use tokens::token::is_whole;
+use tokens::token::token_at;
+use tokens::token::whole_of;
+use values::codes::TOO_MANY_ACTIONS;
+
+// FIFO [0] as a whole, unbracketed right side.
+pub fn is_removal(set: &[u32; SIZE], at: usize) -> bool
+    ensures { λ x. ⌜ x ≡ isRemoval (now (set .entry)) at ⌝ }
+{
+    let w = token_at(set, at);
+    if !is_fifo(w) {
+        return false;
+    }
+    if !is_indexed(set, w, at) {
+        return false;
+    }
+    if index_at(set, w, at) != 0 {
+        return false;
+    }
+    !is_arithmetic(token_at(set, at + 4))
+}
+
+// The right side of an assignment to a variable.
+fn assigned(set: &[u32; SIZE], at: usize) -> u64
+    requires { ⌜ at < setSize + 5 ⌝ }
+    ensures { λ x. ⌜ (faulted x ≡ assignedAt (now (set .entry)) setSize at) × Counted (now (set .entry)) at x ⌝ }
+{
+    if is_removal(set, at) {
+        return number_seen(0, 0, at + 4);
+    }
+    as_wanted(false, sum(set, at, SIZE))
+}
+
+// An action that begins with a word, its index and =.
+fn assignment(set: &[u32; SIZE], w: u32, at: usize) -> u64
+    requires { ⌜ at < setSize ⌝ }
+    ensures { λ x. ⌜ (faulted x ≡ assignmentAt (now (set .entry)) setSize w at) × ((InGrammar x → NoBracket w) × Counted (now (set .entry)) (at + 5) x) ⌝ }
+{
+    if is_variable(w) {
+        let a = number_seen(write_fault(w, index_at(set, w, at)), 0, at);
+        return join_faults(a, assigned(set, at + 5));
+    }
+    if is_drive(w) {
+        return as_wanted(false, sum(set, at + 5, SIZE));
+    }
+    NOTHING
+}
+
+// M= and a number; or SETAL, LOCK or UNLOCK and a number in brackets.
+fn command(set: &[u32; SIZE], keyword: u32, w: u32, at: usize) -> u64
+    requires { ⌜ at < setSize ⌝ }
+    ensures { λ x. ⌜ (faulted x ≡ commandAt (now (set .entry)) keyword w at) × ((InGrammar x → NoBracket w) × Counted (now (set .entry)) (at + 1) x) ⌝ }
+{
+    let n = token_at(set, at + 2);
+    if !is_whole(n) {
+        return NOTHING;
+    }
+    let sign = token_at(set, at + 1);
+    if w == M {
+        if sign != EQUALS {
+            return NOTHING;
+        }
+        return number_seen(code_fault(keyword, whole_of(n)), 0, at + 3);
+    }
+    if !is_call(w) {
+        return NOTHING;
+    }
+    if sign != OPEN {
+        return NOTHING;
+    }
+    if token_at(set, at + 3) != CLOSE {
+        return NOTHING;
+    }
+    number_seen(call_fault(w, whole_of(n)), 1, at + 4)
+}
+
+fn action(set: &[u32; SIZE], keyword: u32, at: usize) -> u64
+    ensures { λ x. ⌜ (faulted x ≡ actionAt (now (set .entry)) keyword setSize at) × Counted (now (set .entry)) at x ⌝ }
+{
+    let w = token_at(set, at);
+    if w == END {
+        return NOTHING;
+    }
+    if !is_indexed(set, w, at) {
+        return command(set, keyword, w, at);
+    }
+    if token_at(set, at + 4) != EQUALS {
+        return NOTHING;
+    }
+    assignment(set, w, at)
+}
+
+// 10 for more actions than a line may have.
+fn count_fault(n: usize) -> u8
+    ensures { λ x. ⌜ x ≡ countFault n ⌝ }
+{
+    if n <= ACTIONS { 0 } else { TOO_MANY_ACTIONS }
+}
+
+// What was seen, and one or more actions behind it up to the line's end: the lowest fault of all.
+pub fn actions(set: &[u32; SIZE], keyword: u32, w: u64) -> u64
+    requires { ⌜ InGrammar w ⌝ }
+    ensures { λ x. ⌜ (faulted x ≡ actionsAt (now (set .entry)) keyword setSize setSize 0 (faultOf w) (nextOf w)) × Onward (now (set .entry)) w x ⌝ }
+{
+    let mut low = w;
+    let mut n: usize = 0;
+    let mut rounds: usize = SIZE;
+    while 0 < rounds {
+        low = join_faults(low, action(set, keyword, next_of(low)));
+        let i = next_of(low);
+        if i == 0 {
+            return NOTHING;
+        }
+        n += 1;
+        if token_at(set, i) == END {
+            return join_faults(low, number_seen(count_fault(n), 0, i));
+        }
+        rounds -= 1;
+    }
+    NOTHING
+}

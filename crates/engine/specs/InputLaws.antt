@@ -1,0 +1,21 @@
+-- Laws of a beat's inputs: how many cells the input word gives, and how many numbers are taken.
+use mathlib.Core.Path.{_≡_, refl}
+use mathlib.Core.Bool.{true}
+use mathlib.Core.List.{List}
+use Prim.Native.Nat.{ℕ, zero, suc, _+_}
+use native.Mathlib.Omega.{arith}
+use borrow.Author.Tests.{eqb-true}
+use lib.IntN.{ℤ}
+use lib.ListN.{length, length-append}
+use Rattle.values.specs.Choice.{both}
+use Rattle.engine.specs.Cells.{numberCount, inputCells}
+use Rattle.engine.specs.Beat.{areInputs}
+
+pub length-inputs : (word n : ℕ) → length (inputCells word n) ≡ n
+unfolding inputCells
+length-inputs word zero = refl
+length-inputs word (suc n) = simp (length-append, length-inputs word n) (omega arith)
+
+pub inputs-length : (lent : List ℤ) → areInputs lent ≡ true → length lent ≡ numberCount
+unfolding areInputs
+inputs-length lent h = eqb-true _ _ (both _ _ h .0)

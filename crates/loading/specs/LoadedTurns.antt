@@ -1,0 +1,107 @@
+-- AFTER A LOAD THE TURNS OF A BEAT ARE THOSE OF THE TREES OF THE TEXT'S LINES, by rising number: what a line does is told by its text alone. Theorems; nothing is assumed.
+use mathlib.Core.Path.{_≡_, refl, sym, ap, subst, _∙_}
+use mathlib.Core.Bool.{Bool, true, false}
+use mathlib.Core.List.{List, [], _∷_, map}
+use Prim.Native.Nat.{ℕ, suc, _+_, _<_}
+use native.Mathlib.Omega.{arith}
+use lib.Dec.{ltb}
+use lib.IntN.{ℤ}
+use lib.ListN.{length, getD, length-map}
+use Rattle.tokens.specs.Token.{setSize}
+use Rattle.tokens.specs.Descent.{good, _>>=_}
+use Rattle.grammar.specs.Tree.{Line, lineTokens}
+use Rattle.grammar.specs.Meaning.{Stands}
+use Rattle.engine.specs.declared.state.State.{State}
+use Rattle.engine.specs.Set.{soundLines, withoutMark, ended}
+use Rattle.engine.specs.Sound.{isSound}
+use Rattle.engine.specs.Action.{World}
+use Rattle.engine.specs.Turn.{beatIn, turnsFrom}
+use Rattle.engine.specs.Beat.{bufferSize, areInputs, begun, beatOf}
+use Rattle.soundness.specs.Call.{Call, afterAll}
+use Rattle.turn_trees.specs.TurnTree.{namesOf, turnsTree}
+use Rattle.turn_trees.specs.SoundTurns.{TreesFrom, TreesOf, sound-turns, beat-by-trees}
+use Rattle.turn_trees.specs.TurnNumbersTo.{turns-to, names-to}
+use Rattle.reader.specs.Row.{Row, byNumber, setOf}
+use Rattle.reader.specs.Load.{taken, outcome, loadAnswer, loadSet}
+use Rattle.loading.specs.Unmarked.{unmarked, unmarkedTree}
+use Rattle.loading.specs.UnmarkedLaws.{unmarked-keeps, unmarked-tokens}
+use Rattle.loading.specs.PlacedLaws.{Laid, heldTokens}
+use Rattle.loading.specs.StoredLineLaws.{written, ended-unmarked}
+use Rattle.loading.specs.TakenLaws.{All, Fine, taken-fine}
+use Rattle.loading.specs.LoadAnswers.{taken-answer}
+use Rattle.loading.specs.LoadedLaws.{each-by, taken-laid, taken-short, taken-read}
+use Rattle.loading.specs.LoadedSound.{load-lines-sound, load-size, load-always-sound}
+
+-- each tree is written as the tokens of its line of the text
+abbrev pub AreTrees : List Line → List Row → Type 0
+AreTrees [] [] = Unit {0}
+AreTrees [] (r ∷ rs) = ⊥
+AreTrees (l ∷ ls) [] = ⊥
+AreTrees (l ∷ ls) (r ∷ rs) = (lineTokens l ≡ ended (r .tokens)) × AreTrees ls rs
+
+trees-length : (ls : List Line) (rs : List Row) → AreTrees ls rs → length ls ≡ length rs
+trees-length [] [] h = refl
+trees-length [] (r ∷ rs) h = absurd h
+trees-length (l ∷ ls) [] h = absurd h
+trees-length (l ∷ ls) (r ∷ rs) h = ap suc (trees-length ls rs (h .1))
+
+-- lines without a fault have trees
+have-trees : (rs : List Row) → All Fine rs → All (λ r. length (r .tokens) < setSize) rs → (ls : List Line) × AreTrees ls rs
+have-trees [] f s = ([], tt)
+have-trees (r ∷ rs) f s =
+    let w = written (r .tokens) (f .0 .real) (s .0) (f .0 .clean) in
+    let (ls, t) = have-trees rs (f .1) (s .1) in
+    (w .tree ∷ ls, (w .tokens, t))
+
+-- the tokens of a tree without marks are those that a set has of its line
+held-tree : (l : Line) (r : Row) → lineTokens l ≡ ended (r .tokens) → heldTokens r ≡ lineTokens (unmarkedTree l)
+held-tree l r e = ended-unmarked (r .tokens) ∙ ap (map withoutMark) (sym e) ∙ unmarked-tokens l
+
+-- lines that are laid in a set: it has the trees without marks
+laid-trees : (s : List ℕ) (ls : List Line) (rs : List Row) (k : ℕ) → AreTrees ls rs → Laid s rs k → TreesFrom s k (map unmarkedTree ls)
+laid-trees s [] [] k h p = tt
+laid-trees s [] (r ∷ rs) k h p = absurd h
+laid-trees s (l ∷ ls) [] k h p = absurd h
+laid-trees s (l ∷ ls) (r ∷ rs) k h p =
+    let q = getD s (1 + k) 0 + length (heldTokens r) in
+    ((q, subst (λ (x : List ℕ). Stands s (getD s (1 + k) 0) x q) (held-tree l r (h .0)) (p .0)), laid-trees s ls rs (k + 1) (h .1) (p .1))
+
+module _ (t : List ℕ) (rs : List Row) (h : outcome t ≡ taken rs) where
+  -- THE LINES OF A TEXT THAT IS TAKEN HAVE TREES, here by rising number
+  pub loaded-trees : (ls : List Line) × AreTrees ls (byNumber rs)
+  loaded-trees = have-trees (byNumber rs) (each-by t rs h Fine (taken-fine t rs h)) (each-by t rs h (λ r. length (r .tokens) < setSize) (taken-short t rs h))
+
+  module _ (ls : List Line) (trees : AreTrees ls (byNumber rs)) where
+    set-trees : TreesOf (setOf (byNumber rs)) (map unmarkedTree ls)
+    set-trees = record {
+      count = let a = length-map ls unmarkedTree in let b = trees-length ls (byNumber rs) trees in let c = taken-read t rs h .count in omega arith;
+      trees = laid-trees (setOf (byNumber rs)) ls (byNumber rs) 0 trees (taken-laid t rs h);
+    }
+
+    load-trees : TreesOf (loadSet t) (map unmarkedTree ls)
+    load-trees = rw (taken-answer t rs h .2) set-trees
+
+    -- THE TURNS of all lines, whichever are cancelled, from any world
+    pub loaded-turns-by-tree : (cancelled : List Bool) (automatic : Bool) (x : World) →
+        turnsFrom (loadSet t) (soundLines (loadSet t) .numbers) cancelled automatic (soundLines (loadSet t) .items) (soundLines (loadSet t) .count) 0 x ≡ turnsTree (namesOf ls cancelled) automatic ls 0 x
+    loaded-turns-by-tree cancelled automatic x =
+        let n = load-size t in
+        sound-turns (loadSet t) (omega arith) (load-lines-sound t) (map unmarkedTree ls) load-trees cancelled automatic x
+        ∙ turns-to unmarked unmarked-keeps (namesOf (map unmarkedTree ls) cancelled) automatic ls 0 x
+        ∙ rw (names-to unmarked unmarked-keeps ls cancelled)
+
+    -- A BEAT that is not refused
+    pub loaded-beat-by-trees : (st : State) (automatic : Bool) (word : ℕ) (lent : List ℤ) (room : ℕ) → isSound (loadSet t) st ≡ true → ltb room bufferSize ≡ false → areInputs lent ≡ true →
+        beatOf (loadSet t) st automatic word lent room
+        ≡ (turnsTree (namesOf ls (st .cancelled)) automatic ls 0 (begun st word lent) >>= λ u. good (record { world = u .world; entries = beatIn automatic ∷ u .entries }))
+    loaded-beat-by-trees st automatic word lent room a b c =
+        let n = load-size t in
+        beat-by-trees (loadSet t) (map unmarkedTree ls) st automatic word lent room (omega arith) load-trees a b c
+        ∙ rw (turns-to unmarked unmarked-keeps (namesOf (map unmarkedTree ls) (st .cancelled)) automatic ls 0 (begun st word lent), names-to unmarked unmarked-keeps ls (st .cancelled))
+
+    -- SO AFTER ANY CALLS from the load on
+    pub beat-after-calls : (cs : List Call) (automatic : Bool) (word : ℕ) (lent : List ℤ) (room : ℕ) → ltb room bufferSize ≡ false → areInputs lent ≡ true →
+        let st : State = afterAll (loadSet t) (loadAnswer t .state) cs in
+        beatOf (loadSet t) st automatic word lent room
+        ≡ (turnsTree (namesOf ls (st .cancelled)) automatic ls 0 (begun st word lent) >>= λ u. good (record { world = u .world; entries = beatIn automatic ∷ u .entries }))
+    beat-after-calls cs automatic word lent room b c = loaded-beat-by-trees (afterAll (loadSet t) (loadAnswer t .state) cs) automatic word lent room (load-always-sound t cs) b c

@@ -1,0 +1,150 @@
+-- The tokens of a line at two places: the check tells the same of them, its fault and its number, and so does the check of the names in them. Assumes nothing.
+use mathlib.Core.Path.{_≡_, refl, sym, ap, _∙_}
+use mathlib.Core.Bool.{Bool, true, false}
+use mathlib.Core.List.{List, [], _∷_}
+use Prim.Native.Nat.{ℕ, zero, suc, _+_, _-_, _≤_, _<_}
+use native.Mathlib.Decide.{decLt}
+use native.Mathlib.Numerals.{add-one}
+use native.Mathlib.Omega.{arith}
+use lib.Dec.{eqb, leb}
+use lib.ListN.{length, getD, drop, drop-of-length-le, List·getD-eq-default}
+use lib.Seq.{drop-cons}
+use borrow.Author.Tests.{eqb-true, eqb-false, ne-eqb, eq-eqb}
+use Rattle.values.specs.Codes.{tooDeep, notInGrammar}
+use Rattle.values.specs.Choice.{told-so, decide, chosen, refused, eitherBoth}
+use Rattle.checking.specs.declared.line.Line.{Line as Told}
+use Rattle.tokens.specs.Token.{END, OPEN, CLOSE, LOCK, UNLOCK, whole, setSize, AllReal}
+use Rattle.grammar.specs.Tree.{Line, line, lineTokens}
+use Rattle.grammar.specs.Meaning.{Stands}
+use Rattle.tokens.specs.SingleFault.{bracketsOpen, opensTooMany}
+use Rattle.checking.specs.Fault.{lineAt}
+use Rattle.grammar.specs.TreeFault.{lineFault, partsFrom, toldFrom}
+use Rattle.grammar.specs.AgreementLaws.{bounds, stands-place}
+use Rattle.grammar.specs.ClosedTokens.{Closed, front, front-end, front-closed, same-row}
+use Rattle.grammar.specs.AgreementLine.{line-written, line-told, line-found, fault-five}
+use Rattle.engine.specs.Set.{ended, isKnown, isLock, namesKnown}
+
+-- ---- where tokens stand
+
+-- tokens stand where each is found at its place
+pub stands-each : (s l : List ℕ) (p q : ℕ) → q ≡ p + length l → ((i j : ℕ) → j ≡ p + i → i < length l → getD s j 0 ≡ getD l i 0) → Stands s p l q
+stands-each s [] p q e h = omega arith
+stands-each s (t ∷ l) p q e h = (h 0 p (omega arith) (omega arith), stands-each s l (p + 1) q (omega arith) (λ i j f m. h (suc i) j (omega arith) (omega arith)))
+
+-- a list stands at its own beginning
+pub stands-self : (l : List ℕ) → Stands l 0 l (length l)
+stands-self l = stands-each l l 0 (length l) (omega arith) (λ i j e m. let f : j ≡ i = omega arith in rw f)
+
+-- what stands in one list stands in another that is the same there
+pub stands-same : (s z l : List ℕ) (p q : ℕ) → ((j : ℕ) → p ≤ j → j < q → getD z j 0 ≡ getD s j 0) → Stands s p l q → Stands z p l q
+stands-same s z [] p q h g = g
+stands-same s z (t ∷ l) p q h g =
+    let e = stands-place s (t ∷ l) p q g in
+    (h p (omega arith) (omega arith) ∙ g .0, stands-same s z l (p + 1) q (λ j a b. h j (omega arith) b) (g .1))
+
+-- ---- up to the end of a line
+
+-- what looks at a list up to its first 0 may look at a 0 past its end
+first-token : {X : Type 0} (f : List ℕ → X) (x : X) → f [] ≡ x → ((l : List ℕ) → f (END ∷ l) ≡ x) → (s : List ℕ) (p : ℕ) → f (drop p s) ≡ f (getD s p 0 ∷ drop (p + 1) s)
+first-token f x e h s p = by-place (decLt p (length s))
+  where
+    by-place : Dec (p < length s) → f (drop p s) ≡ f (getD s p 0 ∷ drop (p + 1) s)
+    by-place (yes l) = rw (add-one p) (ap f (drop-cons s p 0 l))
+    by-place (no l) = rw (drop-of-length-le s {i = p} (omega (arith, l)), List·getD-eq-default s 0 {n = p} (omega (arith, l))) (e ∙ sym (h (drop (p + 1) s)))
+
+-- the brackets
+opens-on : (t : ℕ) (l m : List ℕ) (n : ℕ) → ((k : ℕ) → opensTooMany l k ≡ opensTooMany m k) → opensTooMany (t ∷ l) n ≡ opensTooMany (t ∷ m) n
+unfolding opensTooMany
+opens-on t l m n h =
+    eitherBoth (λ (x y : Bool). x ≡ y) (eqb t END) (λ _. refl) λ _.
+    eitherBoth (λ (x y : Bool). x ≡ y) (eqb t OPEN)
+    (λ _. eitherBoth (λ (x y : Bool). x ≡ y) (leb bracketsOpen n) (λ _. refl) (λ _. h (n + 1)))
+    (λ _. eitherBoth (λ (x y : Bool). x ≡ y) (eqb t CLOSE) (λ _. h (n - 1)) (λ _. h n))
+
+opens-stands : (s l : List ℕ) (p q n : ℕ) → Stands s p (ended l) q → opensTooMany (drop p s) n ≡ opensTooMany (ended l) n
+unfolding opensTooMany
+opens-stands s [] p q n h = first-token (λ m. opensTooMany m n) false refl (λ m. refl) s p ∙ rw (h .0)
+opens-stands s (t ∷ l) p q n h =
+    first-token (λ m. opensTooMany m n) false refl (λ m. refl) s p
+    ∙ rw (h .0) (opens-on t (drop (p + 1) s) (ended l) n (λ k. opens-stands s l (p + 1) q k (h .1)))
+
+-- ---- one line at two places
+
+-- where a line of the grammar stands beside real tokens and their end, they are its tokens
+same-tokens : (s ts : List ℕ) (p q r : ℕ) (l : Line) → AllReal ts → Stands s p (ended ts) q → Stands s p (lineTokens l) r → front l ≡ ts
+same-tokens s ts p q r l a h g = same-row s (front l) ts p r q (front-closed l) a (rw (front-end l) at g) h
+
+moved : (s z ts : List ℕ) (p q i j r : ℕ) (l : Line) → AllReal ts → Stands s p (ended ts) q → Stands z i (ended ts) j → Stands s p (lineTokens l) r → Stands z i (lineTokens l) j
+moved s z ts p q i j r l a h g k = rw (front-end l) (rw (same-tokens s ts p q r l a h k) g)
+
+-- what the check tells of a tree, but for its place
+told-fault : (p i : ℕ) (l : Line) → (toldFrom p l .fault ≡ toldFrom i l .fault) × (toldFrom p l .number ≡ toldFrom i l .number)
+unfolding toldFrom partsFrom
+told-fault p i (line w v n c a r) = eitherBoth (λ (x y : Told). (x .fault ≡ y .fault) × (x .number ≡ y .number)) (eqb (lineFault (line w v n c a r)) 0) (λ _. (refl, refl)) (λ _. (refl, refl))
+
+-- ONE LINE AT TWO PLACES: the check tells the same fault, and the same number where it tells none
+pub line-same : (s z ts : List ℕ) (p q i j : ℕ) → length s ≤ setSize → length z ≤ setSize → AllReal ts → Stands s p (ended ts) q → Stands z i (ended ts) j →
+    (lineAt s p .fault ≡ lineAt z i .fault) × (lineAt s p .fault ≡ 0 → lineAt s p .number ≡ lineAt z i .number)
+unfolding lineAt
+line-same s z ts p q i j m n a h g =
+    decide _ (opensTooMany (drop p s) 0)
+    (λ t.
+    let u = same ∙ t in
+    let x : lineAt s p .fault ≡ tooDeep = ap (λ (x : Told). x .fault) (chosen _ _ _ t) in
+    let y : lineAt z i .fault ≡ tooDeep = ap (λ (x : Told). x .fault) (chosen _ _ _ u) in
+    (x ∙ sym y, λ e. absurd (omega arith)))
+    (λ t.
+    let u = same ∙ t in
+    decide _ (eqb (lineAt s p .fault) notInGrammar)
+    (λ f.
+    let x = eqb-true (lineAt s p .fault) notInGrammar f in
+    let none = fault-five s m p t .0 x in
+    let y = fault-five z n i u .1 (λ l r k. none l q (moved z s ts i j p q r l a g h k)) in
+    (x ∙ sym y, λ e. absurd (omega arith)))
+    (λ f.
+    let (l, r, k) = line-written s p t (eqb-false (lineAt s p .fault) notInGrammar f) in
+    let x = line-told s m l p r t k in
+    let y = line-told z n l i j u (moved s z ts p q i j r l a h g k) in
+    let (v, w) = told-fault p i l in
+    (ap (λ (x : Told). x .fault) x ∙ v ∙ sym (ap (λ (x : Told). x .fault) y), λ _. ap (λ (x : Told). x .number) x ∙ w ∙ sym (ap (λ (x : Told). x .number) y))))
+  where
+    same : opensTooMany (drop i z) 0 ≡ opensTooMany (drop p s) 0
+    same = opens-stands z ts i j 0 g ∙ sym (opens-stands s ts p q 0 h)
+
+-- tokens that the check finds no fault in are those of a line of the grammar
+pub faultless-closed : (ts : List ℕ) → AllReal ts → lineAt (ended ts) 0 .fault ≡ 0 → Closed ts
+faultless-closed ts a e =
+    let (l, q, h) = line-found (ended ts) 0 (λ f. omega arith) (λ f. omega arith) in
+    rw (← (same-tokens (ended ts) ts 0 (length (ended ts)) q l a (stands-self (ended ts)) h)) (front-closed l)
+
+-- ---- the names in it
+
+-- the token behind the first, or the end
+behind-first : (s ts : List ℕ) (p q : ℕ) → 0 < length ts → Stands s p (ended ts) q → getD s (p + 1) 0 ≡ getD (ended ts) 1 0
+behind-first s [] p q n h = absurd (omega arith)
+behind-first s (u ∷ []) p q n h = h .1 .0
+behind-first s (u ∷ v ∷ l) p q n h = h .1 .0
+
+-- one step of the check, by what stands two places behind LOCK or UNLOCK
+names-step : (ns : List ℕ) (t u v : ℕ) (x y : Bool) → (isLock t ≡ true → u ≡ v) → x ≡ y →
+    _≡_ {A = Bool} (elim (isLock t) as (λ _. Bool) [ true ↦ elim (isKnown ns (whole u)) as (λ _. Bool) [ true ↦ x | false ↦ false ] | false ↦ x ])
+    (elim (isLock t) as (λ _. Bool) [ true ↦ elim (isKnown ns (whole v)) as (λ _. Bool) [ true ↦ y | false ↦ false ] | false ↦ y ])
+names-step ns t u v x y h e =
+    let step : ℕ → Bool → Bool = λ w b. elim (isKnown ns (whole w)) as (λ _. Bool) [ true ↦ b | false ↦ false ] in
+    eitherBoth (λ (a b : Bool). a ≡ b) (isLock t) (λ k. ap (λ (w : ℕ). step w x) (h k) ∙ ap (step v) e) (λ _. e)
+
+-- THE NAMES OF ONE LINE AT TWO PLACES
+pub names-same : (s z ns : List ℕ) (left : ℕ) (ts : List ℕ) (p q i j : ℕ) → Closed ts → Stands s p (ended ts) q → Stands z i (ended ts) j → namesKnown s ns left p ≡ namesKnown z ns left i
+unfolding namesKnown
+names-same s z ns zero ts p q i j c h g = refl
+names-same s z ns (suc left) [] p q i j c h g = chosen _ _ _ (eq-eqb (getD s p 0) END (h .0)) ∙ sym (chosen _ _ _ (eq-eqb (getD z i 0) END (g .0)))
+names-same s z ns (suc left) (t ∷ ts) p q i j c h g =
+    let off : eqb t END ≡ false = ne-eqb t END (λ e. let z = c .0 in omega arith) in
+    let x : eqb (getD s p 0) END ≡ false = rw (h .0) off in
+    let y : eqb (getD z i 0) END ≡ false = rw (g .0) off in
+    let again = names-same s z ns left ts (p + 1) q (i + 1) j (c .2) (h .1) (g .1) in
+    let two : p + 1 + 1 ≡ p + 2 = omega arith in
+    let also : i + 1 + 1 ≡ i + 2 = omega arith in
+    let named : isLock t ≡ true → getD s (p + 2) 0 ≡ getD z (i + 2) 0 =
+    λ k. let b = bounds LOCK UNLOCK t (told-so _ k) in let n = c .1 (b .0) (b .1) in rw (← two, ← also) (behind-first s ts (p + 1) q n (h .1) ∙ sym (behind-first z ts (i + 1) j n (g .1))) in
+    refused _ _ _ x ∙ rw (h .0, g .0) (names-step ns t (getD s (p + 2) 0) (getD z (i + 2) 0) _ _ named again) ∙ sym (refused _ _ _ y)

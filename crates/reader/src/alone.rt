@@ -1,0 +1,60 @@
+// A line by itself, at the beginning of an array that is otherwise 0: what the checks tell of it there. The array is 0 again afterwards.
+ghost use mathlib.Core.Path.{_≡_};
+ghost use Prim.Native.Nat.{_≤_};
+ghost use lib.ListN.{length, replicate};
+ghost use Rattle.values.specs.PutAt.{putAt};
+ghost use Rattle.tokens.specs.Token.{setSize};
+ghost use Rattle.checking.specs.Fault.{lineAt};
+ghost use Rattle.engine.specs.Set.{namesKnown, emptySet};
+ghost use Rattle.reader.specs.Load.{alone};
+use checking::Line;
+use checking::line_at;
+use engine::names_known;
+use tokens::token::LINES;
+use tokens::token::SIZE;
+
+// Tokens are written from the first place on.
+fn lay(row: &mut [u32; SIZE], tokens: &[u32])
+    requires { ⌜ length (now tokens) ≤ setSize ⌝ }
+    ensures { λ x. ⌜ now (row .exit) ≡ putAt (now (row .entry)) 0 (now (tokens .entry)) ⌝ }
+{
+    let mut i: usize = 0;
+    while i < tokens.len() {
+        row[i] = tokens[i];
+        i += 1;
+    }
+}
+
+// The first n places are 0.
+fn wipe(row: &mut [u32; SIZE], n: usize)
+    requires { ⌜ n ≤ setSize ⌝ }
+    ensures { λ x. ⌜ now (row .exit) ≡ putAt (now (row .entry)) 0 (replicate n 0) ⌝ }
+{
+    let mut i: usize = 0;
+    while i < n {
+        row[i] = 0;
+        i += 1;
+    }
+}
+
+// What the check tells of a line.
+pub fn line_alone(row: &mut [u32; SIZE], tokens: &[u32]) -> Line
+    requires { ⌜ (now row ≡ emptySet) × (length (now tokens) ≤ setSize) ⌝ }
+    ensures { λ x. ⌜ (x ≡ lineAt (alone (now (tokens .entry))) 0) × (now (row .exit) ≡ emptySet) ⌝ }
+{
+    lay(row, tokens);
+    let l = line_at(row, 0);
+    wipe(row, tokens.len());
+    l
+}
+
+// Whether each name of a line in it is one of some numbers.
+pub fn names_alone(row: &mut [u32; SIZE], numbers: &[u8; LINES], tokens: &[u32]) -> bool
+    requires { ⌜ (now row ≡ emptySet) × (length (now tokens) ≤ setSize) ⌝ }
+    ensures { λ x. ⌜ (x ≡ namesKnown (alone (now (tokens .entry))) (now (numbers .entry)) setSize 0) × (now (row .exit) ≡ emptySet) ⌝ }
+{
+    lay(row, tokens);
+    let known = names_known(row, numbers, 0);
+    wipe(row, tokens.len());
+    known
+}

@@ -1,0 +1,23 @@
+-- Which codes a call may answer, by document 01's names for them (Codes of `values`). Definitions only.
+use mathlib.Core.Path.{_≡_}
+use mathlib.Core.Logic.{_⊎_}
+use mathlib.Core.List.{List, [], _∷_}
+use Prim.Native.Nat.{ℕ}
+use Rattle.values.specs.Codes.{shortBuffer, wrongNumbers, unsound, outOfRange, zeroDivisor, fifoEmpty, fifoFull, notAllowed, unknownLine}
+
+-- the code is one of these
+abbrev pub OneOf : List ℕ → ℕ → Type 0
+OneOf [] c = ⊥
+OneOf (x ∷ xs) c = (c ≡ x) ⊎ OneOf xs c
+
+-- what may end the turns of a beat: the alarms 30 to 34, and 22
+abbrev pub turnCodes : List ℕ
+turnCodes = unsound ∷ outOfRange ∷ zeroDivisor ∷ fifoEmpty ∷ fifoFull ∷ notAllowed ∷ []
+
+-- what may stop a beat: its checks, and what may end its turns
+abbrev pub beatCodes : List ℕ
+beatCodes = shortBuffer ∷ wrongNumbers ∷ turnCodes
+
+-- what may refuse a host's call
+abbrev pub hostCodes : List ℕ
+hostCodes = unsound ∷ unknownLine ∷ []

@@ -1,0 +1,115 @@
+-- WHAT EACH CALL ANSWERS: the codes of a beat and of a host's call, for any set and any state; and a beat that stopped never answers 0. Theorems; nothing is assumed.
+-- (A load's are 0 to 12: `code-last` of loading.)
+use mathlib.Core.Path.{_≡_, refl}
+use mathlib.Core.Logic.{_≢_, inl, inr}
+use mathlib.Core.Bool.{Bool, true, false, _&&_}
+use mathlib.Core.List.{List, [], _∷_}
+use Prim.Native.Nat.{ℕ}
+use native.Mathlib.Omega.{arith}
+use lib.Dec.{eqb, ltb}
+use lib.IntN.{ℤ}
+use lib.ListN.{length, getD}
+use borrow.Author.Tests.{ltb-true}
+use Rattle.values.specs.Codes.{unsound}
+use Rattle.values.specs.Choice.{either, both}
+use Rattle.tokens.specs.Descent.{Answer, good, stop}
+use Rattle.engine.specs.declared.state.State.{State}
+use Rattle.engine.specs.declared.calls.Called.{Called}
+use Rattle.engine.specs.declared.named_line.Found.{Found}
+use Rattle.engine.specs.Set.{rankIn, soundLines}
+use Rattle.engine.specs.Sound.{isSound}
+use Rattle.engine.specs.Turn.{Turned, turnsFrom}
+use Rattle.engine.specs.Beat.{bufferSize, areInputs, begun, beatOf, answered, beatAnswer}
+use Rattle.engine.specs.NamedLine.{foundAt, found}
+use Rattle.engine.specs.Calls.{withLocked, withCancelled, called, lockedCall, lockCall, unlockCall, cancelCall, resetCall}
+use Rattle.soundness.specs.AnswerCodes.{OneOf, beatCodes, hostCodes}
+use Rattle.soundness.specs.AnswerCodeLaws.{StopsBy, stops-then, TurnCode, turns-by}
+
+-- ---- a beat
+
+abbrev BeatCode : ℕ → Type 0
+BeatCode c = OneOf beatCodes c
+
+-- no 0 among some codes
+abbrev without0 : List ℕ → Bool
+without0 [] = true
+without0 (x ∷ xs) = ltb 0 x && without0 xs
+
+not-0 : (xs : List ℕ) (c : ℕ) → without0 xs ≡ true → OneOf xs c → c ≢ 0
+not-0 [] c w h e = h
+not-0 (x ∷ xs) c w (inl p) e = omega (arith, ltb-true 0 x (both (ltb 0 x) (without0 xs) w .0))
+not-0 (x ∷ xs) c w (inr h) e = not-0 xs c (both (ltb 0 x) (without0 xs) w .1) h e
+
+turn-code : {A : Type 0} (x : Answer A) → StopsBy TurnCode x → StopsBy BeatCode x
+turn-code (good a) h = tt
+turn-code (stop c) h = inr (inr h)
+
+module _ (s : List ℕ) (st : State) (automatic : Bool) (word : ℕ) (lent : List ℤ) where
+  -- a beat stops by 20, 21, 22 or an alarm of 30 to 34
+  beat-stops : (size : ℕ) → StopsBy BeatCode (beatOf s st automatic word lent size)
+  unfolding beatOf
+  beat-stops size =
+      let P : Answer Turned → Type 0 = StopsBy BeatCode in
+      let turns = turnsFrom s (soundLines s .numbers) (st .cancelled) automatic (soundLines s .items) (soundLines s .count) 0 (begun st word lent) in
+      either P (isSound s st)
+      (λ e. either P (ltb size bufferSize) (λ e. inl refl) λ e.
+      either P (areInputs lent)
+      (λ e. stops-then BeatCode turns _ (turn-code turns (turns-by s (soundLines s .numbers) (st .cancelled) automatic (soundLines s .items) (soundLines s .count) 0 (begun st word lent))) (λ t. tt))
+      (λ e. inr (inl refl)))
+      (λ e. inr (inr (inl refl)))
+
+  -- A BEAT THAT STOPPED NEVER HAS 0
+  pub stopped-not-0 : (size c : ℕ) → beatOf s st automatic word lent size ≡ stop c → c ≢ 0
+  stopped-not-0 size c e = not-0 beatCodes c refl (rw e at (beat-stops size))
+
+  -- A BEAT ANSWERS 0, 20, 21, 22 or an alarm of 30 to 34
+  pub beat-code : (b : List ℕ) → OneOf (0 ∷ beatCodes) (beatAnswer s st automatic word lent b .code)
+  unfolding beatAnswer
+  beat-code b = by-answer (beatOf s st automatic word lent (length b)) (beat-stops (length b))
+    where
+      by-answer : (x : Answer Turned) → StopsBy BeatCode x → OneOf (0 ∷ beatCodes) (answered st x .code)
+      by-answer (good t) h = inl refl
+      by-answer (stop c) h = inr h
+
+  -- so where a beat answers 0, it ended well
+  pub ended-well : (b : List ℕ) → beatAnswer s st automatic word lent b .code ≡ 0 → (t : Turned) × (beatOf s st automatic word lent (length b) ≡ good t)
+  unfolding beatAnswer
+  ended-well b e = by-answer (beatOf s st automatic word lent (length b)) refl e
+    where
+      by-answer : (x : Answer Turned) → beatOf s st automatic word lent (length b) ≡ x → answered st x .code ≡ 0 → (t : Turned) × (beatOf s st automatic word lent (length b) ≡ good t)
+      by-answer (good t) p e = (t, p)
+      by-answer (stop c) p e = absurd (stopped-not-0 (length b) c p e)
+
+-- ---- a host's call
+
+found-code : (s : List ℕ) (st : State) (n : ℕ) → OneOf (0 ∷ hostCodes) (found s st n .code)
+unfolding found foundAt
+found-code s st n =
+    let P : Found → Type 0 = λ f. OneOf (0 ∷ hostCodes) (f .code) in
+    let k = rankIn (soundLines s .numbers) n 0 in
+    either P (isSound s st)
+    (λ e. either P (ltb k (soundLines s .count)) (λ e. either P (getD (st .cancelled) k false) (λ e. inr (inr (inl refl))) (λ e. inl refl)) (λ e. inr (inr (inl refl))))
+    (λ e. inr (inl refl))
+
+called-code : (st : State) (f : Found) (change : ℕ → State) → OneOf (0 ∷ hostCodes) (f .code) → OneOf (0 ∷ hostCodes) (called st f change .code)
+unfolding called
+called-code st f change h = either (λ (c : Called). OneOf (0 ∷ hostCodes) (c .code)) (eqb (f .code) 0) (λ e. inl refl) (λ e. h)
+
+module _ (s : List ℕ) (st : State) where
+  -- A HOST'S CALL ANSWERS 0, 22 or 40
+  pub lock-code : (n : ℕ) → OneOf (0 ∷ hostCodes) (lockCall s st n .code)
+  unfolding lockCall lockedCall
+  lock-code n = called-code st (found s st n) (λ k. withLocked st k true) (found-code s st n)
+
+  pub unlock-code : (n : ℕ) → OneOf (0 ∷ hostCodes) (unlockCall s st n .code)
+  unfolding unlockCall lockedCall
+  unlock-code n = called-code st (found s st n) (λ k. withLocked st k false) (found-code s st n)
+
+  pub cancel-code : (n : ℕ) → OneOf (0 ∷ hostCodes) (cancelCall s st n .code)
+  unfolding cancelCall
+  cancel-code n = called-code st (found s st n) (λ k. withCancelled st k) (found-code s st n)
+
+  -- a reset only 0 or 22
+  pub reset-code : OneOf (0 ∷ unsound ∷ []) (resetCall s st .code)
+  unfolding resetCall
+  reset-code = either (λ (c : Called). OneOf (0 ∷ unsound ∷ []) (c .code)) (isSound s st) (λ e. inl refl) (λ e. inr (inl refl))

@@ -1,0 +1,26 @@
+-- `digits::put_number` meets its contract: past the buffer's end nothing is put.
+use borrow.Author.Needs.{needs}
+use native.Mathlib.Omega.{arith}
+use mathlib.Core.Path.{ap, _∙_}
+use Prim.Native.Nat.{ℕ}
+use denote.Ref.{now}
+use Rattle.text.specs.Digits.{decimal}
+use Rattle.values.specs.PutAt.{putAt}
+use Rattle.values.specs.PutLaws.{put-within}
+use Rattle.text.proofs.digits.put_number.Statement.{statement}
+use Rattle.text.proofs.digits.put_number.Tie as tie
+
+pub put-number-spec : {M : Type 1} → statement M
+put-number-spec =
+    tie.close
+    (tie.spec
+    (λ c κs. search needs)
+    (λ c κs. search needs)
+    (λ c. omega (arith, c .before .before .put-digits .ensures .behind))
+    (λ c. search needs)
+    (λ c.
+    let d = c .before .before in
+    let w = d .before .before in
+    let a = w .before .before .args in
+    let e = d .put-digits .ensures in
+    (omega (arith, e .behind), e .put ∙ ap (λ (y : ℕ). putAt (now (a .out)) y (decimal (a .n))) (w .within .ensures) ∙ put-within (decimal (a .n)) (now (a .out)) (a .at))))

@@ -1,9 +1,0 @@
--- A list written into an array from a place on: tokens into a set, bytes into a buffer. Definitions only.
-use mathlib.Core.List.{List, [], _∷_}
-use Prim.Native.Nat.{ℕ, _+_}
-use lib.ListN.{set}
-
--- what would lie past the end is left off
-abbrev pub putAt : List ℕ → ℕ → List ℕ → List ℕ
-putAt s p [] = s
-putAt s p (x ∷ l) = putAt (set s p x) (p + 1) l

@@ -1,0 +1,11 @@
+-- A turn by its tree. TurnTree and LineNames are the definitions; that the engine does so is shown in TurnByTree, SoundTurns and TurnNumbersTo; the files named ..Laws hold what these need; TurnTable
+-- computes an example.
+pub mod TurnTree
+pub mod LineNames
+pub mod AlarmLaws
+pub mod ActionTreeLaws
+pub mod NamesLaws
+pub mod TurnByTree
+pub mod SoundTurns
+pub mod TurnNumbersTo
+pub mod TurnTable

@@ -1,0 +1,133 @@
+-- THE TURNS OVER A SOUND SET ARE THOSE OF THE TREES OF ITS LINES, by rising number; and each sound set has such trees. Theorems; nothing is assumed.
+use mathlib.Core.Path.{_≡_, refl, sym, ap, _∙_}
+use mathlib.Core.Bool.{Bool, true, false}
+use mathlib.Core.List.{List, [], _∷_, map}
+use Prim.Native.Nat.{ℕ, zero, suc, _+_, _≤_, _<_}
+use native.Mathlib.Omega.{arith}
+use lib.Dec.{ltb}
+use lib.IntN.{ℤ}
+use lib.ListN.{length, getD, length-map}
+use borrow.Author.Tests.{ltb-true}
+use Rattle.values.specs.Choice.{both, chosen, refused}
+use Rattle.tokens.specs.Token.{setSize, maxLines}
+use Rattle.tokens.specs.Descent.{good, _>>=_}
+use Rattle.checking.specs.declared.line.Line.{Line as Told}
+use Rattle.grammar.specs.Tree.{Line, lineTokens, treeNumber}
+use Rattle.grammar.specs.Meaning.{Stands}
+use Rattle.grammar.specs.TreeFault.{lineFault, partsFrom}
+use Rattle.grammar.specs.ClosedTokens.{line-fits}
+use Rattle.grammar.specs.AgreementLine.{line-found, line-fault, line-parts, not-deep, parts-number}
+use Rattle.engine.specs.declared.state.State.{State}
+use Rattle.engine.specs.Set.{rankIn, lineOf, soundLines}
+use Rattle.engine.specs.Sound.{isSound, stateSound}
+use Rattle.engine.specs.Action.{World}
+use Rattle.engine.specs.Turn.{beatIn, turnsFrom}
+use Rattle.engine.specs.Beat.{bufferSize, areInputs, begun, beatOf}
+use Rattle.engine.specs.SetLinesLaws.{lines-lined}
+use Rattle.soundness.specs.SetSoundLaws.{lines-known, rank-inside}
+use Rattle.turn_trees.specs.TurnTree.{namesOf, turnsTree}
+use Rattle.turn_trees.specs.LineNames.{LineNames, SameRank}
+use Rattle.turn_trees.specs.NamesLaws.{Known, line-names, names-so, rank-same}
+use Rattle.turn_trees.specs.TurnByTree.{HoldingFrom, turns-by-tree}
+
+-- the tokens of the tree l stand where the line of rank k begins
+abbrev pub TreeAt : List ℕ → ℕ → Line → Type 0
+TreeAt s k l = (q : ℕ) × Stands s (getD s (1 + k) 0) (lineTokens l) q
+
+abbrev pub TreesFrom : List ℕ → ℕ → List Line → Type 0
+TreesFrom s k [] = Unit {0}
+TreesFrom s k (l ∷ ls) = TreeAt s k l × TreesFrom s (k + 1) ls
+
+-- the trees of a set, one for each line, by rank
+pub record TreesOf (s : List ℕ) (ls : List Line) : Type 0 where
+  pub count : length ls ≡ soundLines s .count
+  pub trees : TreesFrom s 0 ls
+
+module _ (s : List ℕ) (size : length s ≤ setSize) (sound : soundLines s .sound ≡ true) where
+  -- ---- one line
+
+  module _ (k : ℕ) (inside : k < soundLines s .count) where
+    clean : lineOf s k .fault ≡ 0
+    clean = lines-lined s .listed sound .faultless k inside
+
+    tree-found : (l : Line) × TreeAt s k l
+    tree-found = let c = clean in let (l, q, h) = line-found s (getD s (1 + k) 0) (λ e. omega arith) (λ e. omega arith) in (l, (q, h))
+
+    module _ (l : Line) (t : TreeAt s k l) where
+      tree-faultless : lineFault l ≡ 0
+      tree-faultless = sym (line-fault s size l (getD s (1 + k) 0) (t .0) (not-deep s (getD s (1 + k) 0) clean) (t .1)) ∙ clean
+
+      tree-parts : lineOf s k ≡ partsFrom (getD s (1 + k) 0) l
+      tree-parts = line-parts s size l (getD s (1 + k) 0) (t .0) (not-deep s (getD s (1 + k) 0) clean) (t .1) tree-faultless .0
+
+      tree-number : treeNumber l ≡ getD (soundLines s .numbers) k 0
+      tree-number = sym (lines-lined s .listed sound .number k inside ∙ ap (λ (x : Told). x .number) tree-parts ∙ parts-number (getD s (1 + k) 0) l)
+
+      tree-short : length (lineTokens l) ≤ suc setSize
+      tree-short = let z = line-fits s l (getD s (1 + k) 0) (t .0) (t .1) in omega arith
+
+      tree-names : LineNames (Known (soundLines s .numbers)) l
+      tree-names = line-names s (soundLines s .numbers) l (getD s (1 + k) 0) (t .0) tree-short tree-faultless (t .1) (lines-known s sound k inside)
+
+  -- ---- all lines
+
+  trees-from : (n k : ℕ) → k + n ≡ soundLines s .count → (ls : List Line) × (length ls ≡ n) × TreesFrom s k ls
+  trees-from zero k e = ([], refl, tt)
+  trees-from (suc n) k e =
+      let (l, t) = tree-found k (omega arith) in
+      let (ls, m, ts) = trees-from n (k + 1) (omega arith) in
+      (l ∷ ls, ap suc m, (t, ts))
+
+  -- EACH SOUND SET HAS TREES
+  pub sound-trees : (ls : List Line) × TreesOf s ls
+  sound-trees = let (ls, m, ts) = trees-from (soundLines s .count) 0 (omega arith) in (ls, record { count = m; trees = ts })
+
+  numbers-at : (ls : List Line) (k j : ℕ) → TreesFrom s k ls → k + length ls ≤ soundLines s .count → j < length ls → getD (map treeNumber ls) j 0 ≡ getD (soundLines s .numbers) (k + j) 0
+  numbers-at [] k j t c h = absurd (omega arith)
+  numbers-at (l ∷ ls) k zero t c h = let z : k + 0 ≡ k = omega arith in rw z (tree-number k (omega arith) l (t .0))
+  numbers-at (l ∷ ls) k (suc j) t c h = let z : k + suc j ≡ k + 1 + j = omega arith in rw z (numbers-at ls (k + 1) j (t .1) (omega arith) (omega arith))
+
+  module _ (ls : List Line) (trees : TreesOf s ls) (cancelled : List Bool) (automatic : Bool) where
+    -- a known number has one rank
+    known-rank : (m : ℕ) → Known (soundLines s .numbers) m → SameRank (soundLines s .numbers) (namesOf ls cancelled) m
+    known-rank m h =
+        let ns = soundLines s .numbers in
+        let a = ltb-true (rankIn ns m 0) maxLines (h .0) in
+        let b = rank-inside s m sound (h .1) a in
+        let c = trees .count in
+        let n = length-map ls treeNumber in
+        let x = lines-lined s .numbersLength in
+        let y = lines-lined s .few in
+        (a, rank-same (map treeNumber ls) ns m 0 (omega arith) (λ j i. let z : 0 + j ≡ j = omega arith in rw z at (numbers-at ls 0 j (trees .trees) (omega arith) (omega arith))) (omega arith))
+
+    holding : (qs : List Line) (k : ℕ) → TreesFrom s k qs → k + length qs ≤ soundLines s .count →
+        HoldingFrom s (soundLines s .numbers) (namesOf ls cancelled) automatic (soundLines s .items) k qs
+    holding [] k t c = tt
+    holding (l ∷ qs) k t c =
+        let i : k < soundLines s .count = omega arith in (
+          record {
+            place = getD s (1 + k) 0;
+            behind = t .0 .0;
+            item = lines-lined s .listed sound .item k i ∙ tree-parts k i l (t .0);
+            stands = t .0 .1;
+            faultless = tree-faultless k i l (t .0);
+            short = tree-short k i l (t .0);
+            named = names-so (Known (soundLines s .numbers)) (SameRank (soundLines s .numbers) (namesOf ls cancelled)) known-rank l (tree-names k i l (t .0));
+          },
+          holding qs (k + 1) (t .1) (omega arith),
+        )
+
+    -- THE TURNS of a beat over a sound set
+    pub sound-turns : (x : World) → turnsFrom s (soundLines s .numbers) cancelled automatic (soundLines s .items) (soundLines s .count) 0 x ≡ turnsTree (namesOf ls cancelled) automatic ls 0 x
+    sound-turns x =
+        let c = trees .count in
+        rw (← c) (turns-by-tree s (soundLines s .numbers) (namesOf ls cancelled) automatic (soundLines s .items) ls 0 x (holding ls 0 (trees .trees) (omega arith)))
+
+-- A BEAT THAT IS NOT REFUSED is the turns of the trees of its set, by rising number, from the world in which it begins
+pub beat-by-trees : (s : List ℕ) (ls : List Line) (st : State) (automatic : Bool) (word : ℕ) (lent : List ℤ) (room : ℕ) → length s ≤ setSize → TreesOf s ls →
+    isSound s st ≡ true → ltb room bufferSize ≡ false → areInputs lent ≡ true →
+    beatOf s st automatic word lent room ≡ (turnsTree (namesOf ls (st .cancelled)) automatic ls 0 (begun st word lent) >>= λ t. good (record { world = t .world; entries = beatIn automatic ∷ t .entries }))
+unfolding beatOf isSound
+beat-by-trees s ls st automatic word lent room size trees a b c =
+    let sound = both (soundLines s .sound) (stateSound (soundLines s .count) st) a .0 in
+    chosen _ _ _ a ∙ refused _ _ _ b ∙ chosen _ _ _ c ∙ rw (sound-turns s size sound ls trees (st .cancelled) automatic (begun st word lent))
