@@ -8,7 +8,7 @@ use native.Mathlib.Omega.{arith}
 use borrow.Author.Tests.{not-true, not-false}
 use Rattle.tokens.specs.Token.{isFactor, isTerm, isCompare, isLogic}
 use Rattle.tokens.specs.Descent.{Read, read, ends, then, upTo, Meaning, isRow, token, joined, more, readProduct, readSum, readRest, readExpression}
-use Rattle.tokens.proofs.AnswerLaws.{passes, enters, stepped}
+use Rattle.tokens.proofs.ReadStepLaws.{passes, enters, stepped}
 use Rattle.tokens.proofs.Between.{tested, no-row}
 
 module _ (s : List ℕ) {A : Type 0} (𝓜 : Meaning A) (isOp : ℕ → Bool) (sub : ℕ → Read A) where

@@ -12,7 +12,7 @@ use Rattle.tokens.specs.Descent.{then, isRow, more, readClose, readProduct, rea
 use Rattle.checking.specs.Fault.{sight}
 use Rattle.checking.specs.SightNumber.{sightOf, seen, signedSight}
 use Rattle.checking.specs.Brackets.{Onward}
-use Rattle.tokens.proofs.AnswerLaws.{stepped}
+use Rattle.tokens.proofs.ReadStepLaws.{stepped}
 use Rattle.tokens.proofs.Arms.{spent, number-arm, variable-arm, open-arm, not-arm, truth-arm}
 use Rattle.tokens.proofs.Between.{no-end, row-no-end, lies-inside}
 use Rattle.tokens.proofs.Rows.{Kept, row-stops, row-ends, row-spent, row-goes, product-is, sum-is, expression-is, expression-stops, rest-compares, rest-rows, rest-none}

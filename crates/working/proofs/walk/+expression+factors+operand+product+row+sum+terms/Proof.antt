@@ -13,7 +13,7 @@ use Rattle.tokens.specs.Token.{SAME, ATLEAST, PLUS, MINUS, TIMES, OVER, IN, IM,
 use Rattle.tokens.specs.Descent.{then, isRow, more, readClose, readProduct, readSum, readOperand, sumAt, expressionAt}
 use Rattle.working.specs.Pair.{pairOf, said}
 use Rattle.working.specs.Working.{valueOver, negated, inverted}
-use Rattle.tokens.proofs.AnswerLaws.{stepped}
+use Rattle.tokens.proofs.ReadStepLaws.{stepped}
 use Rattle.tokens.proofs.Arms.{spent, number-arm, variable-arm, open-arm, minus-arm, not-arm, truth-arm}
 use Rattle.tokens.proofs.Between.{no-end, row-no-end, lies-inside}
 use Rattle.tokens.proofs.Rows.{Kept, row-stops, row-ends, row-spent, row-goes, product-is, product-begins, sum-is, sum-begins, expression-is, expression-stops, rest-compares, rest-rows, rest-none}
