@@ -9,7 +9,7 @@ use Rattle.values.specs.Codes.{notInGrammar}
 use Rattle.tokens.specs.Token.{room, setSize, SAME, ATLEAST, PLUS, MINUS, TIMES, OVER, AND, XOR, isFactor, isTerm, isArithmetic, isCompare, isLogic}
 use Rattle.tokens.specs.Descent.{Read, read, ends, then}
 use Rattle.tokens.specs.SingleFault.{lower, wantingFault}
-use Rattle.tokens.proofs.AnswerLaws as answers
+use Rattle.tokens.proofs.ReadStepLaws as answers
 use Rattle.tokens.proofs.Between.{inside, outside, is-inside, arithmetic-range}
 use Rattle.checking.specs.Fault.{Sight, joinSights, faultFor, lowest}
 use Rattle.checking.specs.SightNumber.{numberSeen, truthSeen, nextOf, truthOf, faultOf, depthOf, deeperOf, isFaultless, sightOf, seen, faulted, signedSight}

@@ -14,7 +14,7 @@ use Rattle.values.proofs.Signed.{back}
 use Rattle.values.specs.Complement.{twosComplement, signed}
 use Rattle.values.specs.ComplementLaws.{signed-back}
 use Rattle.tokens.specs.Descent.{Answer, Read, read, ends, then, upTo}
-use Rattle.tokens.proofs.AnswerLaws as answers
+use Rattle.tokens.proofs.ReadStepLaws as answers
 use Rattle.working.specs.Pair.{pairOf, alarmOf, nextOf, valueOf, alarmIn, said}
 use Rattle.working.specs.Operators.{fromWorked}
 
