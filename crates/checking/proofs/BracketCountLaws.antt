@@ -26,13 +26,9 @@ other-above t l = record { no-end = λ e. omega arith; no-open = λ e. omega ari
 pub other-below : (t : ℕ) → 0 < t → t < OPEN → NoBracket t
 other-below t l m = record { no-end = λ e. omega arith; no-open = λ e. omega arith; no-close = λ e. omega arith }
 
--- those of a range on either side of the brackets
-module _ (low high t : ℕ) {o : Bool} where
-  pub other-high : CLOSE < low → o ≡ between low high t → o ≡ true → NoBracket t
-  other-high l e f = let b = inside low high t (sym e ∙ f) in other-above t (omega arith)
-
-  pub other-low : 0 < low → high < OPEN → o ≡ between low high t → o ≡ true → NoBracket t
-  other-low l m e f = let b = inside low high t (sym e ∙ f) in other-below t (omega arith) (omega arith)
+-- those of a range above )
+pub other-high : (low high t : ℕ) {o : Bool} → CLOSE < low → o ≡ between low high t → o ≡ true → NoBracket t
+other-high low high t l e f = let b = inside low high t (sym e ∙ f) in other-above t (omega arith)
 
 -- a number, and an index
 pub other-whole : (t : ℕ) → isWhole t ≡ true → NoBracket t

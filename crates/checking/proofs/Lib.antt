@@ -1,6 +1,7 @@
 -- Laws that several proofs cite.
 mod SightNumberLaws
 mod BracketCountLaws
+mod LevelLaws
 mod SumLaws
 mod FaultLaws
 mod SignLaws

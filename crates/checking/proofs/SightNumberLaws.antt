@@ -1,17 +1,17 @@
--- Laws on what the check sees as one number: what it says by the test of the code, and what was made into a number is seen again; its end and depth; what has no fault; faults alone; what the operators of each level join.
+-- Laws on what the check sees as one number: what it says by the test of the code, and what was made into a number is seen again; its end and depth; what has no fault; faults alone.
 use mathlib.Core.Path.{_≡_, refl, sym, ap, _∙_}
-use mathlib.Core.Bool.{Bool, true, false, cond, not, _||_}
+use mathlib.Core.Bool.{Bool, true, false, cond}
 use Prim.Native.Nat.{ℕ, _+_, _/_, _%_, _<_, _≤_, _*_}
 use native.Mathlib.Omega.{arith}
 use lib.Dec.{eqb}
 use borrow.Author.Tests.{eqb-true, eq-eqb, ne-eqb}
 use Rattle.values.specs.Codes.{notInGrammar}
-use Rattle.tokens.specs.Token.{room, setSize, SAME, ATLEAST, PLUS, MINUS, TIMES, OVER, AND, XOR, isFactor, isTerm, isArithmetic, isCompare, isLogic}
+use Rattle.tokens.specs.Token.{room, setSize}
 use Rattle.tokens.specs.Descent.{Read, read, ends, then}
 use Rattle.tokens.specs.SingleFault.{lower, wantingFault}
-use Rattle.tokens.proofs.AnswerLaws as answers
-use Rattle.tokens.proofs.Between.{inside, outside, is-inside, arithmetic-range}
-use Rattle.checking.specs.Fault.{Sight, joinSights, faultFor, lowest}
+use Rattle.tokens.proofs.ReadStepLaws as answers
+use Rattle.tokens.proofs.Rows.{Says}
+use Rattle.checking.specs.Fault.{Sight, faultFor, lowest}
 use Rattle.checking.specs.SightNumber.{numberSeen, truthSeen, nextOf, truthOf, faultOf, depthOf, deeperOf, isFaultless, sightOf, seen, faulted, signedSight}
 use Rattle.checking.specs.Brackets.{SameEnd, Joined}
 
@@ -35,6 +35,9 @@ module _ (w : ℕ) {i : ℕ} (e : i ≡ nextOf w) where
   -- what is seen goes into a step
   pub enters : (f : Sight → ℕ → Read Sight) {x : Read Sight} → (i ≡ 0 → ⊥) → x ≡ f (sightOf w) i → x ≡ then (seen w) f
   enters f h k = answers.enters f (seen-read h) k
+
+pub sights-say : Says seen (λ (w : ℕ). sightOf w) (λ (w : ℕ). notInGrammar)
+sights-say = record { stops = λ w e h. seen-stop w e h; reads = λ w e h. seen-read w e h }
 
 -- not in the grammar
 pub seen-nothing : seen 0 ≡ ends notInGrammar
@@ -64,6 +67,11 @@ module _ {f d : ℕ} (p : ℕ) {x : ℕ} (b : f < 256) (c : d < 256) (m : p < ro
 
     pub seen-truth : x ≡ truthSeen f d p → f ≡ g → seen x ≡ read (record { truth = true; fault = g }) p
     seen-truth e h = let k = truth-made e in seen-as x p g (sym (k .next)) l (eq-eqb (x / room % 2) 1 (omega arith)) (k .fault ∙ h)
+
+-- w was seen up to i; x is made of the fault f, which is g, the depth d and i, as a yes/no (true) or a number (false)
+pub made-again : (w : ℕ) {i f d g x : ℕ} {o : Bool} → i ≡ nextOf w → (i ≡ 0 → ⊥) → (t : Bool) → o ≡ t → f < 256 → d < 256 → x ≡ cond t (truthSeen f d i) (numberSeen f d i) → f ≡ g → (seen x ≡ read (record { truth = o; fault = g }) i) × Made f d i x
+made-again w {i} e h true k b c j q = rw k (seen-truth i b c (in-room w e) (omega (arith, h)) j q, truth-made i b c (in-room w e) j)
+made-again w {i} e h false k b c j q = rw k (seen-number i b c (in-room w e) (omega (arith, h)) j q, number-made i b c (in-room w e) j)
 
 -- one more is the next place; and one bracket more goes deeper
 module _ (w : ℕ) {i : ℕ} (e : i ≡ nextOf w) (l : i < setSize) where
@@ -167,38 +175,3 @@ faults-wanted t (ends k) = refl
 -- x is what a says where a yes/no or a number is wanted, and a says y
 pub faulted-wanted : (t : Bool) (a x : ℕ) (y : Read Sight) → seen a ≡ y → seen x ≡ then (seen a) (signedSight t) → faulted x ≡ faultFor t y
 faulted-wanted t a x y e f = faulted-faults x ∙ ap faults (f ∙ ap (λ (r : Read Sight). then r (signedSight t)) e) ∙ faults-wanted t y
-
--- ---- what the operators join
-
-then-same : {f g : Sight → ℕ → Read Sight} (x : Read Sight) → ((y : Sight) (q : ℕ) → f y q ≡ g y q) → then x f ≡ then x g
-then-same (read y q) h = h y q
-then-same (ends k) h = refl
-
--- an operator that is none of + - * / gives a yes/no
-apart : (o : ℕ) → (PLUS ≤ o → o ≤ OVER → ⊥) → not (isArithmetic o) ≡ true
-apart o h = ap not (sym (arithmetic-range o) ∙ outside PLUS OVER o h)
-
--- x is a, the operator o behind it, and r
-module _ (o : ℕ) (a : Sight) {x : Read Sight} (r : Read Sight) where
-  joins : (l t : Bool) → isLogic o ≡ l → not (isArithmetic o) ≡ t → x ≡ then r (λ y q. read (record { truth = t; fault = lowest l a y }) q) → x ≡ then r (λ y q. read (joinSights o a y) q)
-  unfolding joinSights
-  joins l t e f h = h ∙ then-same r (λ y q. rw (sym e, sym f) refl)
-
-  numbers : PLUS ≤ o → o ≤ OVER → x ≡ then r (λ y q. read (record { truth = false; fault = lowest false a y }) q) → x ≡ then r (λ y q. read (joinSights o a y) q)
-  numbers l m h = joins false false (outside AND XOR o (λ x y. omega arith)) (ap not (sym (arithmetic-range o) ∙ is-inside PLUS OVER o l m)) h
-
-  pub joins-factor : isFactor o ≡ true → x ≡ then r (λ y q. read (record { truth = false; fault = lowest false a y }) q) → x ≡ then r (λ y q. read (joinSights o a y) q)
-  joins-factor e = let i = inside TIMES OVER o e in numbers (omega arith) (i .1)
-
-  pub joins-term : isTerm o ≡ true → x ≡ then r (λ y q. read (record { truth = false; fault = lowest false a y }) q) → x ≡ then r (λ y q. read (joinSights o a y) q)
-  joins-term e = let i = inside PLUS MINUS o e in numbers (i .0) (omega arith)
-
-  pub joins-compared : isCompare o ≡ true → x ≡ then r (λ y q. read (record { truth = true; fault = lowest false a y }) q) → x ≡ then r (λ y q. read (joinSights o a y) q)
-  joins-compared e h =
-      let i = inside SAME ATLEAST o e in
-      joins false true (outside AND XOR o (λ x y. omega (arith, i .1))) (apart o (λ x y. omega (arith, i .1))) h
-
-  pub joins-row : isLogic o ≡ true → x ≡ then r (λ y q. read (record { truth = true; fault = lowest true a y }) q) → x ≡ then r (λ y q. read (joinSights o a y) q)
-  joins-row e h =
-      let i = inside AND XOR o e in
-      joins true true e (apart o (λ x y. omega (arith, i .0))) h

@@ -5,6 +5,7 @@ use mathlib.Core.List.{List, [], _∷_, map}
 use Prim.Native.Nat.{ℕ}
 use lib.IntN.{pos}
 use lib.ListN.{replicate}
+use Rattle.values.specs.Codes.{shortBuffer, unknownLine}
 use Rattle.tokens.specs.Token.{END, EQUALS, SAME, OPEN, CLOSE, LEFT, RIGHT, ID, IDS, WHEN, WHENEVER, FROM, EVERY, DO, IN, OUT, M, LOCK, wholeToken}
 use Rattle.values.specs.Value.{inRange, valued, lessThan, equalTo, wholeUnits, outputOf}
 use Rattle.values.specs.Time.{grownTimer}
@@ -62,9 +63,9 @@ words cs = map (λ c. (c .1 .code, c .1 .acted)) (run lines cs .told)
 -- 5. without AUTOMATIC the ID lines take no turn; a beat with a short buffer gives 20 and leaves all as it was
 pub runs :
     (words (beat 1 ∷ beat 1 ∷ beat 0 ∷ beat 1 ∷ []) ≡ (0, 5) ∷ (0, 4) ∷ (0, 4) ∷ (0, 7) ∷ [])
-    × (words (beat 1 ∷ doLock 1 ∷ beat 0 ∷ beat 1 ∷ doUnlock 1 ∷ beat 1 ∷ doLock 9 ∷ []) ≡ (40, 0) ∷ (0, 4) ∷ (0, 0) ∷ (0, 4) ∷ (0, 4) ∷ (0, 0) ∷ (0, 7) ∷ [])
-    × (words (beat 1 ∷ beat 0 ∷ doReset ∷ beat 0 ∷ beat 1 ∷ doLock 1 ∷ doCancel 3 ∷ beat 1 ∷ doReset ∷ beat 1 ∷ []) ≡ (0, 0) ∷ (0, 0) ∷ (0, 0) ∷ (0, 0) ∷ (40, 0) ∷ (0, 4) ∷ (0, 0) ∷ (0, 0) ∷ (0, 4) ∷ (0, 7) ∷ [])
+    × (words (beat 1 ∷ doLock 1 ∷ beat 0 ∷ beat 1 ∷ doUnlock 1 ∷ beat 1 ∷ doLock 9 ∷ []) ≡ (unknownLine, 0) ∷ (0, 4) ∷ (0, 0) ∷ (0, 4) ∷ (0, 4) ∷ (0, 0) ∷ (0, 7) ∷ [])
+    × (words (beat 1 ∷ beat 0 ∷ doReset ∷ beat 0 ∷ beat 1 ∷ doLock 1 ∷ doCancel 3 ∷ beat 1 ∷ doReset ∷ beat 1 ∷ []) ≡ (0, 0) ∷ (0, 0) ∷ (0, 0) ∷ (0, 0) ∷ (unknownLine, 0) ∷ (0, 4) ∷ (0, 0) ∷ (0, 0) ∷ (0, 4) ∷ (0, 7) ∷ [])
     × (words (beat 3 ∷ beat 0 ∷ doUnlock 1 ∷ beat 1 ∷ beat 0 ∷ beat 1 ∷ []) ≡ (0, 5) ∷ (0, 4) ∷ (0, 4) ∷ (0, 0) ∷ (0, 4) ∷ (0, 15) ∷ [])
-    × (words (doBeat false 1 (replicate 14 (pos 0)) (replicate 2048 0) ∷ doBeat true 1 (replicate 14 (pos 0)) [] ∷ beat 1 ∷ []) ≡ (0, 7) ∷ (20, 0) ∷ (0, 4) ∷ [])
+    × (words (doBeat false 1 (replicate 14 (pos 0)) (replicate 2048 0) ∷ doBeat true 1 (replicate 14 (pos 0)) [] ∷ beat 1 ∷ []) ≡ (0, 7) ∷ (shortBuffer, 0) ∷ (0, 4) ∷ [])
 unfolding inRange valued lessThan equalTo wholeUnits outputOf grownTimer isIndex indexOf isIndexed indexAt joined more readProduct readSum readRest readExpression readVariable operandFrom readOperand sumAt expressionAt isInside cellOf variableValue lower opensTooMany wantingFault numberFault readFault joinSights sight isWritable writeFault codeFault idFault callFault countFault numberOf isRemoval assignedAt assignmentAt commandAt actionAt actionsAt lineParts bodyAt restAt lineAt joinTruths joinValues valueOver conditionValue rightValue linesFrom linesRead rankIn namesKnown allKnown namedLines soundLines powerOn grownCells inputCells beatCells allRanged isCell areCells allZero isFifoSound areFifos isFlag areFlags stateSound isSound writeCell writeInside writeTo lockOf takenAt assignmentOf commandOf actionOf actionsOf tries acts remembers takesTurn doTurn tryTurn turnOf turnsFrom areInputs begun ended beatOf beatAnswer beatBuffer foundAt found called lockedCall lockCall unlockCall cancelCall resetCancelled zeroed resetState resetCall step runFrom
 runs = (refl, refl, refl, refl, refl)

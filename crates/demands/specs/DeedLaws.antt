@@ -125,15 +125,15 @@ module _ (s numbers : List ℕ) (cancelled : List Bool) (number : ℕ) where
 
 module _ (s numbers : List ℕ) (cancelled : List Bool) (automatic : Bool) (l : Line) (k : ℕ) (x : World) where
   -- the line was left alone; or it did all its actions, and its bit was added to the word
-  abbrev pub Took : World → Type 0
-  Took y = LeftAlone k x y ⊎ (DidAll s numbers cancelled l k x y × (y .acted ≡ x .acted + 2 ^ k))
+  abbrev pub LeftOrDid : World → Type 0
+  LeftOrDid y = LeftAlone k x y ⊎ (DidAll s numbers cancelled l k x y × (y .acted ≡ x .acted + 2 ^ k))
 
   do-took : (m : List Bool) (es : List Entry) (b : Bool) → ((j : ℕ) → j ≢ k → getD m j false ≡ getD (x .memory) j false) →
-      Ok (λ t. Took (t .world)) (doTurn s numbers cancelled automatic l k (record { vars = x .vars; locked = x .locked; memory = m; acted = x .acted; orders = x .orders }) es b)
+      Ok (λ t. LeftOrDid (t .world)) (doTurn s numbers cancelled automatic l k (record { vars = x .vars; locked = x .locked; memory = m; acted = x .acted; orders = x .orders }) es b)
   unfolding doTurn
   do-took m es false h = inl (record { vars = refl; locked = refl; acted = refl; orders = refl; others = h })
   do-took m es true h =
-      bind-ok (λ t. Took (t .world)) (actionsOf s numbers cancelled (l .number) maxActions (acting k m x) (l .actions)) _
+      bind-ok (λ t. LeftOrDid (t .world)) (actionsOf s numbers cancelled (l .number) maxActions (acting k m x) (l .actions)) _
       (λ d q. let a = actionsOf s numbers cancelled (l .number) maxActions (acting k m x) (l .actions) in
       let e = is-ok (Ends s numbers cancelled (l .number) (acting k m x)) a d q (actions-end s numbers cancelled (l .number) maxActions (acting k m x) (l .actions)) in
       let f = is-ok (Fair s numbers cancelled (l .number) (acting k m x)) a d q (actions-fair s numbers cancelled (l .number) maxActions (acting k m x) (l .actions)) in
@@ -150,10 +150,10 @@ module _ (s numbers : List ℕ) (cancelled : List Bool) (automatic : Bool) (l : 
       ))
 
   -- so is every turn of the engine
-  pub turn-took : Ok (λ t. Took (t .world)) (turnOf s numbers cancelled automatic l k x)
+  pub turn-took : Ok (λ t. LeftOrDid (t .world)) (turnOf s numbers cancelled automatic l k x)
   unfolding turnOf tryTurn
   turn-took =
-      let P : Turned → Type 0 = λ t. Took (t .world) in
+      let P : Turned → Type 0 = λ t. LeftOrDid (t .world) in
       let m = getD (x .memory) k false in
       either (Ok P) (takesTurn s numbers cancelled automatic l k x)
       (λ e. either (Ok P) (tries (l .keyword) m)

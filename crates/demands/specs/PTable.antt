@@ -7,6 +7,7 @@ use Prim.Native.Nat.{ℕ}
 use Prim.Native.String.{String}
 use lib.IntN.{ℤ, pos, negsuc}
 use lib.ListN.{length, getD, take, replicate}
+use Rattle.values.specs.Codes.{outOfRange, zeroDivisor, fifoFull}
 use Rattle.values.specs.Value.{inRange, valued, sumOf, differenceOf, productOf, quotientOf, negationOf, lessThan, equalTo, wholeUnits, outputOf, feedOf, signOf}
 use Rattle.values.specs.Time.{millisOf, grownTimer, writtenTimer}
 use Rattle.values.specs.Fifo.{fits, appendAnswer, appended, shifted, removeAnswer, removed, oldestOf, newestOf, sumFirst, sumAll, totalOf, countOf, cleared, emptyAnswer, emptied}
@@ -50,8 +51,8 @@ use Rattle.demands.specs.Asks.{newlyLoaded}
 -- ---- what a case says
 
 -- an order: line, kind, target, value
-abbrev pub Told : Type 0
-Told = ℕ × ℕ × ℕ × ℤ
+abbrev pub AnOrder : Type 0
+AnOrder = ℕ × ℕ × ℕ × ℤ
 
 -- what a call gives: its code, the number of orders, the word of the lines that acted, the first bytes of the order buffer
 abbrev pub Given : Type 0
@@ -65,10 +66,10 @@ pub record Case : Type 0 where
   pub r1 : ℤ
 
 -- kind, line number, target, 0, the value
-abbrev pub eight : Told → List ℕ
+abbrev pub eight : AnOrder → List ℕ
 eight o = o .1 ∷ o .0 ∷ o .2 ∷ 0 ∷ fourBytes (twosComplement (o .3))
 
-abbrev pub inBytes : List Told → List ℕ
+abbrev pub inBytes : List AnOrder → List ℕ
 inBytes [] = []
 inBytes (o ∷ os) = eight o ++ inBytes os
 
@@ -80,7 +81,7 @@ abbrev pub compared : ℕ
 compared = 64
 
 -- a beat gives this code, this word and these orders; the bytes behind the last order stay
-abbrev pub gives : ℕ → ℕ → List Told → Given
+abbrev pub gives : ℕ → ℕ → List AnOrder → Given
 gives code acted os = (code, length os, acted, take compared (inBytes os ++ replicate compared lentByte))
 
 -- a host's call gives this code
@@ -122,8 +123,8 @@ unfoldable pub cases : List Case
 cases =
     record { text = "ID=1 DO POS[X]=1/3 POS[Y]=-1/3 POS[Z]=0.001*0.5"; calls = on 0 ∷ []; gives = gives 0 1 ((1, 1, 1, pos 333) ∷ (1, 1, 2, negsuc 332) ∷ (1, 1, 3, pos 0) ∷ []) ∷ []; r1 = pos 0 }
     ∷ record { text = "ID=1 DO POS[X]=1000000*1"; calls = on 0 ∷ []; gives = gives 0 1 ((1, 1, 1, pos 1000000000) ∷ []) ∷ []; r1 = pos 0 }
-    ∷ record { text = "ID=1 DO POS[X]=1000000+0.001"; calls = on 0 ∷ []; gives = gives 30 0 [] ∷ []; r1 = pos 0 }
-    ∷ record { text = "ID=1 DO POS[X]=1/0"; calls = on 0 ∷ []; gives = gives 31 0 [] ∷ []; r1 = pos 0 }
+    ∷ record { text = "ID=1 DO POS[X]=1000000+0.001"; calls = on 0 ∷ []; gives = gives outOfRange 0 [] ∷ []; r1 = pos 0 }
+    ∷ record { text = "ID=1 DO POS[X]=1/0"; calls = on 0 ∷ []; gives = gives zeroDivisor 0 [] ∷ []; r1 = pos 0 }
     ∷ record { text = "ID=1 DO $AC_MARKER[0]=1.999 $AC_MARKER[1]=-1.999 POS[X]=$AC_MARKER[0] POS[Y]=$AC_MARKER[1]"; calls = on 0 ∷ []; gives = gives 0 1 ((1, 1, 1, pos 1000) ∷ (1, 1, 2, negsuc 999) ∷ []) ∷ []; r1 = pos 0 }
     ∷ record {
       text = "ID=1 EVERY $A_IN[1]==1 DO $R[1]=1\nID=2 WHEN $A_IN[1]==1 DO $R[1]=1\nID=3 FROM $A_IN[1]==1 DO $R[1]=1\nID=4 WHENEVER $A_IN[1]==1 DO $R[1]=1";
@@ -137,11 +138,11 @@ cases =
       gives = gives 0 1 ((1, 4, 0, pos 7) ∷ []) ∷ answers 0 ∷ gives 0 0 [] ∷ gives 0 0 [] ∷ gives 0 0 [] ∷ answers 0 ∷ gives 0 0 [] ∷ [];
       r1 = pos 0;
     }
-    ∷ record { text = undone; calls = on 3 ∷ []; gives = gives 31 0 [] ∷ []; r1 = pos 0 }
+    ∷ record { text = undone; calls = on 3 ∷ []; gives = gives zeroDivisor 0 [] ∷ []; r1 = pos 0 }
     ∷ record {
       text = undone;
       calls = on 3 ∷ on 1 ∷ on 1 ∷ [];
-      gives = gives 31 0 [] ∷ gives 0 1 ((1, 1, 1, pos 1000) ∷ (1, 4, 0, pos 7) ∷ []) ∷ gives 0 0 [] ∷ [];
+      gives = gives zeroDivisor 0 [] ∷ gives 0 1 ((1, 1, 1, pos 1000) ∷ (1, 4, 0, pos 7) ∷ []) ∷ gives 0 0 [] ∷ [];
       r1 = pos 1000;
     }
     ∷ record {
@@ -153,7 +154,7 @@ cases =
     ∷ record {
       text = "ID=1 WHEN TRUE DO $AC_FIFO1[0]=1 $AC_FIFO1[0]=2 $AC_FIFO1[0]=3 $AC_FIFO1[0]=4 $AC_FIFO1[0]=5 $AC_FIFO1[0]=6 $AC_FIFO1[0]=7 $AC_FIFO1[0]=8\nID=2 WHEN TRUE DO $AC_FIFO1[0]=9 $AC_FIFO1[0]=10 $AC_FIFO1[0]=11 $AC_FIFO1[0]=12 $AC_FIFO1[0]=13 $AC_FIFO1[0]=14 $AC_FIFO1[0]=15 $AC_FIFO1[0]=16\nID=3 WHENEVER $A_IN[1]==1 DO $AC_FIFO1[0]=17\nID=4 WHENEVER $A_IN[2]==1 DO $AC_FIFO1[0]=$AC_FIFO1[0] POS[X]=$AC_FIFO1[1] POS[Y]=$AC_FIFO1[2]";
       calls = on 0 ∷ on 1 ∷ on 2 ∷ [];
-      gives = gives 0 3 [] ∷ gives 33 0 [] ∷ gives 0 8 ((4, 1, 1, pos 2000) ∷ (4, 1, 2, pos 1000) ∷ []) ∷ [];
+      gives = gives 0 3 [] ∷ gives fifoFull 0 [] ∷ gives 0 8 ((4, 1, 1, pos 2000) ∷ (4, 1, 2, pos 1000) ∷ []) ∷ [];
       r1 = pos 0;
     }
     ∷ []

@@ -27,7 +27,7 @@ use Rattle.demands.specs.Run.{run, runByRule, stateBy, begunBy, turnsByR
 use Rattle.demands.specs.Demand3.{demand-3}
 use Rattle.demands.specs.Acts.{isActed, actsNow}
 use Rattle.demands.specs.Deed.{LeftAlone, DidAll, bytesOf, Each, Gave, OfActed}
-use Rattle.demands.specs.DeedLaws.{bytes-length, Took, turn-took}
+use Rattle.demands.specs.DeedLaws.{bytes-length, LeftOrDid, turn-took}
 use Rattle.demands.specs.ActLaws.{turns-gave}
 use Rattle.demands.specs.Consequences.{beat-turns, unflagged, no-bit, acts-just, acts-no-other}
 
@@ -49,20 +49,20 @@ pub record AtItsTurn (s : List ℕ) (st : State) (r : History) (m : Bool) (word 
 
 -- a turn left its line alone or did all, by whether it added the line's bit
 module _ (s : List ℕ) (cancelled : List Bool) (m : Bool) (l : Line) (k : ℕ) (x : World) (t : Turned) (taken : turnOf s (soundLines s .numbers) cancelled m l k x ≡ good t) where
-  took : Took s (soundLines s .numbers) cancelled m l k x (t .world)
-  took = is-ok (λ t. Took s (soundLines s .numbers) cancelled m l k x (t .world)) _ t taken (turn-took s (soundLines s .numbers) cancelled m l k x)
+  took : LeftOrDid s (soundLines s .numbers) cancelled m l k x (t .world)
+  took = is-ok (λ t. LeftOrDid s (soundLines s .numbers) cancelled m l k x (t .world)) _ t taken (turn-took s (soundLines s .numbers) cancelled m l k x)
 
   was-left : t .world .acted ≡ x .acted + 0 → LeftAlone k x (t .world)
   was-left e = go took
     where
-      go : Took s (soundLines s .numbers) cancelled m l k x (t .world) → LeftAlone k x (t .world)
+      go : LeftOrDid s (soundLines s .numbers) cancelled m l k x (t .world) → LeftAlone k x (t .world)
       go (inl h) = h
       go (inr h) = absurd (omega (arith, h .1, one-le-pow k 2 (omega arith)))
 
   was-done : t .world .acted ≡ x .acted + 2 ^ k → DidAll s (soundLines s .numbers) cancelled l k x (t .world)
   was-done e = go took
     where
-      go : Took s (soundLines s .numbers) cancelled m l k x (t .world) → DidAll s (soundLines s .numbers) cancelled l k x (t .world)
+      go : LeftOrDid s (soundLines s .numbers) cancelled m l k x (t .world) → DidAll s (soundLines s .numbers) cancelled l k x (t .world)
       go (inl h) = absurd (omega (arith, h .acted, one-le-pow k 2 (omega arith)))
       go (inr h) = h .0
 

@@ -15,7 +15,7 @@ use Rattle.tokens.specs.Token.{END, whole, setSize}
 use Rattle.checking.specs.Fault.{lineAt}
 use Rattle.engine.specs.declared.set.Lines.{Lines}
 use Rattle.values.specs.PutAt.{putAt}
-use Rattle.engine.specs.Set.{lineCount, withoutMark, ended, lineOf, noLine, noLines, linesFrom, linesRead, rankIn, isLock, namesKnown, allKnown, namedLines, soundLines}
+use Rattle.engine.specs.Set.{lineCount, withoutMark, withEnd, lineOf, noLine, noLines, linesFrom, linesRead, rankIn, isLock, namesKnown, allKnown, namedLines, soundLines}
 
 one-less : (k : ℕ) → suc k - 1 ≡ k
 one-less k = omega arith
@@ -27,10 +27,10 @@ turn n k h = omega arith
 -- ---- tokens that are put into a set: those from place i on at place p
 
 module _ (ts s : List ℕ) (p i : ℕ) where
-  pub tokens-next : i < length ts → putAt s p (ended (map withoutMark (drop i ts))) ≡ putAt (set s p (withoutMark (getD ts i 0))) (p + 1) (ended (map withoutMark (drop (i + 1) ts)))
+  pub tokens-next : i < length ts → putAt s p (withEnd (map withoutMark (drop i ts))) ≡ putAt (set s p (withoutMark (getD ts i 0))) (p + 1) (withEnd (map withoutMark (drop (i + 1) ts)))
   tokens-next h = rw (drop-cons ts i 0 h, add-one i)
 
-  pub tokens-end : length ts ≤ i → putAt s p (ended (map withoutMark (drop i ts))) ≡ set s p END
+  pub tokens-end : length ts ≤ i → putAt s p (withEnd (map withoutMark (drop i ts))) ≡ set s p END
   tokens-end h = rw (drop-of-length-le ts {i = i} h)
 
 -- ---- the rank of a number

@@ -39,12 +39,12 @@ unfoldable pub withoutMark : ℕ → ℕ
 withoutMark t = elim (isNumber t) [ true ↦ t - t % 2 | false ↦ t ]
 
 -- the tokens of a line and the 0 that ends it
-abbrev pub ended : List ℕ → List ℕ
-ended ts = ts ++ (END ∷ [])
+abbrev pub withEnd : List ℕ → List ℕ
+withEnd ts = ts ++ (END ∷ [])
 
 -- one line more, of rank k: it begins at the place `at`, and from there on its tokens stand without marks, and their end; what would lie past the array is left off
 unfoldable pub withLine : List ℕ → ℕ → ℕ → List ℕ → List ℕ
-withLine s k at ts = putAt (set (set s 0 (k + 1)) (startPlace k) at) at (ended (map withoutMark ts))
+withLine s k at ts = putAt (set (set s 0 (k + 1)) (startPlace k) at) at (withEnd (map withoutMark ts))
 
 -- ---- the lines
 

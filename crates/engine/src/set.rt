@@ -4,7 +4,7 @@ ghost use mathlib.Core.List.{map};
 ghost use Prim.Native.Nat.{_≤_};
 ghost use lib.ListN.{set};
 ghost use Rattle.values.specs.PutAt.{putAt};
-ghost use Rattle.engine.specs.Set.{ended, withoutMark, withLine, noLine, noLines, linesRead, rankIn, isLock, namesKnown, allKnown, soundLines, emptySet};
+ghost use Rattle.engine.specs.Set.{withEnd, withoutMark, withLine, noLine, noLines, linesRead, rankIn, isLock, namesKnown, allKnown, soundLines, emptySet};
 ghost use Rattle.tokens.specs.Token.{setSize, maxLines};
 use checking::Line;
 use checking::line_at;
@@ -60,7 +60,7 @@ fn put(array: &mut [u32; SIZE], at: usize, t: u32)
 
 // Tokens without their marks from a place on, and their end.
 fn put_tokens(set: &mut [u32; SIZE], at: u32, tokens: &[u32])
-    ensures { λ x. ⌜ now (set .exit) ≡ putAt (now (set .entry)) at (ended (map withoutMark (now (tokens .entry)))) ⌝ }
+    ensures { λ x. ⌜ now (set .exit) ≡ putAt (now (set .entry)) at (withEnd (map withoutMark (now (tokens .entry)))) ⌝ }
 {
     let mut p = at as usize;
     let mut i: usize = 0;

@@ -1,5 +1,5 @@
 // Calls of the control for programs in Rust or C. Each is a thin shell over a proved call and asks nothing of its caller but arrays of the
-// right length. What begins with `code_` is lent a set's tokens, with `reader_` a set text.
+// right length. What begins with `set_` is lent a set, with `reader_` a set text.
 ghost use mathlib.Core.Path.{_≡_};
 ghost use Rattle.working.specs.Working.{conditionValue, rightValue};
 ghost use Rattle.checking.specs.Fault.{lineAt};
@@ -30,7 +30,7 @@ fn packed_value(g: ValueOrAlarm) -> i64
 
 // The condition at place `at`: 1 for yes, 0 for no, or an alarm.
 #[no_mangle]
-pub extern "C" fn code_condition(
+pub extern "C" fn set_condition(
     set: &[u32; SIZE],
     r: &[i32; RS],
     cells: &[i32; CELLS],
@@ -43,7 +43,7 @@ pub extern "C" fn code_condition(
 
 // The right side at place `at`: its value in thousandths, or an alarm.
 #[no_mangle]
-pub extern "C" fn code_right_side(
+pub extern "C" fn set_right_side(
     set: &[u32; SIZE],
     r: &[i32; RS],
     cells: &[i32; CELLS],
@@ -56,7 +56,7 @@ pub extern "C" fn code_right_side(
 
 // The lowest fault of 4 to 10 of the line at place `at`, 0 for none.
 #[no_mangle]
-pub extern "C" fn code_line_fault(set: &[u32; SIZE], at: usize) -> u32
+pub extern "C" fn set_line_fault(set: &[u32; SIZE], at: usize) -> u32
     ensures { λ x. ⌜ x ≡ lineAt (now (set .entry)) at .fault ⌝ }
 {
     let line = line_at(set, at);

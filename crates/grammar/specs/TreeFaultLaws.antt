@@ -69,9 +69,9 @@ unless-proper false k h = inr (bounds confused tooManyActions k h)
 -- ---- the sight of a tree never stops, and its fault is proper
 
 -- an answer of the check that is good, with a proper fault
-abbrev Seen : Answer Sight → Type 0
-Seen (good a) = Proper (a .fault)
-Seen (stop c) = ⊥
+abbrev GoodSight : Answer Sight → Type 0
+GoodSight (good a) = Proper (a .fault)
+GoodSight (stop c) = ⊥
 
 wanting-proper : (t : Bool) (a : Sight) → Proper (wanting t a)
 unfolding wantingFault
@@ -85,18 +85,18 @@ read-proper : (w i : ℕ) → Proper (readFault w i)
 unfolding readFault
 read-proper w i = lower-proper _ _ (unless-proper (isInside w i) outside tt) (unless-proper (no? (isFifo w && eqb i 0)) readOnly tt)
 
-seen-on : (m : Answer Sight) (f : Sight → Answer Sight) → Seen m → ((a : Sight) → Proper (a .fault) → Seen (f a)) → Seen (m >>= f)
+seen-on : (m : Answer Sight) (f : Sight → Answer Sight) → GoodSight m → ((a : Sight) → Proper (a .fault) → GoodSight (f a)) → GoodSight (m >>= f)
 seen-on (good a) f h g = g a h
 seen-on (stop c) f h g = absurd h
 
-seen-join : (o : ℕ) (a b : Sight) → Proper (a .fault) → Proper (b .fault) → Seen (sight .join o a b)
+seen-join : (o : ℕ) (a b : Sight) → Proper (a .fault) → Proper (b .fault) → GoodSight (sight .join o a b)
 unfolding sight joinSights
 seen-join o a b h g = lower-proper _ _ (lower-proper _ _ (wanting-proper _ a) (wanting-proper _ b)) (lower-proper _ _ h g)
 
 mutual
   unfolding operandMeaning sight
 
-  seen-operand : (o : Operand) → Seen (operandMeaning sight o)
+  seen-operand : (o : Operand) → GoodSight (operandMeaning sight o)
   seen-operand (number n) = number-proper n
   seen-operand (variable w v i) = read-proper w i
   seen-operand (position x v) = read-proper IM (axisOf x)
@@ -105,37 +105,37 @@ mutual
   seen-operand (minus a) = seen-on (operandMeaning sight a) _ (seen-operand a) (λ x h. lower-proper _ _ (wanting-proper _ x) h)
   seen-operand (not a) = seen-on (operandMeaning sight a) _ (seen-operand a) (λ x h. lower-proper _ _ (wanting-proper _ x) h)
 
-  seen-product : (x : Product) → Seen (productMeaning sight x)
+  seen-product : (x : Product) → GoodSight (productMeaning sight x)
   seen-product (product a r) = seen-on (operandMeaning sight a) _ (seen-operand a) (λ x h. seen-factors r x h)
 
-  seen-factors : (r : Factors) (x : Sight) → Proper (x .fault) → Seen (factorsMeaning sight r x)
+  seen-factors : (r : Factors) (x : Sight) → Proper (x .fault) → GoodSight (factorsMeaning sight r x)
   seen-factors noFactor x h = h
   seen-factors (factor o v a r) x h = seen-on (operandMeaning sight a >>= sight .join o x) _ (seen-on (operandMeaning sight a) _ (seen-operand a) (λ y g. seen-join o x y h g)) (λ y g. seen-factors r y g)
 
   -- of a right side
-  pub seen-sum : (x : Sum) → Seen (sumMeaning sight x)
+  pub seen-sum : (x : Sum) → GoodSight (sumMeaning sight x)
   seen-sum (sum a r) = seen-on (productMeaning sight a) _ (seen-product a) (λ x h. seen-terms r x h)
 
-  seen-terms : (r : Terms) (x : Sight) → Proper (x .fault) → Seen (termsMeaning sight r x)
+  seen-terms : (r : Terms) (x : Sight) → Proper (x .fault) → GoodSight (termsMeaning sight r x)
   seen-terms noTerm x h = h
   seen-terms (term o v a r) x h = seen-on (productMeaning sight a >>= sight .join o x) _ (seen-on (productMeaning sight a) _ (seen-product a) (λ y g. seen-join o x y h g)) (λ y g. seen-terms r y g)
 
   -- of an expression
-  pub seen-expression : (x : Expression) → Seen (expressionMeaning sight x)
+  pub seen-expression : (x : Expression) → GoodSight (expressionMeaning sight x)
   seen-expression (single a) = seen-sum a
   seen-expression (compare o v a b) = seen-on (sumMeaning sight a) _ (seen-sum a) (λ x h. seen-on (sumMeaning sight b) _ (seen-sum b) (λ y g. seen-join o x y h g))
   seen-expression (row o v a r) = seen-on (sumMeaning sight a) _ (seen-sum a) (λ x h. seen-sums r o x h)
 
-  seen-sums : (r : Sums) (o : ℕ) (x : Sight) → Proper (x .fault) → Seen (sumsMeaning sight o r x)
+  seen-sums : (r : Sums) (o : ℕ) (x : Sight) → Proper (x .fault) → GoodSight (sumsMeaning sight o r x)
   seen-sums (last a) o x h = seen-on (sumMeaning sight a) _ (seen-sum a) (λ y g. seen-join o x y h g)
   seen-sums (next a r) o x h = seen-on (sumMeaning sight a >>= sight .join o x) _ (seen-on (sumMeaning sight a) _ (seen-sum a) (λ y g. seen-join o x y h g)) (λ y g. seen-sums r o y g)
 
 -- so where a tree's sight is read, its fault is
-pub wanted-read : (t : Bool) (m : Answer Sight) (q : ℕ) → Seen m → faultFor t (upTo m q) ≡ read (wantedFault t m) q
+pub wanted-read : (t : Bool) (m : Answer Sight) (q : ℕ) → GoodSight m → faultFor t (upTo m q) ≡ read (wantedFault t m) q
 wanted-read t (good a) q h = refl
 wanted-read t (stop c) q h = absurd h
 
-wanted-proper : (t : Bool) (m : Answer Sight) → Seen m → Proper (wantedFault t m)
+wanted-proper : (t : Bool) (m : Answer Sight) → GoodSight m → Proper (wantedFault t m)
 wanted-proper t (good a) h = lower-proper _ _ (wanting-proper t a) h
 wanted-proper t (stop c) h = absurd h
 

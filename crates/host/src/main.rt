@@ -11,6 +11,8 @@ use engine::unlock;
 use libc::STDOUT_FILENO;
 use reader::load;
 use tokens::token::SIZE;
+use values::codes::SHORT_BUFFER;
+use values::codes::UNSOUND;
 
 const BEATS: u32 = 10;
 // The order buffer: room for every order that a beat can give.
@@ -102,7 +104,7 @@ fn inputs_at(k: u32) -> u16 {
 // 20, a fault of the host, and 22, damaged memory, stop it. On 21 nothing was worked, and an alarm, 30 to 34, has undone its beat: the next one goes on.
 fn stops_on(code: u8) -> bool {
     match code {
-        20 | 22 => true,
+        SHORT_BUFFER | UNSOUND => true,
         _ => false,
     }
 }

@@ -13,7 +13,7 @@ use Rattle.values.specs.Codes.{tooLong, tooManyLines, tooDeep, notInGrammar, no
 use Rattle.values.specs.Choice.{decide, chosen, refused as not-chosen}
 use Rattle.values.specs.Numbers.{clash}
 use Rattle.values.specs.Unique.{unique}
-use Rattle.checking.specs.declared.line.Line.{Line as Told}
+use Rattle.checking.specs.declared.line.Line.{Line as Parts}
 use Rattle.tokens.specs.Token.{setSize, maxLines, textSize}
 use Rattle.tokens.specs.SingleFault.{opensTooMany}
 use Rattle.checking.specs.Fault.{lineAt}
@@ -78,7 +78,7 @@ fault-range s size =
     decide _ (eqb (lineAt s 0 .fault) notInGrammar) (λ b. let e = eqb-true (lineAt s 0 .fault) notInGrammar b in inr (omega arith)) λ b.
     let no4 = eqb-false (lineAt s 0 .fault) tooDeep a in
     let (l, q, h) = line-found s 0 no4 (eqb-false (lineAt s 0 .fault) notInGrammar b) in
-    let o : opensTooMany s 0 ≡ false = decide _ (opensTooMany s 0) (λ x. absurd (no4 (ap (λ (z : Told). z .fault) (chosen _ _ _ x)))) (λ x. x) in
+    let o : opensTooMany s 0 ≡ false = decide _ (opensTooMany s 0) (λ x. absurd (no4 (ap (λ (z : Parts). z .fault) (chosen _ _ _ x)))) (λ x. x) in
     proper (lineFault l) (line-fault s size l 0 q o h) (line-proper l)
   where
     proper : (n : ℕ) → lineAt s 0 .fault ≡ n → Proper n → NoneOr 4 10 (lineAt s 0 .fault)

@@ -9,7 +9,7 @@ use Rattle.tokens.specs.Token.{setSize}
 use Rattle.grammar.specs.Meaning.{Stands}
 use Rattle.grammar.specs.AgreementLaws.{stands-place}
 use Rattle.grammar.specs.TreeFault.{lineFault, partsFrom}
-use Rattle.engine.specs.Set.{lineCount, startOf, lineOf, ended}
+use Rattle.engine.specs.Set.{lineCount, startOf, lineOf, withEnd}
 use Rattle.text.specs.Lines.{tokenLines}
 use Rattle.reader.specs.Row.{Row, noRow, byNumber, setOf}
 use Rattle.reader.specs.Load.{taken, rowOf, outcome, loadSet}
@@ -30,7 +30,7 @@ pub record HoldsLine (s : List ℕ) (k : ℕ) (r : Row) : Type 0 where
   -- with this number;
   pub number : treeNumber tree ≡ r .number
   -- the text has its tokens,
-  pub inText : lineTokens tree ≡ ended (r .tokens)
+  pub inText : lineTokens tree ≡ withEnd (r .tokens)
   -- the set has them where the rank begins, each number without the mark of a written point,
   pub inSet : Stands s (startOf s k) (lineTokens (unmarkedTree tree)) (startOf s k + length (lineTokens (unmarkedTree tree)))
   -- and so the engine reads the parts of that line there

@@ -12,7 +12,7 @@ use Rattle.tokens.specs.Descent.{good, _>>=_}
 use Rattle.grammar.specs.Tree.{Line, lineTokens}
 use Rattle.grammar.specs.Meaning.{Stands}
 use Rattle.engine.specs.declared.state.State.{State}
-use Rattle.engine.specs.Set.{soundLines, withoutMark, ended}
+use Rattle.engine.specs.Set.{soundLines, withoutMark, withEnd}
 use Rattle.engine.specs.Sound.{isSound}
 use Rattle.engine.specs.Action.{World}
 use Rattle.engine.specs.Turn.{beatIn, turnsFrom}
@@ -37,7 +37,7 @@ abbrev pub AreTrees : List Line → List Row → Type 0
 AreTrees [] [] = Unit {0}
 AreTrees [] (r ∷ rs) = ⊥
 AreTrees (l ∷ ls) [] = ⊥
-AreTrees (l ∷ ls) (r ∷ rs) = (lineTokens l ≡ ended (r .tokens)) × AreTrees ls rs
+AreTrees (l ∷ ls) (r ∷ rs) = (lineTokens l ≡ withEnd (r .tokens)) × AreTrees ls rs
 
 trees-length : (ls : List Line) (rs : List Row) → AreTrees ls rs → length ls ≡ length rs
 trees-length [] [] h = refl
@@ -54,7 +54,7 @@ have-trees (r ∷ rs) f s =
     (w .tree ∷ ls, (w .tokens, t))
 
 -- the tokens of a tree without marks are those that a set has of its line
-held-tree : (l : Line) (r : Row) → lineTokens l ≡ ended (r .tokens) → heldTokens r ≡ lineTokens (unmarkedTree l)
+held-tree : (l : Line) (r : Row) → lineTokens l ≡ withEnd (r .tokens) → heldTokens r ≡ lineTokens (unmarkedTree l)
 held-tree l r e = ended-unmarked (r .tokens) ∙ ap (map withoutMark) (sym e) ∙ unmarked-tokens l
 
 -- lines that are laid in a set: it has the trees without marks

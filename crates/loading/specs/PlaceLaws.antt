@@ -12,7 +12,7 @@ use lib.Seq.{drop-cons}
 use borrow.Author.Tests.{eqb-true, eqb-false, ne-eqb, eq-eqb}
 use Rattle.values.specs.Codes.{tooDeep, notInGrammar}
 use Rattle.values.specs.Choice.{told-so, decide, chosen, refused, eitherBoth}
-use Rattle.checking.specs.declared.line.Line.{Line as Told}
+use Rattle.checking.specs.declared.line.Line.{Line as Parts}
 use Rattle.tokens.specs.Token.{END, OPEN, CLOSE, LOCK, UNLOCK, whole, setSize, AllReal}
 use Rattle.grammar.specs.Tree.{Line, line, lineTokens}
 use Rattle.grammar.specs.Meaning.{Stands}
@@ -22,7 +22,7 @@ use Rattle.grammar.specs.TreeFault.{lineFault, partsFrom, toldFrom}
 use Rattle.grammar.specs.AgreementLaws.{bounds, stands-place}
 use Rattle.grammar.specs.ClosedTokens.{Closed, front, front-end, front-closed, same-row}
 use Rattle.grammar.specs.AgreementLine.{line-written, line-told, line-found, fault-five}
-use Rattle.engine.specs.Set.{ended, isKnown, isLock, namesKnown}
+use Rattle.engine.specs.Set.{withEnd, isKnown, isLock, namesKnown}
 
 -- ---- where tokens stand
 
@@ -61,37 +61,37 @@ opens-on t l m n h =
     (λ _. eitherBoth (λ (x y : Bool). x ≡ y) (leb bracketsOpen n) (λ _. refl) (λ _. h (n + 1)))
     (λ _. eitherBoth (λ (x y : Bool). x ≡ y) (eqb t CLOSE) (λ _. h (n - 1)) (λ _. h n))
 
-opens-stands : (s l : List ℕ) (p q n : ℕ) → Stands s p (ended l) q → opensTooMany (drop p s) n ≡ opensTooMany (ended l) n
+opens-stands : (s l : List ℕ) (p q n : ℕ) → Stands s p (withEnd l) q → opensTooMany (drop p s) n ≡ opensTooMany (withEnd l) n
 unfolding opensTooMany
 opens-stands s [] p q n h = first-token (λ m. opensTooMany m n) false refl (λ m. refl) s p ∙ rw (h .0)
 opens-stands s (t ∷ l) p q n h =
     first-token (λ m. opensTooMany m n) false refl (λ m. refl) s p
-    ∙ rw (h .0) (opens-on t (drop (p + 1) s) (ended l) n (λ k. opens-stands s l (p + 1) q k (h .1)))
+    ∙ rw (h .0) (opens-on t (drop (p + 1) s) (withEnd l) n (λ k. opens-stands s l (p + 1) q k (h .1)))
 
 -- ---- one line at two places
 
 -- where a line of the grammar stands beside real tokens and their end, they are its tokens
-same-tokens : (s ts : List ℕ) (p q r : ℕ) (l : Line) → AllReal ts → Stands s p (ended ts) q → Stands s p (lineTokens l) r → front l ≡ ts
+same-tokens : (s ts : List ℕ) (p q r : ℕ) (l : Line) → AllReal ts → Stands s p (withEnd ts) q → Stands s p (lineTokens l) r → front l ≡ ts
 same-tokens s ts p q r l a h g = same-row s (front l) ts p r q (front-closed l) a (rw (front-end l) at g) h
 
-moved : (s z ts : List ℕ) (p q i j r : ℕ) (l : Line) → AllReal ts → Stands s p (ended ts) q → Stands z i (ended ts) j → Stands s p (lineTokens l) r → Stands z i (lineTokens l) j
+moved : (s z ts : List ℕ) (p q i j r : ℕ) (l : Line) → AllReal ts → Stands s p (withEnd ts) q → Stands z i (withEnd ts) j → Stands s p (lineTokens l) r → Stands z i (lineTokens l) j
 moved s z ts p q i j r l a h g k = rw (front-end l) (rw (same-tokens s ts p q r l a h k) g)
 
 -- what the check tells of a tree, but for its place
 told-fault : (p i : ℕ) (l : Line) → (toldFrom p l .fault ≡ toldFrom i l .fault) × (toldFrom p l .number ≡ toldFrom i l .number)
 unfolding toldFrom partsFrom
-told-fault p i (line w v n c a r) = eitherBoth (λ (x y : Told). (x .fault ≡ y .fault) × (x .number ≡ y .number)) (eqb (lineFault (line w v n c a r)) 0) (λ _. (refl, refl)) (λ _. (refl, refl))
+told-fault p i (line w v n c a r) = eitherBoth (λ (x y : Parts). (x .fault ≡ y .fault) × (x .number ≡ y .number)) (eqb (lineFault (line w v n c a r)) 0) (λ _. (refl, refl)) (λ _. (refl, refl))
 
 -- ONE LINE AT TWO PLACES: the check tells the same fault, and the same number where it tells none
-pub line-same : (s z ts : List ℕ) (p q i j : ℕ) → length s ≤ setSize → length z ≤ setSize → AllReal ts → Stands s p (ended ts) q → Stands z i (ended ts) j →
+pub line-same : (s z ts : List ℕ) (p q i j : ℕ) → length s ≤ setSize → length z ≤ setSize → AllReal ts → Stands s p (withEnd ts) q → Stands z i (withEnd ts) j →
     (lineAt s p .fault ≡ lineAt z i .fault) × (lineAt s p .fault ≡ 0 → lineAt s p .number ≡ lineAt z i .number)
 unfolding lineAt
 line-same s z ts p q i j m n a h g =
     decide _ (opensTooMany (drop p s) 0)
     (λ t.
     let u = same ∙ t in
-    let x : lineAt s p .fault ≡ tooDeep = ap (λ (x : Told). x .fault) (chosen _ _ _ t) in
-    let y : lineAt z i .fault ≡ tooDeep = ap (λ (x : Told). x .fault) (chosen _ _ _ u) in
+    let x : lineAt s p .fault ≡ tooDeep = ap (λ (x : Parts). x .fault) (chosen _ _ _ t) in
+    let y : lineAt z i .fault ≡ tooDeep = ap (λ (x : Parts). x .fault) (chosen _ _ _ u) in
     (x ∙ sym y, λ e. absurd (omega arith)))
     (λ t.
     let u = same ∙ t in
@@ -106,21 +106,21 @@ line-same s z ts p q i j m n a h g =
     let x = line-told s m l p r t k in
     let y = line-told z n l i j u (moved s z ts p q i j r l a h g k) in
     let (v, w) = told-fault p i l in
-    (ap (λ (x : Told). x .fault) x ∙ v ∙ sym (ap (λ (x : Told). x .fault) y), λ _. ap (λ (x : Told). x .number) x ∙ w ∙ sym (ap (λ (x : Told). x .number) y))))
+    (ap (λ (x : Parts). x .fault) x ∙ v ∙ sym (ap (λ (x : Parts). x .fault) y), λ _. ap (λ (x : Parts). x .number) x ∙ w ∙ sym (ap (λ (x : Parts). x .number) y))))
   where
     same : opensTooMany (drop i z) 0 ≡ opensTooMany (drop p s) 0
     same = opens-stands z ts i j 0 g ∙ sym (opens-stands s ts p q 0 h)
 
 -- tokens that the check finds no fault in are those of a line of the grammar
-pub faultless-closed : (ts : List ℕ) → AllReal ts → lineAt (ended ts) 0 .fault ≡ 0 → Closed ts
+pub faultless-closed : (ts : List ℕ) → AllReal ts → lineAt (withEnd ts) 0 .fault ≡ 0 → Closed ts
 faultless-closed ts a e =
-    let (l, q, h) = line-found (ended ts) 0 (λ f. omega arith) (λ f. omega arith) in
-    rw (← (same-tokens (ended ts) ts 0 (length (ended ts)) q l a (stands-self (ended ts)) h)) (front-closed l)
+    let (l, q, h) = line-found (withEnd ts) 0 (λ f. omega arith) (λ f. omega arith) in
+    rw (← (same-tokens (withEnd ts) ts 0 (length (withEnd ts)) q l a (stands-self (withEnd ts)) h)) (front-closed l)
 
 -- ---- the names in it
 
 -- the token behind the first, or the end
-behind-first : (s ts : List ℕ) (p q : ℕ) → 0 < length ts → Stands s p (ended ts) q → getD s (p + 1) 0 ≡ getD (ended ts) 1 0
+behind-first : (s ts : List ℕ) (p q : ℕ) → 0 < length ts → Stands s p (withEnd ts) q → getD s (p + 1) 0 ≡ getD (withEnd ts) 1 0
 behind-first s [] p q n h = absurd (omega arith)
 behind-first s (u ∷ []) p q n h = h .1 .0
 behind-first s (u ∷ v ∷ l) p q n h = h .1 .0
@@ -134,7 +134,7 @@ names-step ns t u v x y h e =
     eitherBoth (λ (a b : Bool). a ≡ b) (isLock t) (λ k. ap (λ (w : ℕ). step w x) (h k) ∙ ap (step v) e) (λ _. e)
 
 -- THE NAMES OF ONE LINE AT TWO PLACES
-pub names-same : (s z ns : List ℕ) (left : ℕ) (ts : List ℕ) (p q i j : ℕ) → Closed ts → Stands s p (ended ts) q → Stands z i (ended ts) j → namesKnown s ns left p ≡ namesKnown z ns left i
+pub names-same : (s z ns : List ℕ) (left : ℕ) (ts : List ℕ) (p q i j : ℕ) → Closed ts → Stands s p (withEnd ts) q → Stands z i (withEnd ts) j → namesKnown s ns left p ≡ namesKnown z ns left i
 unfolding namesKnown
 names-same s z ns zero ts p q i j c h g = refl
 names-same s z ns (suc left) [] p q i j c h g = chosen _ _ _ (eq-eqb (getD s p 0) END (h .0)) ∙ sym (chosen _ _ _ (eq-eqb (getD z i 0) END (g .0)))

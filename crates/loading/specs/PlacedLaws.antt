@@ -7,7 +7,7 @@ use lib.ListN.{length, getD, set, length-set, length-append, length-map}
 use lib.Seq.{getD-set-same, getD-set-other}
 use Rattle.tokens.specs.Token.{END, setSize, maxLines}
 use Rattle.grammar.specs.Meaning.{Stands}
-use Rattle.engine.specs.Set.{emptySet, firstPlace, startPlace, startOf, lineCount, withoutMark, ended, withLine}
+use Rattle.engine.specs.Set.{emptySet, firstPlace, startPlace, startOf, lineCount, withoutMark, withEnd, withLine}
 use Rattle.loading.specs.PlaceLaws.{stands-same}
 use Rattle.values.specs.PutLaws.{put-length, put-before}
 use Rattle.loading.specs.StandLaws.{put-stands, empty-length}
@@ -17,7 +17,7 @@ use Rattle.reader.specs.Row.{Row, total, placed, setOf}
 
 -- the tokens of a line as a set has them
 abbrev pub heldTokens : Row → List ℕ
-heldTokens r = ended (map withoutMark (r .tokens))
+heldTokens r = withEnd (map withoutMark (r .tokens))
 
 pub held-length : (r : Row) → length (heldTokens r) ≡ length (r .tokens) + 1
 held-length r = let a = length-append (map withoutMark (r .tokens)) (END ∷ []) in let b = length-map (r .tokens) withoutMark in omega arith

@@ -7,7 +7,7 @@ use lib.ListN.{length, getD, set, length-set, length-replicate, getD-replicate}
 use lib.Seq.{getD-set-same, getD-set-other}
 use Rattle.tokens.specs.Token.{END, setSize}
 use Rattle.grammar.specs.Meaning.{Stands}
-use Rattle.engine.specs.Set.{emptySet, ended}
+use Rattle.engine.specs.Set.{emptySet, withEnd}
 use Rattle.reader.specs.Load.{alone}
 use Rattle.values.specs.PutAt.{putAt}
 use Rattle.values.specs.PutLaws.{put-before}
@@ -33,7 +33,7 @@ unfolding emptySet
 empty-length = length-replicate {A = ℕ} setSize 0
 
 -- A LINE ALONE stands with its end
-pub alone-stands : (ts : List ℕ) → length ts < setSize → Stands (alone ts) 0 (ended ts) (length ts + 1)
+pub alone-stands : (ts : List ℕ) → length ts < setSize → Stands (alone ts) 0 (withEnd ts) (length ts + 1)
 unfolding emptySet
 alone-stands ts h =
     let e = empty-length in

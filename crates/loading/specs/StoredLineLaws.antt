@@ -7,7 +7,7 @@ use native.Mathlib.Omega.{arith}
 use lib.ListN.{length, length-append, length-map}
 use Rattle.tokens.specs.Token.{END, setSize, AllReal}
 use Rattle.grammar.specs.Tree.{Line, line, lineTokens, treeNumber}
-use Rattle.checking.specs.declared.line.Line.{Line as Told}
+use Rattle.checking.specs.declared.line.Line.{Line as Parts}
 use Rattle.grammar.specs.Meaning.{Stands}
 use Rattle.tokens.specs.SingleFault.{opensTooMany}
 use Rattle.checking.specs.Fault.{lineAt}
@@ -16,7 +16,7 @@ use Rattle.grammar.specs.NumbersTo.{numbersTo}
 use Rattle.grammar.specs.NumbersToLaws.{to-all-real, to-opens}
 use Rattle.grammar.specs.ClosedTokens.{Closed, front, front-end, front-closed, same-row}
 use Rattle.grammar.specs.AgreementLine.{line-found, line-fault, line-parts, not-deep, parts-number}
-use Rattle.engine.specs.Set.{emptySet, withoutMark, ended, isKnown, namesKnown}
+use Rattle.engine.specs.Set.{emptySet, withoutMark, withEnd, isKnown, namesKnown}
 use Rattle.values.specs.PutLaws.{put-length}
 use Rattle.reader.specs.Load.{alone}
 use Rattle.loading.specs.PlaceLaws.{stands-self, line-same, faultless-closed, names-same}
@@ -30,7 +30,7 @@ use Rattle.loading.specs.NumbersNamesLaws.{to-names}
 unmarked-all-real : (l : List ℕ) → AllReal l → AllReal (map withoutMark l)
 unmarked-all-real l h = rw (without-marks l) (to-all-real unmarked unmarked-keeps l h)
 
-pub ended-unmarked : (l : List ℕ) → ended (map withoutMark l) ≡ map withoutMark (ended l)
+pub ended-unmarked : (l : List ℕ) → withEnd (map withoutMark l) ≡ map withoutMark (withEnd l)
 unfolding withoutMark
 ended-unmarked l = sym (map-append withoutMark l (END ∷ []))
 
@@ -39,17 +39,17 @@ opens-unmarked : (l : List ℕ) (n : ℕ) → opensTooMany (map withoutMark l) n
 opens-unmarked l n = rw (without-marks l) (to-opens unmarked unmarked-keeps l n)
 
 -- and it names only numbers of ns, if it named only such as are all in ns
-names-unmarked : (l ns ns′ : List ℕ) → ((n : ℕ) → isKnown ns′ n ≡ true → isKnown ns n ≡ true) → namesKnown (ended l) ns′ setSize 0 ≡ true → namesKnown (ended (map withoutMark l)) ns setSize 0 ≡ true
-names-unmarked l ns ns′ f e = rw (ended-unmarked l, without-marks (ended l)) (to-names unmarked unmarked-keeps setSize (ended l) ns ns′ 0 f e)
+names-unmarked : (l ns ns′ : List ℕ) → ((n : ℕ) → isKnown ns′ n ≡ true → isKnown ns n ≡ true) → namesKnown (withEnd l) ns′ setSize 0 ≡ true → namesKnown (withEnd (map withoutMark l)) ns setSize 0 ≡ true
+names-unmarked l ns ns′ f e = rw (ended-unmarked l, without-marks (withEnd l)) (to-names unmarked unmarked-keeps setSize (withEnd l) ns ns′ 0 f e)
 
 -- ---- a line that is taken
 
 -- the tree that some tokens are the line of, without a fault of 4 to 10
 pub record Written (ts : List ℕ) : Type 0 where
   pub tree : Line
-  pub tokens : lineTokens tree ≡ ended ts
+  pub tokens : lineTokens tree ≡ withEnd ts
   pub faultless : lineFault tree ≡ 0
-  pub shallow : opensTooMany (ended ts) 0 ≡ false
+  pub shallow : opensTooMany (withEnd ts) 0 ≡ false
   pub closed : Closed ts
   pub number : lineAt (alone ts) 0 .number ≡ treeNumber tree
 
@@ -59,14 +59,14 @@ written ts real short fine =
     let n = length-append ts (END ∷ []) in
     let m = put-length ts emptySet 0 in
     let k = empty-length in
-    let s = line-same (alone ts) (ended ts) ts 0 _ 0 _ (omega arith) (omega arith) real (alone-stands ts short) (stands-self (ended ts)) in
+    let s = line-same (alone ts) (withEnd ts) ts 0 _ 0 _ (omega arith) (omega arith) real (alone-stands ts short) (stands-self (withEnd ts)) in
     let clean = sym (s .0) ∙ fine in
-    let o = not-deep (ended ts) 0 clean in
-    let (l, q, h) = line-found (ended ts) 0 (λ e. omega arith) (λ e. omega arith) in
-    let w = same-row (ended ts) (front l) ts 0 q (length (ended ts)) (front-closed l) real (rw (front-end l) at h) (stands-self (ended ts)) in
-    let f : lineFault l ≡ 0 = sym (line-fault (ended ts) (omega arith) l 0 q o h) ∙ clean in
-    let (g, e) = line-parts (ended ts) (omega arith) l 0 q o h f in
-    record { tree = l; tokens = front-end l ∙ ap ended w; faultless = f; shallow = o; closed = faultless-closed ts real clean; number = s .1 fine ∙ ap (λ (x : Told). x .number) g ∙ parts-number 0 l }
+    let o = not-deep (withEnd ts) 0 clean in
+    let (l, q, h) = line-found (withEnd ts) 0 (λ e. omega arith) (λ e. omega arith) in
+    let w = same-row (withEnd ts) (front l) ts 0 q (length (withEnd ts)) (front-closed l) real (rw (front-end l) at h) (stands-self (withEnd ts)) in
+    let f : lineFault l ≡ 0 = sym (line-fault (withEnd ts) (omega arith) l 0 q o h) ∙ clean in
+    let (g, e) = line-parts (withEnd ts) (omega arith) l 0 q o h f in
+    record { tree = l; tokens = front-end l ∙ ap withEnd w; faultless = f; shallow = o; closed = faultless-closed ts real clean; number = s .1 fine ∙ ap (λ (x : Parts). x .number) g ∙ parts-number 0 l }
 
 unmarked-number : (l : Line) → treeNumber (unmarkedTree l) ≡ treeNumber l
 unfolding numbersTo
@@ -74,37 +74,37 @@ unmarked-number (line w v n c a r) = refl
 
 module _ (ts : List ℕ) (w : Written ts) (real : AllReal ts) (short : length ts < setSize) where
   -- the tokens without marks are those of the tree without marks
-  held-tokens : ended (map withoutMark ts) ≡ lineTokens (unmarkedTree (w .tree))
+  held-tokens : withEnd (map withoutMark ts) ≡ lineTokens (unmarkedTree (w .tree))
   held-tokens = ended-unmarked ts ∙ ap (map withoutMark) (sym (w .tokens)) ∙ unmarked-tokens (w .tree)
 
   -- and the check finds no fault in them
-  held-clean : lineAt (ended (map withoutMark ts)) 0 .fault ≡ 0
+  held-clean : lineAt (withEnd (map withoutMark ts)) 0 .fault ≡ 0
   held-clean =
       let l = unmarkedTree (w .tree) in
-      let s = ended (map withoutMark ts) in
+      let s = withEnd (map withoutMark ts) in
       let n = length-append (map withoutMark ts) (END ∷ []) in
       let m = length-map ts withoutMark in
-      let o : opensTooMany s 0 ≡ false = ap (λ (x : List ℕ). opensTooMany x 0) (ended-unmarked ts) ∙ opens-unmarked (ended ts) 0 ∙ w .shallow in
+      let o : opensTooMany s 0 ≡ false = ap (λ (x : List ℕ). opensTooMany x 0) (ended-unmarked ts) ∙ opens-unmarked (withEnd ts) 0 ∙ w .shallow in
       let g : Stands s 0 (lineTokens l) (length s) = subst (λ (x : List ℕ). Stands s 0 x (length s)) held-tokens (stands-self s) in
       line-fault s (omega arith) l 0 (length s) o g ∙ unmarked-fault (w .tree) ∙ w .faultless
 
   -- WHERE IT STANDS WITHOUT MARKS, the tree without marks stands, the check finds no fault and the parts of that tree, and it has the same number
-  pub held : (s : List ℕ) (p q : ℕ) → length s ≤ setSize → Stands s p (ended (map withoutMark ts)) q →
+  pub held : (s : List ℕ) (p q : ℕ) → length s ≤ setSize → Stands s p (withEnd (map withoutMark ts)) q →
       Stands s p (lineTokens (unmarkedTree (w .tree))) q × (lineAt s p .fault ≡ 0) × (lineAt s p .number ≡ treeNumber (w .tree)) × (lineAt s p ≡ partsFrom p (unmarkedTree (w .tree)))
   held s p q size h =
       let l = unmarkedTree (w .tree) in
-      let z = ended (map withoutMark ts) in
+      let z = withEnd (map withoutMark ts) in
       let n = length-append (map withoutMark ts) (END ∷ []) in
       let m = length-map ts withoutMark in
       let c = line-same s z (map withoutMark ts) p q 0 (length z) size (omega arith) (unmarked-all-real ts real) h (stands-self z) .0 ∙ held-clean in
       let g : Stands s p (lineTokens l) q = subst (λ (x : List ℕ). Stands s p x q) held-tokens h in
       let (x, y) = line-parts s size l p q (not-deep s p c) g (unmarked-fault (w .tree) ∙ w .faultless) in
-      (g, c, ap (λ (z : Told). z .number) x ∙ parts-number p l ∙ unmarked-number (w .tree), x)
+      (g, c, ap (λ (z : Parts). z .number) x ∙ parts-number p l ∙ unmarked-number (w .tree), x)
 
   -- and it names only numbers of ns, if it named only such as are all in ns
-  pub names-held : (s ns ns′ : List ℕ) (p q : ℕ) → Stands s p (ended (map withoutMark ts)) q →
+  pub names-held : (s ns ns′ : List ℕ) (p q : ℕ) → Stands s p (withEnd (map withoutMark ts)) q →
       ((n : ℕ) → isKnown ns′ n ≡ true → isKnown ns n ≡ true) → namesKnown (alone ts) ns′ setSize 0 ≡ true → namesKnown s ns setSize p ≡ true
   names-held s ns ns′ p q h f e =
-      let z = ended (map withoutMark ts) in
+      let z = withEnd (map withoutMark ts) in
       names-same s z ns setSize (map withoutMark ts) p q 0 (length z) (faultless-closed (map withoutMark ts) (unmarked-all-real ts real) held-clean) h (stands-self z)
-      ∙ names-unmarked ts ns ns′ f (sym (names-same (alone ts) (ended ts) ns′ setSize ts 0 _ 0 _ (w .closed) (alone-stands ts short) (stands-self (ended ts))) ∙ e)
+      ∙ names-unmarked ts ns ns′ f (sym (names-same (alone ts) (withEnd ts) ns′ setSize ts 0 _ 0 _ (w .closed) (alone-stands ts short) (stands-self (withEnd ts))) ∙ e)

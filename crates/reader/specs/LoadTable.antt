@@ -3,6 +3,7 @@ use mathlib.Core.Path.{_≡_, refl}
 use mathlib.Core.List.{[], _∷_, map}
 use Prim.Native.Nat.{ℕ}
 use Prim.Native.String.{String}
+use Rattle.values.specs.Codes.{makesNoToken, tooDeep, notInGrammar, readOnly, usedAbove, notInSet}
 use Rattle.tokens.specs.Descent.{isIndex, indexOf, isIndexed, indexAt, joined, more, readProduct, readSum, readRest, readExpression, readVariable, operandFrom, readOperand, readClose, readTruth, sumAt, expressionAt}
 use Rattle.tokens.specs.Index.{isInside}
 use Rattle.tokens.specs.SingleFault.{lower, opensTooMany, wantingFault, numberFault, readFault, isWritable, writeFault, codeFault, idFault, callFault}
@@ -25,6 +26,6 @@ told t = (loadAnswer (bytes t) .code, loadAnswer (bytes t) .line)
 tried :
     map told ("" ∷ "ID=1 EVERY $A_IN[1]==1 DO $AC_MARKER[0]=$AC_MARKER[0]+1 M=7\n" ∷ "ID=1 DO $R[99]=1" ∷ "ID=1 DO $R[100]=1" ∷ "\n;c\nID=1 WHEN $R[1]>1 AND $R[2]>1 DO $R[1]=1\r\n"
     ∷ "ID=1 WHEN ((((((((TRUE)))))))) DO M=1" ∷ "ID=1 WHEN (((((((((TRUE))))))))) DO M=1" ∷ "ID=2 DO $R[1]=1\nID=1 DO LOCK(2)\nID=2 DO LOCK(3)" ∷ "ID=2 DO $R[1]=1\nID=1 DO LOCK(2) UNLOCK(7)" ∷ "ID=1 DO $R[1]=1$R[2]=2.50" ∷ "ID=1DO $R[1]=1" ∷ [])
-    ≡ (0, 0) ∷ (0, 0) ∷ (0, 0) ∷ (8, 1) ∷ (5, 3) ∷ (0, 0) ∷ (4, 1) ∷ (11, 3) ∷ (12, 2) ∷ (0, 0) ∷ (3, 1) ∷ []
+    ≡ (0, 0) ∷ (0, 0) ∷ (0, 0) ∷ (readOnly, 1) ∷ (notInGrammar, 3) ∷ (0, 0) ∷ (tooDeep, 1) ∷ (usedAbove, 3) ∷ (notInSet, 2) ∷ (0, 0) ∷ (makesNoToken, 1) ∷ []
 unfolding isIndex indexOf isIndexed indexAt joined more readProduct readSum readRest readExpression readVariable operandFrom readOperand readClose readTruth sumAt expressionAt isInside lower opensTooMany wantingFault numberFault readFault joinSights sight isWritable writeFault codeFault idFault callFault countFault numberOf isRemoval assignedAt assignmentAt commandAt actionAt actionsAt lineParts bodyAt restAt lineAt rankIn namesKnown emptySet powerOn run wordToken written isFit numberToken wordFirst behindPoint numberWith numberFirst signFirst firstToken tokensFrom tokensOf split withoutReturn withoutComment bodies isBlank numbered tokenLines numbersOf leastFrom leastAbove rising withoutMark withLine placed setOf tokensFault faultBelow rowsFrom firstUnknown named outcome loadAnswer loadSet
 tried = refl

@@ -69,36 +69,36 @@ module _ (P : ℕ → Type 0) where
 
   module _ (s : List ℕ) {A : Type 0} (𝓜 : Meaning A) (codes : Codes 𝓜) where
     -- a reader that ends only so, wherever it begins
-    abbrev Told : (ℕ → Read A) → Type 0
-    Told f = (p : ℕ) → EndsBy (f p)
+    abbrev EndsSo : (ℕ → Read A) → Type 0
+    EndsSo f = (p : ℕ) → EndsBy (f p)
 
-    joined-told : (f : ℕ → Read A) → Told f → (o : ℕ) (a : A) → Told (joined s 𝓜 f o a)
+    joined-told : (f : ℕ → Read A) → EndsSo f → (o : ℕ) (a : A) → EndsSo (joined s 𝓜 f o a)
     unfolding joined
     joined-told f h o a p = ends-then (f (p + 1)) _ (h (p + 1)) (λ b q. ends-up (𝓜 .join o a b) q (codes .join o a b))
 
-    more-told : (isOp : ℕ → Bool) (f : ℕ → Read A) → Told f → (k : ℕ) (a : A) → Told (more s 𝓜 isOp f k a)
+    more-told : (isOp : ℕ → Bool) (f : ℕ → Read A) → EndsSo f → (k : ℕ) (a : A) → EndsSo (more s 𝓜 isOp f k a)
     unfolding more
     more-told isOp f h zero a p = tt
     more-told isOp f h (suc k) a p = either EndsBy (isOp (token s p)) (λ e. ends-then (joined s 𝓜 f (token s p) a p) _ (joined-told f h (token s p) a p) (λ b q. more-told isOp f h k b q)) (λ e. tt)
 
-    product-told : (f : ℕ → Read A) → Told f → (k : ℕ) → Told (readProduct s 𝓜 f k)
+    product-told : (f : ℕ → Read A) → EndsSo f → (k : ℕ) → EndsSo (readProduct s 𝓜 f k)
     unfolding readProduct
     product-told f h k p = ends-then (f p) _ (h p) (more-told isFactor f h k)
 
-    sum-told : (f : ℕ → Read A) → Told f → (k : ℕ) → Told (readSum s 𝓜 f k)
+    sum-told : (f : ℕ → Read A) → EndsSo f → (k : ℕ) → EndsSo (readSum s 𝓜 f k)
     unfolding readSum
     sum-told f h k p = ends-then (readProduct s 𝓜 f k p) _ (product-told f h k p) (more-told isTerm (readProduct s 𝓜 f k) (product-told f h k) k)
 
-    rest-told : (f : ℕ → Read A) → Told f → (k : ℕ) (a : A) → Told (readRest s 𝓜 f k a)
+    rest-told : (f : ℕ → Read A) → EndsSo f → (k : ℕ) (a : A) → EndsSo (readRest s 𝓜 f k a)
     unfolding readRest
     rest-told f h k a p =
         either EndsBy (isCompare (token s p)) (λ e. joined-told (readSum s 𝓜 f k) (sum-told f h k) (token s p) a p) (λ e. more-told (isRow (token s p)) (readSum s 𝓜 f k) (sum-told f h k) k a p)
 
-    expression-told : (f : ℕ → Read A) → Told f → (k : ℕ) → Told (readExpression s 𝓜 f k)
+    expression-told : (f : ℕ → Read A) → EndsSo f → (k : ℕ) → EndsSo (readExpression s 𝓜 f k)
     unfolding readExpression
     expression-told f h k p = ends-then (readSum s 𝓜 f k p) _ (sum-told f h k p) (rest-told f h k)
 
-    operand-from-told : (f : ℕ → Read A) → Told f → (k p t : ℕ) → EndsBy (operandFrom s 𝓜 f k p t)
+    operand-from-told : (f : ℕ → Read A) → EndsSo f → (k p t : ℕ) → EndsBy (operandFrom s 𝓜 f k p t)
     unfolding operandFrom readVariable readClose readTruth
     operand-from-told f h k p t =
         either EndsBy (isNumber t) (λ e. ends-up (𝓜 .number (numberCarried t)) (p + 1) (codes .number (numberCarried t))) λ e.
@@ -109,16 +109,16 @@ module _ (P : ℕ → Type 0) where
         either EndsBy (eqb t NOT) (λ e. ends-then (f (p + 1)) _ (h (p + 1)) (λ a q. tt)) λ e.
         either EndsBy (eqb t TRUE) (λ e. tt) (λ e. either EndsBy (eqb t FALSE) (λ e. tt) (λ e. codes .wrong))
 
-    operand-told : (k : ℕ) → Told (readOperand s 𝓜 k)
+    operand-told : (k : ℕ) → EndsSo (readOperand s 𝓜 k)
     unfolding readOperand
     operand-told zero p = codes .wrong
     operand-told (suc k) p = operand-from-told (readOperand s 𝓜 k) (operand-told k) k p (token s p)
 
-    sumAt-told : (k : ℕ) → Told (sumAt s 𝓜 k)
+    sumAt-told : (k : ℕ) → EndsSo (sumAt s 𝓜 k)
     unfolding sumAt
     sumAt-told k p = sum-told (readOperand s 𝓜 k) (operand-told k) k p
 
-    expressionAt-told : (k : ℕ) → Told (expressionAt s 𝓜 k)
+    expressionAt-told : (k : ℕ) → EndsSo (expressionAt s 𝓜 k)
     unfolding expressionAt
     expressionAt-told k p = expression-told (readOperand s 𝓜 k) (operand-told k) k p
 
@@ -151,8 +151,8 @@ abbrev WorkedBy : Worked → Type 0
 WorkedBy (W.Value v) = Unit {0}
 WorkedBy (W.Alarm c) = TurnCode c
 
-abbrev SeenBy : FifoValue → Type 0
-SeenBy x = WorkedBy (fromFifoValue x)
+abbrev FifoBy : FifoValue → Type 0
+FifoBy x = WorkedBy (fromFifoValue x)
 
 abbrev MovedBy : Moved → Type 0
 MovedBy (M.Done v n) = Unit {0}
@@ -167,18 +167,18 @@ valued-by : (z : ℤ) → WorkedBy (valued z)
 unfolding valued
 valued-by z = either-cond WorkedBy (inRange z) _ _ tt is-30
 
-seen-by : (x : Worked) → WorkedBy x → SeenBy (asFifoValue x)
-seen-by (W.Value v) h = tt
-seen-by (W.Alarm c) h = h
+asked-by : (x : Worked) → WorkedBy x → FifoBy (asFifoValue x)
+asked-by (W.Value v) h = tt
+asked-by (W.Alarm c) h = h
 
 fifo-by : (xs : List ℤ) (n i : ℕ) → WorkedBy (fifoValue xs n i)
 unfolding fifoValue oldestOf newestOf totalOf countOf
 fifo-by xs n i =
     let f = fits (length xs) n in
-    either WorkedBy (eqb i 1) (λ e. either-cond SeenBy f _ _ (either-cond SeenBy (eqb n 0) _ _ is-32 tt) is-22) λ e.
-    either WorkedBy (eqb i 2) (λ e. either-cond SeenBy f _ _ (either-cond SeenBy (eqb n 0) _ _ is-32 tt) is-22) λ e.
-    either WorkedBy (eqb i 3) (λ e. either-cond SeenBy f _ _ (seen-by (valued (sumFirst xs n)) (valued-by (sumFirst xs n))) is-22) λ e.
-    either WorkedBy (eqb i 4) (λ e. either-cond SeenBy f _ _ tt is-22) (λ e. is-22)
+    either WorkedBy (eqb i 1) (λ e. either-cond FifoBy f _ _ (either-cond FifoBy (eqb n 0) _ _ is-32 tt) is-22) λ e.
+    either WorkedBy (eqb i 2) (λ e. either-cond FifoBy f _ _ (either-cond FifoBy (eqb n 0) _ _ is-32 tt) is-22) λ e.
+    either WorkedBy (eqb i 3) (λ e. either-cond FifoBy f _ _ (asked-by (valued (sumFirst xs n)) (valued-by (sumFirst xs n))) is-22) λ e.
+    either WorkedBy (eqb i 4) (λ e. either-cond FifoBy f _ _ tt is-22) (λ e. is-22)
 
 variable-by : (r c : List ℤ) (w i : ℕ) → WorkedBy (variableValue r c w i)
 unfolding variableValue fifoAt

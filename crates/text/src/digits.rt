@@ -35,10 +35,15 @@ fn put_digits(out: &mut [u8], at: usize, n: u32, k: usize) -> usize
     end + 1
 }
 
+// A number; one of a single digit is put at once, for most that are printed are such.
 pub fn put_number(out: &mut [u8], at: usize, n: u32) -> usize
     ensures { λ x. ⌜ x ≡ length (decimal n) ⌝ }
     ensures { λ x. ⌜ now (out .exit) ≡ putAt (now (out .entry)) at (decimal n) ⌝ }
 {
+    if n < 10 {
+        put(out, at, 48 + n as u8);
+        return 1;
+    }
     let p = within(at, out.len());
     put_digits(out, p, n, DIGITS) - p
 }

@@ -9,7 +9,7 @@ use lib.Dec.{eqb, leb}
 use lib.ListN.{length, getD, List·getD-eq-default}
 use borrow.Author.Tests.{leb-true, le-leb, lt-leb, not-true}
 use Rattle.values.specs.Choice.{both}
-use Rattle.tokens.specs.Token.{PLUS, MINUS, TIMES, OVER, AND, XOR, between, isFactor, isTerm, isArithmetic, isLogic}
+use Rattle.tokens.specs.Token.{PLUS, MINUS, TIMES, OVER, between, isFactor, isTerm, isArithmetic, isLogic}
 use Rattle.tokens.specs.Descent.{isRow}
 
 pub never : {X : Type 0} → false ≡ true → X
@@ -52,9 +52,6 @@ arithmetic-range t = go (isFactor t) (isTerm t) refl refl
         let f : TIMES ≤ t → ⊥ = λ k. not-inside TIMES OVER t e k m in
         let g = not-inside PLUS MINUS t h l in
         omega (arith, f, g))
-
-pub row-no-end : (first t : ℕ) {o : Bool} → o ≡ isRow first t → o ≡ true → t ≡ 0 → ⊥
-row-no-end first t e f z = let b = inside AND XOR t (both _ _ (sym e ∙ f) .0) in omega arith
 
 -- a token that is no AND, OR or XOR begins no row
 pub no-row : (t : ℕ) {o : Bool} → o ≡ isLogic t → not o ≡ true → false ≡ isRow t t

@@ -2,7 +2,7 @@
 pub mod Between
 pub mod Indices
 pub mod Arms
-pub mod AnswerLaws
+pub mod ReadStepLaws
 pub mod Rows
 pub mod BracketLaws
 pub mod SingleFaultLaws

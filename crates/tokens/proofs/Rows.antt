@@ -1,15 +1,16 @@
 -- The loop over a row, for any meaning, operator test and reader between the operators: what is read so far, and as many more as rounds are left, is the whole row.
--- How a product, a sum and an expression begin, and what stands behind a sum.
+-- The loop of a walk that hands on its readings as numbers, for the walk of the check and that of the values. How a product, a sum and an expression begin, and what stands behind a sum.
 use mathlib.Core.Path.{_≡_, refl, sym, ap, _∙_}
 use mathlib.Core.Bool.{Bool, true, false, not}
 use mathlib.Core.List.{List}
-use Prim.Native.Nat.{ℕ, zero, suc, _+_, _-_, _<_, _≤_}
+use Prim.Native.Nat.{ℕ, zero, suc, _+_, _-_, _%_, _<_, _≤_}
 use native.Mathlib.Omega.{arith}
+use lib.ListN.{length}
 use borrow.Author.Tests.{not-true, not-false}
-use Rattle.tokens.specs.Token.{isFactor, isTerm, isCompare, isLogic}
+use Rattle.tokens.specs.Token.{room, isFactor, isTerm, isCompare, isLogic}
 use Rattle.tokens.specs.Descent.{Read, read, ends, then, upTo, Meaning, isRow, token, joined, more, readProduct, readSum, readRest, readExpression}
-use Rattle.tokens.proofs.AnswerLaws.{passes, enters, stepped}
-use Rattle.tokens.proofs.Between.{tested, no-row}
+use Rattle.tokens.proofs.ReadStepLaws.{passes, enters, stepped}
+use Rattle.tokens.proofs.Between.{never, tested, no-row, lies-inside}
 
 module _ (s : List ℕ) {A : Type 0} (𝓜 : Meaning A) (isOp : ℕ → Bool) (sub : ℕ → Read A) where
   more-again : (k : ℕ) (a : A) (p : ℕ) → 0 < k → isOp (token s p) ≡ true → then (joined s 𝓜 sub (token s p) a p) (more s 𝓜 isOp sub (k - 1)) ≡ more s 𝓜 isOp sub k a p
@@ -51,7 +52,7 @@ module _ {s : List ℕ} {A : Type 0} {𝓜 : Meaning A} {isOp : ℕ → Bool} {s
   row-ends {v} {p} {t} {o} h e f g = all-read h (more-stops s 𝓜 isOp sub k v p (tested isOp e f (not-true o g)))
 
   -- no round is left
-  pub row-spent : k ≤ 0 → x ≡ whole
+  row-spent : k ≤ 0 → x ≡ whole
   row-spent l = go x refl
     where
       go : (y : Read A) → x ≡ y → x ≡ whole
@@ -59,7 +60,7 @@ module _ {s : List ℕ} {A : Type 0} {𝓜 : Meaning A} {isOp : ℕ → Bool} {s
       go (ends n) h = row-stops h
 
   -- an operator stands behind it: b is what stands behind that, y the two joined
-  pub row-goes : {v : A} {p t : ℕ} {o : Bool} {b y : Read A} → x ≡ read v p → t ≡ token s p → o ≡ isOp t → not o ≡ false → 0 < k → b ≡ sub (p + 1) → y ≡ then b (λ z q. upTo (𝓜 .join t v z) q) → Kept s 𝓜 isOp sub whole (k - 1) y
+  row-goes : {v : A} {p t : ℕ} {o : Bool} {b y : Read A} → x ≡ read v p → t ≡ token s p → o ≡ isOp t → not o ≡ false → 0 < k → b ≡ sub (p + 1) → y ≡ then b (λ z q. upTo (𝓜 .join t v z) q) → Kept s 𝓜 isOp sub whole (k - 1) y
   row-goes {v} {p} {t} {o} h e f g l i j =
       record {
         is-whole =
@@ -67,6 +68,40 @@ module _ {s : List ℕ} {A : Type 0} {𝓜 : Meaning A} {isOp : ℕ → Bool} {s
             enters (more s 𝓜 isOp sub k) h (more-again s 𝓜 isOp sub k v p l (tested isOp e f (not-false o g))) ∙
             kept .is-whole;
       }
+
+-- ---- the loop of a walk
+
+-- A walk hands on what it reads as numbers: `said` is what a number says, `value` and `code` what stands in it, its lowest bits are the next place, 0 where the reading ended.
+pub record Says {A : Type 0} (said : ℕ → Read A) (value : ℕ → A) (code : ℕ → ℕ) : Type 0 where
+  pub stops : (w : ℕ) {i : ℕ} → i ≡ w % room → i ≡ 0 → said w ≡ ends (code w)
+  pub reads : (w : ℕ) {i : ℕ} → i ≡ w % room → (i ≡ 0 → ⊥) → said w ≡ read (value w) i
+
+-- the number a, and as many more as k rounds give, is the number w and the row behind it
+pub record Loop (s : List ℕ) {A : Type 0} (𝓜 : Meaning A) (isOp : ℕ → Bool) (sub : ℕ → Read A) (said : ℕ → Read A) (left w k a : ℕ) : Type 0 where
+  pub kept : Kept s 𝓜 isOp sub (then (said w) (more s 𝓜 isOp sub left)) k (said a)
+
+pub loop-begins : {s : List ℕ} {A : Type 0} {𝓜 : Meaning A} {isOp : ℕ → Bool} {sub said : ℕ → Read A} {left w : ℕ} → Loop s 𝓜 isOp sub said left w left w
+loop-begins = record { kept = record { is-whole = refl } }
+
+module _ {s : List ℕ} {A : Type 0} {𝓜 : Meaning A} {isOp : ℕ → Bool} {sub said : ℕ → Read A} {left w k a : ℕ} (loop : Loop s 𝓜 isOp sub said left w k a) where
+  pub loop-spent : k ≤ 0 → said a ≡ then (said w) (more s 𝓜 isOp sub left)
+  loop-spent l = row-spent (loop .kept) l
+
+  -- an operator, which no end of a line is, lies inside
+  pub loop-inside : {i t : ℕ} {o : Bool} → isOp 0 ≡ false → t ≡ token s i → o ≡ isOp t → not o ≡ false → i < length s
+  loop-inside {i} {t} {o} z q f g = lies-inside s i q (λ e. never (sym z ∙ ap isOp (sym e) ∙ sym f ∙ not-false o g))
+
+  module _ {value : ℕ → A} {code : ℕ → ℕ} (says : Says said value code) {i : ℕ} (e : i ≡ a % room) where
+    pub loop-stops : i ≡ 0 → said a ≡ then (said w) (more s 𝓜 isOp sub left)
+    loop-stops h = row-stops (loop .kept) (says .stops a e h)
+
+    module _ (ne : i ≡ 0 → ⊥) {t : ℕ} {o : Bool} (q : t ≡ token s i) (f : o ≡ isOp t) where
+      pub loop-ends : not o ≡ true → said a ≡ then (said w) (more s 𝓜 isOp sub left)
+      loop-ends g = row-ends (loop .kept) (says .reads a e ne) q f g
+
+      -- b is what stands behind the operator, x the value in a and it joined
+      pub loop-goes : {v : A} {b x : ℕ} → not o ≡ false → 0 < k → v ≡ value a → said b ≡ sub (i + 1) → said x ≡ then (said b) (λ z r. upTo (𝓜 .join t v z) r) → Loop s 𝓜 isOp sub said left w (k - 1) x
+      loop-goes g l h m j = record { kept = row-goes (loop .kept) (says .reads a e ne ∙ ap (λ (u : A). read u i) (sym h)) q f g l m j }
 
 -- ---- where a level begins
 

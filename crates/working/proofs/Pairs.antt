@@ -14,7 +14,8 @@ use Rattle.values.proofs.Signed.{back}
 use Rattle.values.specs.Complement.{twosComplement, signed}
 use Rattle.values.specs.ComplementLaws.{signed-back}
 use Rattle.tokens.specs.Descent.{Answer, Read, read, ends, then, upTo}
-use Rattle.tokens.proofs.AnswerLaws as answers
+use Rattle.tokens.proofs.ReadStepLaws as answers
+use Rattle.tokens.proofs.Rows.{Says}
 use Rattle.working.specs.Pair.{pairOf, alarmOf, nextOf, valueOf, alarmIn, said}
 use Rattle.working.specs.Operators.{fromWorked}
 
@@ -53,6 +54,9 @@ module _ (w : ℕ) {i : ℕ} (e : i ≡ nextOf w) where
   -- an alarm passes through a step
   pub passes : (f : ℤ → ℕ → Read ℤ) → i ≡ 0 → said w ≡ then (said w) f
   passes f h = answers.passes f (said-stop h)
+
+pub pairs-say : Says said valueOf (λ (w : ℕ). alarmIn w)
+pairs-say = record { stops = λ w e h. said-stop w e h; reads = λ w e h. said-value w e refl h }
 
 -- what was paired is said again
 pub pair-said : {v : ℤ} (p : ℕ) → SFits w32 v → 0 < p → p < room → said (pairOf v p) ≡ read v p

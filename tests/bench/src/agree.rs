@@ -3,7 +3,7 @@
 use crate::lean;
 use crate::loaded::{self, Loaded, Worked};
 use crate::memory::{self, World};
-use crate::proved::{self, Answer, Code, Memory, SIZE};
+use crate::proved::{self, Answer, Memory, Set, SIZE};
 use crate::tokens;
 use reference::beat::Beat;
 use reference::check;
@@ -33,10 +33,10 @@ impl Agreement {
     /// Every line of the set has no fault, and its expressions have the same values.
     pub fn set(&mut self, loaded: &Loaded, world: &World) {
         for (start, line) in loaded.laid.starts.iter().zip(loaded.lines()) {
-            let fault = proved::line_fault(&loaded.laid.code, *start);
+            let fault = proved::line_fault(&loaded.laid.set, *start);
             self.note(fault == 0, || format!("fault {fault} of line {}", line.number));
             let expressions = loaded::expressions(&loaded.laid, *start, line);
-            self.values(&loaded.laid.code, line, &expressions, world);
+            self.values(&loaded.laid.set, line, &expressions, world);
         }
     }
 
@@ -49,7 +49,7 @@ impl Agreement {
             Err(refusal) => ((refusal.code.number(), refusal.line as u64), tokens::laid(&[])),
         };
         self.note(found == expected, || format!("loading: {found:?} for {expected:?}: {text:?}"));
-        self.note(set == laid.code, || format!("the set of {text:?}"));
+        self.note(set == laid.set, || format!("the set of {text:?}"));
     }
 
     /// The random sets by these seeds: loaded alike; of their lines the same faults, and the same values in random worlds.
@@ -73,7 +73,7 @@ impl Agreement {
             return;
         }
         let laid = tokens::laid(&[numbers]);
-        let fault = proved::line_fault(&laid.code, tokens::FIRST);
+        let fault = proved::line_fault(&laid.set, tokens::FIRST);
         match check::line(&expected) {
             Err(code) => {
                 self.note(fault == u32::from(code.number()), || format!("{fault} for {code:?}: {text:?}"))
@@ -82,19 +82,19 @@ impl Agreement {
                 self.note(fault == 0, || format!("fault {fault}: {text:?}"));
                 let expressions = loaded::expressions(&laid, tokens::FIRST, &line);
                 for _ in 0..WORLDS {
-                    self.values(&laid.code, &line, &expressions, &memory::random(random));
+                    self.values(&laid.set, &line, &expressions, &memory::random(random));
                 }
             }
         }
     }
 
-    fn values(&mut self, code: &Code, line: &Line, expressions: &[Worked], world: &World) {
+    fn values(&mut self, set: &Set, line: &Line, expressions: &[Worked], world: &World) {
         let memory = world.memory();
         let inputs = world.inputs();
         let mut seen = Seen::default();
         let mut beat = Beat::new(std::slice::from_ref(line), &world.state, &inputs, Slip::None, &mut seen);
         for worked in expressions {
-            let proved = by_walk(code, &memory, worked);
+            let proved = by_walk(set, &memory, worked);
             let expected = by_reference(&mut beat, worked);
             let lean = by_lean(world, worked);
             let alike = proved == expected && lean == expected;
@@ -114,9 +114,9 @@ impl Agreement {
     }
 }
 
-fn by_walk(code: &Code, memory: &Memory, worked: &Worked) -> Answer {
+fn by_walk(set: &Set, memory: &Memory, worked: &Worked) -> Answer {
     let walk = if worked.is_condition { proved::condition } else { proved::right_side };
-    proved::answer(walk(code, memory, worked.place))
+    proved::answer(walk(set, memory, worked.place))
 }
 
 fn by_reference(beat: &mut Beat, worked: &Worked) -> Answer {

@@ -65,12 +65,12 @@ fn right_side(action: &Action) -> Option<&Expression> {
 /// The places behind each `]=` of the line at `start`.
 fn right_places(laid: &Laid, start: usize) -> impl Iterator<Item = usize> + '_ {
     let end = end(laid, start);
-    (start + 2..end).filter(|at| laid.code[at - 2] == RIGHT && laid.code[at - 1] == EQUALS)
+    (start + 2..end).filter(|at| laid.set[at - 2] == RIGHT && laid.set[at - 1] == EQUALS)
 }
 
 /// The place of the token that ends the line at `start`.
 fn end(laid: &Laid, start: usize) -> usize {
-    start + laid.code[start..].iter().take_while(|token| **token != 0).count()
+    start + laid.set[start..].iter().take_while(|token| **token != 0).count()
 }
 
 /// The tokens that write these expressions.

@@ -100,12 +100,12 @@ fn times(loaded: &Loaded, world: &World) -> Times {
 
 /// Works all expressions by the proved walk.
 fn walk(loaded: &Loaded, memory: &Memory, expressions: &[Worked]) {
-    let code = &loaded.laid.code;
+    let set = &loaded.laid.set;
     for worked in expressions {
         if worked.is_condition {
-            black_box(proved::condition(code, memory, worked.place));
+            black_box(proved::condition(set, memory, worked.place));
         } else {
-            black_box(proved::right_side(code, memory, worked.place));
+            black_box(proved::right_side(set, memory, worked.place));
         }
     }
 }
@@ -115,7 +115,7 @@ fn check_times(loaded: &Loaded, memory: &Memory) -> [f64; 2] {
     let expressions = loaded.expressions();
     let mut check = || {
         for start in &loaded.laid.starts {
-            black_box(proved::line_fault(&loaded.laid.code, *start));
+            black_box(proved::line_fault(&loaded.laid.set, *start));
         }
     };
     let mut by_walk = || walk(loaded, memory, &expressions);

@@ -5,16 +5,16 @@ pub const SIZE: usize = 4130;
 pub const RS: usize = 164;
 pub const CELLS: usize = 122;
 
-pub type Code = [u32; SIZE];
+pub type Set = [u32; SIZE];
 
 /// An alarm k is given as this less k.
 const ALARMS: i64 = -(1 << 40);
 
 extern "C" {
-    fn code_condition(code: &Code, r: &[i32; RS], cells: &[i32; CELLS], at: usize) -> i64;
-    fn code_right_side(code: &Code, r: &[i32; RS], cells: &[i32; CELLS], at: usize) -> i64;
-    fn code_line_fault(code: &Code, at: usize) -> u32;
-    fn reader_load(text: *const u8, size: usize, set: &mut Code) -> u64;
+    fn set_condition(set: &Set, r: &[i32; RS], cells: &[i32; CELLS], at: usize) -> i64;
+    fn set_right_side(set: &Set, r: &[i32; RS], cells: &[i32; CELLS], at: usize) -> i64;
+    fn set_line_fault(set: &Set, at: usize) -> u32;
+    fn reader_load(text: *const u8, size: usize, set: &mut Set) -> u64;
 }
 
 /// What a walk reads: R, and one cell for each other variable.
@@ -26,24 +26,24 @@ pub struct Memory {
 /// A value, or the number of an alarm.
 pub type Answer = Result<i64, u8>;
 
-pub fn condition(code: &Code, memory: &Memory, at: usize) -> i64 {
+pub fn condition(set: &Set, memory: &Memory, at: usize) -> i64 {
     // SAFETY: the call reads these arrays, of these lengths, and nothing else.
-    unsafe { code_condition(code, &memory.r, &memory.cells, at) }
+    unsafe { set_condition(set, &memory.r, &memory.cells, at) }
 }
 
-pub fn right_side(code: &Code, memory: &Memory, at: usize) -> i64 {
+pub fn right_side(set: &Set, memory: &Memory, at: usize) -> i64 {
     // SAFETY: as above.
-    unsafe { code_right_side(code, &memory.r, &memory.cells, at) }
+    unsafe { set_right_side(set, &memory.r, &memory.cells, at) }
 }
 
 /// The lowest fault of 4 to 10 of the line at `at`, 0 for none.
-pub fn line_fault(code: &Code, at: usize) -> u32 {
+pub fn line_fault(set: &Set, at: usize) -> u32 {
     // SAFETY: as above.
-    unsafe { code_line_fault(code, at) }
+    unsafe { set_line_fault(set, at) }
 }
 
 /// Loads a text into the set: the code and the line that it names, 0 and 0 if the text is taken.
-pub fn load(text: &[u8], set: &mut Code) -> (u8, u64) {
+pub fn load(text: &[u8], set: &mut Set) -> (u8, u64) {
     // SAFETY: the call reads the bytes of the text, writes the places of the set, and touches nothing else.
     let packed = unsafe { reader_load(text.as_ptr(), text.len(), set) };
     (packed as u8, packed >> 8)

@@ -1,6 +1,6 @@
 //! Set text as the numbers of crates/tokens/specs/Token, and lines of them in the array of a set.
 
-use crate::proved::{Code, SIZE};
+use crate::proved::{Set, SIZE};
 use reference::text;
 
 /// Where the tokens of a set start: behind its count of lines and the starts of 32.
@@ -131,22 +131,22 @@ fn load(units: &str, places: &str) -> u32 {
 
 /// Lines of tokens as a set: each ends with a token 0.
 pub struct Laid {
-    pub code: Box<Code>,
+    pub set: Box<Set>,
     pub starts: Vec<usize>,
 }
 
 pub fn laid(lines: &[Vec<u32>]) -> Laid {
-    let mut code = Box::new([0; SIZE]);
+    let mut set = Box::new([0; SIZE]);
     let mut starts = Vec::new();
     let mut at = FIRST;
-    code[0] = lines.len() as u32;
+    set[0] = lines.len() as u32;
     for (rank, line) in lines.iter().enumerate() {
         starts.push(at);
-        code[1 + rank] = at as u32;
-        code[at..at + line.len()].copy_from_slice(line);
+        set[1 + rank] = at as u32;
+        set[at..at + line.len()].copy_from_slice(line);
         at += line.len() + 1;
     }
-    Laid { code, starts }
+    Laid { set, starts }
 }
 
 /// The set that a taken text makes: its lines by rising number, without the marks of written points.

@@ -7,6 +7,7 @@ use std::collections::BTreeSet;
 
 pub fn check(tree: &Tree, report: &mut Report) {
     for library in tree.crates.iter().filter(|one| one.is_library()) {
+        report.test(unread(library));
         for (module, function) in public_calls(library) {
             let name = format!("{}::{module}{}", library.name, function.name);
             report.test(faults(&function).into_iter().map(|fault| format!("{name}: {fault}")).collect());
@@ -28,6 +29,34 @@ pub fn public_calls(library: &Crate) -> Vec<(String, Function)> {
         );
     }
     calls
+}
+
+/// What this program would not see: a `pub use` that is not one item of a file of the crate, and methods.
+fn unread(library: &Crate) -> Vec<String> {
+    let mut faults = Vec::new();
+    for file in library.within("src/", ".rt") {
+        for line in file.text.lines().filter(|line| line.starts_with("pub use ") || line.starts_with("impl"))
+        {
+            let passed = passed_on(line).filter(|_| file.path.ends_with("/lib.rt"));
+            let source = passed
+                .and_then(|(module, item)| Some((library.files.get(&format!("src/{module}.rt"))?, item)));
+            let seen = source.is_some_and(|(source, item)| {
+                functions(&source.text).iter().any(|one| one.name == item)
+                    || items(&source.text).any(|one| one == item)
+            });
+            if !seen {
+                faults.push(format!("{}: what does this show? {line}", file.path));
+            }
+        }
+    }
+    faults
+}
+
+/// The structs, enums and constants that a text shows.
+fn items(text: &str) -> impl Iterator<Item = &str> {
+    let kinds = ["pub struct ", "pub enum ", "pub const "];
+    let rest = text.lines().filter_map(move |line| kinds.iter().find_map(|kind| line.strip_prefix(kind)));
+    rest.filter_map(|rest| rest.split(|letter: char| !letter.is_alphanumeric() && letter != '_').next())
 }
 
 /// The public functions of the modules that a file declares `pub mod`.
@@ -79,7 +108,7 @@ enum Side {
     Other,
 }
 
-/// `λ x. ⌜ x ≡ .. ⌝` or `λ x. ⌜ now (y .exit) ≡ .. ⌝`, where no × and no → stands outside brackets.
+/// `λ x. ⌜ x ≡ .. ⌝` or `λ x. ⌜ now (y .exit) ≡ .. ⌝`, where nothing joins it to more, and neither the result nor an exit stands to the right.
 fn side(promise: &str) -> Side {
     let Some((result, body)) = promise.strip_prefix('λ').and_then(|rest| rest.split_once('.')) else {
         return Side::Other;
@@ -88,21 +117,26 @@ fn side(promise: &str) -> Side {
     if joins(body) {
         return Side::Other;
     }
-    if body.starts_with(&format!("{} ≡ ", result.trim())) {
+    let Some((left, right)) = body.split_once(" ≡ ") else { return Side::Other };
+    let mut words = right.split(|letter: char| " (){}.;".contains(letter));
+    if right.contains(".exit") || words.any(|word| word == result.trim()) {
+        return Side::Other;
+    }
+    if left == result.trim() {
         return Side::Result;
     }
-    let lent = body.strip_prefix("now (").and_then(|rest| rest.split_once(" .exit) ≡ "));
-    lent.map_or(Side::Other, |(name, _)| Side::Lent(name.into()))
+    let lent = left.strip_prefix("now (").and_then(|rest| rest.strip_suffix(" .exit)"));
+    lent.map_or(Side::Other, |name| Side::Lent(name.into()))
 }
 
-/// Whether a × or → stands outside brackets.
+/// Whether something that joins statements stands outside brackets.
 fn joins(body: &str) -> bool {
     let mut depth = 0;
     for letter in body.chars() {
         match letter {
             '(' | '{' => depth += 1,
             ')' | '}' => depth -= 1,
-            '×' | '→' if depth == 0 => return true,
+            '×' | '→' | '⊎' | '↔' if depth == 0 => return true,
             _ => {}
         }
     }

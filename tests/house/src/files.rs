@@ -7,7 +7,8 @@ use std::collections::BTreeMap;
 pub fn check(tree: &Tree, report: &mut Report) {
     let mut places: BTreeMap<&str, Vec<&str>> = BTreeMap::new();
     for one in &tree.crates {
-        for file in one.within("specs/", ".antt").filter(|file| file.stem() != "Lib") {
+        let all = one.within("specs/", ".antt").chain(one.within("proofs/", ".antt"));
+        for file in all.filter(|file| !["Lib", "Proof"].contains(&file.stem())) {
             places.entry(file.stem()).or_default().push(&file.path);
         }
     }

@@ -1,7 +1,7 @@
 //! Names in documents: what is in backquotes and looks like a name of the crates is one.
 
 use crate::functions::functions;
-use crate::tree::{File, Tree};
+use crate::tree::{Crate, File, Tree};
 use crate::Report;
 use std::collections::BTreeSet;
 
@@ -39,8 +39,14 @@ fn is_known(tree: &Tree, known: &BTreeSet<String>, word: &str) -> bool {
     if tree.root.join(word).exists() || tree.root.join("crates").join(word).exists() {
         return true;
     }
-    let parts = word.split("::").flat_map(|part| part.split(['/', '.'])).filter(|part| !part.is_empty());
-    parts.clone().count() > 0 && parts.clone().all(|part| known.contains(part))
+    if let Some((name, items)) = word.split_once("::") {
+        if let Some(one) = tree.crates.iter().find(|one| one.name == name) {
+            let own = names_of(one);
+            return items.split("::").all(|item| own.contains(item));
+        }
+    }
+    let mut parts = word.split("::").flat_map(|part| part.split(['/', '.'])).filter(|part| !part.is_empty());
+    parts.all(|part| known.contains(part))
 }
 
 /// Every name of the crates: crates, modules, items, definitions, laws, files, edits.
@@ -51,20 +57,27 @@ fn known(tree: &Tree) -> BTreeSet<String> {
             .into();
     for one in &tree.crates {
         names.insert(one.name.clone());
-        for file in one.files.values() {
-            names.insert(file.stem().into());
-            if file.path.ends_with(".rt") {
-                names.extend(functions(&file.text).into_iter().map(|one| one.name));
-                names.extend(declared(file, &["struct ", "enum ", "const ", "mod ", "type "]));
-                names.extend(fields_and_variants(file));
-            }
-            if file.path.contains("/specs/") || file.path.contains("/proofs/") {
-                names.extend(defined(file));
-            }
-        }
+        names.extend(names_of(one));
     }
     for path in &tree.others {
         names.extend(path.split('/').map(|part| part.split('.').next().unwrap_or_default().to_string()));
+    }
+    names
+}
+
+/// Every name of one crate.
+fn names_of(one: &Crate) -> BTreeSet<String> {
+    let mut names = BTreeSet::new();
+    for file in one.files.values() {
+        names.insert(file.stem().into());
+        if file.path.ends_with(".rt") {
+            names.extend(functions(&file.text).into_iter().map(|one| one.name));
+            names.extend(declared(file, &["struct ", "enum ", "const ", "mod ", "type "]));
+            names.extend(fields_and_variants(file));
+        }
+        if file.path.contains("/specs/") || file.path.contains("/proofs/") {
+            names.extend(defined(file));
+        }
     }
     names
 }

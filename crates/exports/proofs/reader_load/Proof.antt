@@ -1,4 +1,4 @@
--- `reader_load` meets its contract: it packs what `load::load` gives.
+-- `reader_load` meets its contract: it packs what `reader::load` gives.
 use borrow.Author.Needs.{needs}
 use mathlib.Core.Path.{ap}
 use Rattle.exports.specs.Packed.{packedLoad}

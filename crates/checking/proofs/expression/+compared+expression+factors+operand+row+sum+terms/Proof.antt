@@ -1,24 +1,23 @@
--- The walk of `expression`, operand to expression, meets its contracts: each arm of an operand by its law of Arms, that of - by SignLaws, each level and each loop by those of Rows, an operand with no operator behind it by SumLaws;
+-- The walk of `expression`, operand to expression, meets its contracts: each arm of an operand by its law of Arms, that of - by SignLaws, each level and each loop by those of Rows, a round of a loop by LevelLaws, an operand with no operator behind it by SumLaws;
 -- the measure is eight times the tokens left, and the level.
 use borrow.Author.Needs.{needs}
-use borrow.Author.Tests.{not-false}
 use mathlib.Core.Path.{refl, sym, _∙_}
 use mathlib.Core.Bool.{true, false}
 use Prim.Native.Nat.{_+_, _*_, _<_}
 use native.Mathlib.Omega.{arith}
-use Rattle.values.specs.Choice.{both}
-use Rattle.tokens.specs.Token.{room, AND, XOR, SAME, ATLEAST, PLUS, MINUS, TIMES, OVER, IN, IM, isFactor, isTerm}
-use Rattle.tokens.specs.Descent.{then, isRow, more, readClose, readProduct, readSum, readExpression, readOperand, sumAt, expressionAt}
+use Rattle.tokens.specs.Token.{room, SAME, ATLEAST, IN, IM, isFactor, isTerm}
+use Rattle.tokens.specs.Descent.{isRow, readClose, readSum, readExpression, readOperand, productAt, sumAt, expressionAt}
 use Rattle.checking.specs.Fault.{sight}
 use Rattle.checking.specs.SightNumber.{sightOf, seen, signedSight}
 use Rattle.checking.specs.Brackets.{Onward}
-use Rattle.tokens.proofs.AnswerLaws.{stepped}
+use Rattle.tokens.proofs.ReadStepLaws.{stepped}
 use Rattle.tokens.proofs.Arms.{spent, number-arm, variable-arm, open-arm, not-arm, truth-arm}
-use Rattle.tokens.proofs.Between.{no-end, row-no-end, lies-inside}
-use Rattle.tokens.proofs.Rows.{Kept, row-stops, row-ends, row-spent, row-goes, product-is, sum-is, expression-is, expression-stops, rest-compares, rest-rows, rest-none}
+use Rattle.tokens.proofs.Between.{no-end, lies-inside}
+use Rattle.tokens.proofs.Rows.{Loop, loop-begins, loop-spent, loop-inside, loop-stops, loop-ends, product-is, sum-is, expression-is, expression-stops, rest-compares, rest-rows, rest-none}
 use Rattle.checking.proofs.SignLaws.{signs-arm}
-use Rattle.checking.proofs.SightNumberLaws.{passes, seen-nothing, seen-stop, seen-read, number-made, seen-number, joins-factor, joins-term, joins-compared, joins-row}
-use Rattle.checking.proofs.BracketCountLaws.{other-above, other-below, other-high, other-low, counts-signs, counted-none, counted-nothing, counted-behind, counted-token, onward-same, onward-then, same-end-on, joined-on}
+use Rattle.checking.proofs.SightNumberLaws.{passes, seen-nothing, seen-stop, seen-read, sights-say, number-made, seen-number}
+use Rattle.checking.proofs.BracketCountLaws.{other-above, other-below, other-high, counts-signs, counted-none, counted-nothing, counted-behind, counted-token, onward-same, same-end-on, joined-on}
+use Rattle.checking.proofs.LevelLaws.{factor-level, term-level, compare-level, row-level, level-joins, round}
 use Rattle.checking.proofs.SumLaws.{sum-stops, sum-single, expression-closes}
 use Rattle.tokens.proofs.fault.number_fault.Reads as number-fault
 use Rattle.tokens.proofs.token.is_arithmetic.Reads as is-arithmetic
@@ -55,19 +54,13 @@ use Rattle.checking.proofs.expression.+compared+expression+factors+oper
 use Rattle.checking.proofs.expression.+compared+expression+factors+operand+row+sum+terms.Tie.{close}
 
 abbrev factors-Inv : factors-lts.InvT-loop
-factors-Inv tokens w left a₀ rounds₀ a rounds =
-    let sub = readOperand tokens sight left in
-    (Kept tokens sight isFactor sub (then (seen w) (more tokens sight isFactor sub left)) rounds (seen a)) × Onward tokens w a
+factors-Inv tokens w left a₀ rounds₀ a rounds = Loop tokens sight isFactor (readOperand tokens sight left) seen left w rounds a × Onward tokens w a
 
 abbrev terms-Inv : terms-lts.InvT-loop
-terms-Inv tokens w left a₀ rounds₀ a rounds =
-    let sub = readProduct tokens sight (readOperand tokens sight left) left in
-    (Kept tokens sight isTerm sub (then (seen w) (more tokens sight isTerm sub left)) rounds (seen a)) × Onward tokens w a
+terms-Inv tokens w left a₀ rounds₀ a rounds = Loop tokens sight isTerm (productAt tokens sight left) seen left w rounds a × Onward tokens w a
 
 abbrev row-Inv : row-lts.InvT-loop
-row-Inv tokens first w left a₀ rounds₀ a rounds =
-    let sub = readSum tokens sight (readOperand tokens sight left) left in
-    (Kept tokens sight (isRow first) sub (then (seen w) (more tokens sight (isRow first) sub left)) rounds (seen a)) × Onward tokens w a
+row-Inv tokens first w left a₀ rounds₀ a rounds = Loop tokens sight (isRow first) (readSum tokens sight (readOperand tokens sight left) left) seen left w rounds a × Onward tokens w a
 
 pub +compared+expression+factors+operand+row+sum+terms-spec : {M : Type 1} → statement M
 unfolding sight sumAt expressionAt
@@ -95,8 +88,8 @@ unfolding sight sumAt expressionAt
     let n = d .before .before .before in
     let a = n .before .args in
     let k = sym (e .before .is-compare .ensures) ∙ e .if2 .taken in (
-      rest-compares _ _ _ _ (seen-read (a .a) (n .next-of .ensures) (d .before .before .if1 .left)) (d .token-at .ensures) (e .before .is-compare .ensures) (e .if2 .taken) (c .before .sum .ensures .0) (joins-compared _ (sightOf (a .a)) (seen (c .before .sum .result)) k (c .join .ensures .0)),
-      joined-on _ (n .next-of .ensures) (d .before .before .if1 .left) (d .token-at .ensures) (other-low SAME ATLEAST _ (omega arith) (omega arith) refl k) (c .before .sum .ensures .1) (c .join .ensures .1),
+      rest-compares _ _ _ _ (seen-read (a .a) (n .next-of .ensures) (d .before .before .if1 .left)) (d .token-at .ensures) (e .before .is-compare .ensures) (e .if2 .taken) (c .before .sum .ensures .0) (level-joins compare-level _ (sightOf (a .a)) (seen (c .before .sum .result)) k (c .join .ensures .0)),
+      joined-on _ (n .next-of .ensures) (d .before .before .if1 .left) (d .token-at .ensures) (compare-level .no-bracket _ k) (c .before .sum .ensures .1) (c .join .ensures .1),
     ))
     (λ c κs. search needs)
     (λ c.
@@ -145,17 +138,17 @@ unfolding sight sumAt expressionAt
     )))
     -- factors
     (λ t. factors-lts.spec (_, next-of.Learnt, _, token-at.Learnt, _, is-factor.Learnt, _, operand.Post, _, join.Learnt) _ factors.Post factors-Inv (λ tokens w left a₀ rounds₀ a rounds. rounds)
-    (λ c. (record { is-whole = refl }, onward-same _ _))
+    (λ c. (loop-begins, onward-same _ _))
     (λ c κs. search needs)
-    (λ c. let i = c .before .before .before .loop in (row-stops (i .inv .0) (seen-stop (i .a) (c .before .next-of .ensures) (c .if1 .taken)), i .inv .1))
+    (λ c. let i = c .before .before .before .loop .inv in (loop-stops (i .0) sights-say (c .before .next-of .ensures) (c .if1 .taken), i .1))
     (λ c κs. search needs)
     (λ c κs. search needs)
     (λ c.
     let d = c .before .before in
     let n = d .before .before .before in
-    let i = n .before .before .loop in
-    (row-ends (i .inv .0) (seen-read (i .a) (n .next-of .ensures) (d .before .before .if1 .left)) (d .token-at .ensures) (c .before .is-factor .ensures) (c .if2 .taken), i .inv .1))
-    (λ c. let d = c .before .before in omega (arith, lies-inside (d .before .before .before .before .before .before .args .set .now) (d .before .before .before .next-of .result) (d .token-at .ensures) (no-end TIMES OVER (d .token-at .result) (omega arith) (c .before .is-factor .ensures) (not-false _ (c .if2 .left)))))
+    let i = n .before .before .loop .inv in
+    (loop-ends (i .0) sights-say (n .next-of .ensures) (d .before .before .if1 .left) (d .token-at .ensures) (c .before .is-factor .ensures) (c .if2 .taken), i .1))
+    (λ c. let d = c .before .before in omega (arith, loop-inside (d .before .before .before .before .before .loop .inv .0) refl (d .token-at .ensures) (c .before .is-factor .ensures) (c .if2 .left)))
     (λ c κs. omega arith)
     (λ c κs. search needs)
     (λ c. omega arith)
@@ -164,12 +157,8 @@ unfolding sight sumAt expressionAt
     let e = c .before .before in
     let d = e .before .before in
     let n = d .before .before .before in
-    let i = n .before .before .loop in
-    let k = sym (e .before .is-factor .ensures) ∙ not-false _ (e .if2 .left) in (
-      row-goes (i .inv .0) (seen-read (i .a) (n .next-of .ensures) (d .before .before .if1 .left)) (d .token-at .ensures) (e .before .is-factor .ensures) (e .if2 .left) (omega arith) (c .before .operand .ensures .0) (joins-factor _ (sightOf (i .a)) (seen (c .before .operand .result)) k (c .join .ensures .0)),
-      onward-then _ (i .inv .1) (joined-on _ (n .next-of .ensures) (d .before .before .if1 .left) (d .token-at .ensures) (other-low TIMES OVER _ (omega arith) (omega arith) refl k) (c .before .operand .ensures .1) (c .join .ensures .1)),
-    ))
-    (λ c. let i = c .before .loop .inv in (row-spent (i .0) (omega arith), i .1)))
+    round factor-level (n .before .before .loop .inv) (n .next-of .ensures) (d .before .before .if1 .left) (d .token-at .ensures) (e .before .is-factor .ensures) (e .if2 .left) (omega arith) (c .before .operand .ensures) (c .join .ensures))
+    (λ c. let i = c .before .loop .inv in (loop-spent (i .0) (omega arith), i .1)))
     -- operand
     (λ t. operand-lts.spec (_, token-at.Learnt, _, number-fault.Learnt, _, number-seen.Learnt, _, is-variable.Learnt, _, variable.Learnt, _, expression.Post, _, closed.Learnt, _, signs-behind.Learnt, _, operand.Post, _, as-wanted.Learnt, _, truth.Learnt) _ operand.Post
     (λ c. (seen-nothing ∙ sym (spent _ _ _ _ (c .if1 .taken)), counted-nothing _ _ refl))
@@ -237,17 +226,17 @@ unfolding sight sumAt expressionAt
     )))
     -- row
     (λ t. row-lts.spec (_, next-of.Learnt, _, token-at.Learnt, _, is-row.Learnt, _, sum.Post, _, join.Learnt) _ row.Post row-Inv (λ tokens first w left a₀ rounds₀ a rounds. rounds)
-    (λ c. (record { is-whole = refl }, onward-same _ _))
+    (λ c. (loop-begins, onward-same _ _))
     (λ c κs. search needs)
-    (λ c. let i = c .before .before .before .loop in (row-stops (i .inv .0) (seen-stop (i .a) (c .before .next-of .ensures) (c .if1 .taken)), i .inv .1))
+    (λ c. let i = c .before .before .before .loop .inv in (loop-stops (i .0) sights-say (c .before .next-of .ensures) (c .if1 .taken), i .1))
     (λ c κs. search needs)
     (λ c κs. search needs)
     (λ c.
     let d = c .before .before in
     let n = d .before .before .before in
-    let i = n .before .before .loop in
-    (row-ends (i .inv .0) (seen-read (i .a) (n .next-of .ensures) (d .before .before .if1 .left)) (d .token-at .ensures) (c .before .is-row .ensures) (c .if2 .taken), i .inv .1))
-    (λ c. let d = c .before .before in omega (arith, lies-inside (d .before .before .before .before .before .before .args .set .now) (d .before .before .before .next-of .result) (d .token-at .ensures) (row-no-end _ (d .token-at .result) (c .before .is-row .ensures) (not-false _ (c .if2 .left)))))
+    let i = n .before .before .loop .inv in
+    (loop-ends (i .0) sights-say (n .next-of .ensures) (d .before .before .if1 .left) (d .token-at .ensures) (c .before .is-row .ensures) (c .if2 .taken), i .1))
+    (λ c. let d = c .before .before in omega (arith, loop-inside (d .before .before .before .before .before .loop .inv .0) refl (d .token-at .ensures) (c .before .is-row .ensures) (c .if2 .left)))
     (λ c κs. omega arith)
     (λ c κs. search needs)
     (λ c. omega arith)
@@ -256,12 +245,8 @@ unfolding sight sumAt expressionAt
     let e = c .before .before in
     let d = e .before .before in
     let n = d .before .before .before in
-    let i = n .before .before .loop in
-    let k = both _ _ (sym (e .before .is-row .ensures) ∙ not-false _ (e .if2 .left)) .0 in (
-      row-goes (i .inv .0) (seen-read (i .a) (n .next-of .ensures) (d .before .before .if1 .left)) (d .token-at .ensures) (e .before .is-row .ensures) (e .if2 .left) (omega arith) (c .before .sum .ensures .0) (joins-row _ (sightOf (i .a)) (seen (c .before .sum .result)) k (c .join .ensures .0)),
-      onward-then _ (i .inv .1) (joined-on _ (n .next-of .ensures) (d .before .before .if1 .left) (d .token-at .ensures) (other-high AND XOR _ (omega arith) refl k) (c .before .sum .ensures .1) (c .join .ensures .1)),
-    ))
-    (λ c. let i = c .before .loop .inv in (row-spent (i .0) (omega arith), i .1)))
+    round (row-level _) (n .before .before .loop .inv) (n .next-of .ensures) (d .before .before .if1 .left) (d .token-at .ensures) (e .before .is-row .ensures) (e .if2 .left) (omega arith) (c .before .sum .ensures) (c .join .ensures))
+    (λ c. let i = c .before .loop .inv in (loop-spent (i .0) (omega arith), i .1)))
     -- sum
     (λ t. sum-lts.spec (_, operand.Post, _, next-of.Learnt, _, token-at.Learnt, _, is-arithmetic.Learnt, _, factors.Post, _, terms.Post) _ sum.Post
     (λ c κs. omega arith)
@@ -282,17 +267,17 @@ unfolding sight sumAt expressionAt
     (sum-is _ _ _ _ _ (product-is _ _ _ _ _ (o .0) (f .0)) (c .terms .ensures .0), c .terms .ensures .1 .goes _ (f .1 .goes _ (o .1)))))
     -- terms
     λ t. terms-lts.spec (_, next-of.Learnt, _, token-at.Learnt, _, is-term.Learnt, _, operand.Post, _, factors.Post, _, join.Learnt) _ terms.Post terms-Inv (λ tokens w left a₀ rounds₀ a rounds. rounds)
-    (λ c. (record { is-whole = refl }, onward-same _ _))
+    (λ c. (loop-begins, onward-same _ _))
     (λ c κs. search needs)
-    (λ c. let i = c .before .before .before .loop in (row-stops (i .inv .0) (seen-stop (i .a) (c .before .next-of .ensures) (c .if1 .taken)), i .inv .1))
+    (λ c. let i = c .before .before .before .loop .inv in (loop-stops (i .0) sights-say (c .before .next-of .ensures) (c .if1 .taken), i .1))
     (λ c κs. search needs)
     (λ c κs. search needs)
     (λ c.
     let d = c .before .before in
     let n = d .before .before .before in
-    let i = n .before .before .loop in
-    (row-ends (i .inv .0) (seen-read (i .a) (n .next-of .ensures) (d .before .before .if1 .left)) (d .token-at .ensures) (c .before .is-term .ensures) (c .if2 .taken), i .inv .1))
-    (λ c. let d = c .before .before in omega (arith, lies-inside (d .before .before .before .before .before .before .args .set .now) (d .before .before .before .next-of .result) (d .token-at .ensures) (no-end PLUS MINUS (d .token-at .result) (omega arith) (c .before .is-term .ensures) (not-false _ (c .if2 .left)))))
+    let i = n .before .before .loop .inv in
+    (loop-ends (i .0) sights-say (n .next-of .ensures) (d .before .before .if1 .left) (d .token-at .ensures) (c .before .is-term .ensures) (c .if2 .taken), i .1))
+    (λ c. let d = c .before .before in omega (arith, loop-inside (d .before .before .before .before .before .loop .inv .0) refl (d .token-at .ensures) (c .before .is-term .ensures) (c .if2 .left)))
     (λ c κs. omega arith)
     (λ c κs. omega arith)
     (λ c κs. search needs)
@@ -302,11 +287,7 @@ unfolding sight sumAt expressionAt
     let e = c .before .before .before in
     let d = e .before .before in
     let n = d .before .before .before in
-    let i = n .before .before .loop in
     let o = c .before .before .operand .ensures in
     let f = c .before .factors .ensures in
-    let k = sym (e .before .is-term .ensures) ∙ not-false _ (e .if2 .left) in (
-      row-goes (i .inv .0) (seen-read (i .a) (n .next-of .ensures) (d .before .before .if1 .left)) (d .token-at .ensures) (e .before .is-term .ensures) (e .if2 .left) (omega arith) (product-is _ _ _ _ _ (o .0) (f .0)) (joins-term _ (sightOf (i .a)) (seen (c .before .factors .result)) k (c .join .ensures .0)),
-      onward-then _ (i .inv .1) (joined-on _ (n .next-of .ensures) (d .before .before .if1 .left) (d .token-at .ensures) (other-low PLUS MINUS _ (omega arith) (omega arith) refl k) (f .1 .goes _ (o .1)) (c .join .ensures .1)),
-    ))
-    (λ c. let i = c .before .loop .inv in (row-spent (i .0) (omega arith), i .1))
+    round term-level (n .before .before .loop .inv) (n .next-of .ensures) (d .before .before .if1 .left) (d .token-at .ensures) (e .before .is-term .ensures) (e .if2 .left) (omega arith) (product-is _ _ _ _ _ (o .0) (f .0), f .1 .goes _ (o .1)) (c .join .ensures))
+    (λ c. let i = c .before .loop .inv in (loop-spent (i .0) (omega arith), i .1))

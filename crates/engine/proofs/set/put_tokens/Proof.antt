@@ -6,13 +6,13 @@ use mathlib.Core.Path.{_≡_, refl, sym, _∙_}
 use Prim.Native.Nat.{_+_, _-_, _≤_}
 use lib.ListN.{length, drop}
 use Rattle.values.specs.PutAt.{putAt}
-use Rattle.engine.specs.Set.{ended, withoutMark}
+use Rattle.engine.specs.Set.{withEnd, withoutMark}
 use Rattle.engine.proofs.SetLaws.{tokens-next, tokens-end}
 use Rattle.engine.proofs.set.put_tokens.Statement.{statement}
 use Rattle.engine.proofs.set.put_tokens.Tie as tie
 
 abbrev Inv-loop : tie.InvT-loop
-Inv-loop set₀ at tokens p₀ i₀ set p i = (putAt set p (ended (map withoutMark (drop i tokens))) ≡ putAt set₀ at (ended (map withoutMark tokens))) × (p ≡ at + i) × (i ≤ length tokens)
+Inv-loop set₀ at tokens p₀ i₀ set p i = (putAt set p (withEnd (map withoutMark (drop i tokens))) ≡ putAt set₀ at (withEnd (map withoutMark tokens))) × (p ≡ at + i) × (i ≤ length tokens)
 
 abbrev μ-loop : tie.MeasureT-loop
 μ-loop set₀ at tokens p₀ i₀ set p i = length tokens - i

@@ -23,7 +23,7 @@ use Rattle.reader.specs.Row.{Row, numbersOf}
 use Rattle.reader.specs.Load.{alone, numberIn}
 use Rattle.reader.specs.Draft.{grownBy, rowsIn, Held}
 use Rattle.reader.proofs.DraftLaws.{part-put}
-use Rattle.reader.proofs.LineLaws.{fault-bad, fault-told, fault-used, fault-none, says-fault, says-grown}
+use Rattle.reader.proofs.EachLineLaws.{fault-bad, fault-told, fault-used, fault-none, says-fault, says-grown}
 use Rattle.reader.proofs.draft.add_line.Statement.{statement}
 use Rattle.reader.proofs.draft.add_line.Tie as tie
 

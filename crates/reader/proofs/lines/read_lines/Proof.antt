@@ -12,7 +12,7 @@ use Rattle.text.specs.Lines.{textLines, bodies, firstBody, numbered, tokenLines
 use Rattle.reader.specs.Load.{Outcome, rowsFrom}
 use Rattle.reader.specs.Draft.{noDraft, rowsAt, rowsIn, Held, Says}
 use Rattle.reader.proofs.TokenLineLaws.{lines-none, line-inside, part-is, lines-step}
-use Rattle.reader.proofs.LineLaws.{none-held, first-count, line-next, line-stop}
+use Rattle.reader.proofs.EachLineLaws.{none-held, first-count, line-next, line-stop}
 use Rattle.reader.proofs.lines.read_lines.Statement.{statement}
 use Rattle.reader.proofs.lines.read_lines.Tie as tie
 

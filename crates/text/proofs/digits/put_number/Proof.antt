@@ -1,10 +1,13 @@
 -- `digits::put_number` meets its contract: past the buffer's end nothing is put.
 use borrow.Author.Needs.{needs}
 use native.Mathlib.Omega.{arith}
-use mathlib.Core.Path.{ap, _∙_}
+use mathlib.Core.Path.{sym, ap, _∙_}
+use mathlib.Core.List.{List}
+use lib.ListN.{length}
 use Prim.Native.Nat.{ℕ}
 use denote.Ref.{now}
 use Rattle.text.specs.Digits.{decimal}
+use Rattle.text.specs.DigitsLaws.{one-digit}
 use Rattle.values.specs.PutAt.{putAt}
 use Rattle.values.specs.PutLaws.{put-within}
 use Rattle.text.proofs.digits.put_number.Statement.{statement}
@@ -14,6 +17,15 @@ pub put-number-spec : {M : Type 1} → statement M
 put-number-spec =
     tie.close
     (tie.spec
+    (λ c. omega arith)
+    (λ c. omega arith)
+    (λ c κs. search needs)
+    (λ c. search needs)
+    (λ c.
+    let p = c .before .before in
+    let a = p .before .before .before .before .args in
+    let e = one-digit 10 (a .n) (omega arith) (omega arith) in
+    (ap (λ (l : List ℕ). length l) (sym e), p .put .ensures ∙ ap (λ (l : List ℕ). putAt (now (a .out)) (a .at) l) (sym e)))
     (λ c κs. search needs)
     (λ c κs. search needs)
     (λ c. omega (arith, c .before .before .put-digits .ensures .behind))
@@ -21,6 +33,6 @@ put-number-spec =
     (λ c.
     let d = c .before .before in
     let w = d .before .before in
-    let a = w .before .before .args in
+    let a = w .before .before .before .args in
     let e = d .put-digits .ensures in
     (omega (arith, e .behind), e .put ∙ ap (λ (y : ℕ). putAt (now (a .out)) y (decimal (a .n))) (w .within .ensures) ∙ put-within (decimal (a .n)) (now (a .out)) (a .at))))

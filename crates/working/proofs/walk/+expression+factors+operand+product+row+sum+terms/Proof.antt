@@ -9,15 +9,15 @@ use mir.Syntax.{w32}
 use mir.ValLaws.{toZ-pos}
 use Rattle.values.specs.Choice.{both}
 use Rattle.values.proofs.Signed.{back}
-use Rattle.tokens.specs.Token.{SAME, ATLEAST, PLUS, MINUS, TIMES, OVER, IN, IM, isFactor, isTerm}
-use Rattle.tokens.specs.Descent.{then, isRow, more, readClose, readProduct, readSum, readOperand, sumAt, expressionAt}
+use Rattle.tokens.specs.Token.{SAME, ATLEAST, IN, IM, isFactor, isTerm}
+use Rattle.tokens.specs.Descent.{isRow, readClose, readSum, readOperand, productAt, sumAt, expressionAt}
 use Rattle.working.specs.Pair.{pairOf, said}
 use Rattle.working.specs.Working.{valueOver, negated, inverted}
-use Rattle.tokens.proofs.AnswerLaws.{stepped}
+use Rattle.tokens.proofs.ReadStepLaws.{stepped}
 use Rattle.tokens.proofs.Arms.{spent, number-arm, variable-arm, open-arm, minus-arm, not-arm, truth-arm}
-use Rattle.tokens.proofs.Between.{no-end, row-no-end, lies-inside}
-use Rattle.tokens.proofs.Rows.{Kept, row-stops, row-ends, row-spent, row-goes, product-is, product-begins, sum-is, sum-begins, expression-is, expression-stops, rest-compares, rest-rows, rest-none}
-use Rattle.working.proofs.Pairs.{said-stop, said-value, pair-said, alarm-said}
+use Rattle.tokens.proofs.Between.{no-end, lies-inside}
+use Rattle.tokens.proofs.Rows.{Loop, loop-begins, loop-spent, loop-inside, loop-stops, loop-ends, loop-goes, row-stops, row-ends, product-is, product-begins, sum-is, sum-begins, expression-is, expression-stops, rest-compares, rest-rows, rest-none}
+use Rattle.working.proofs.Pairs.{said-stop, said-value, pairs-say, pair-said, alarm-said}
 use Rattle.tokens.proofs.token.is_compare.Reads as is-compare
 use Rattle.tokens.proofs.token.is_factor.Reads as is-factor
 use Rattle.tokens.proofs.token.is_logic.Reads as is-logic
@@ -56,19 +56,13 @@ use Rattle.working.proofs.walk.+expression+factors+operand+product+row+
 use Rattle.working.proofs.walk.+expression+factors+operand+product+row+sum+terms.Tie.{close}
 
 abbrev factors-Inv : factors-lts.InvT-loop
-factors-Inv tokens r cells w left a₀ rounds₀ a rounds =
-    let sub = readOperand tokens (valueOver r cells) left in
-    Kept tokens (valueOver r cells) isFactor sub (then (said w) (more tokens (valueOver r cells) isFactor sub left)) rounds (said a)
+factors-Inv tokens r cells w left a₀ rounds₀ a rounds = Loop tokens (valueOver r cells) isFactor (readOperand tokens (valueOver r cells) left) said left w rounds a
 
 abbrev terms-Inv : terms-lts.InvT-loop
-terms-Inv tokens r cells w left a₀ rounds₀ a rounds =
-    let sub = readProduct tokens (valueOver r cells) (readOperand tokens (valueOver r cells) left) left in
-    Kept tokens (valueOver r cells) isTerm sub (then (said w) (more tokens (valueOver r cells) isTerm sub left)) rounds (said a)
+terms-Inv tokens r cells w left a₀ rounds₀ a rounds = Loop tokens (valueOver r cells) isTerm (productAt tokens (valueOver r cells) left) said left w rounds a
 
 abbrev row-Inv : row-lts.InvT-loop
-row-Inv tokens r cells first w left a₀ rounds₀ a rounds =
-    let sub = readSum tokens (valueOver r cells) (readOperand tokens (valueOver r cells) left) left in
-    Kept tokens (valueOver r cells) (isRow first) sub (then (said w) (more tokens (valueOver r cells) (isRow first) sub left)) rounds (said a)
+row-Inv tokens r cells first w left a₀ rounds₀ a rounds = Loop tokens (valueOver r cells) (isRow first) (readSum tokens (valueOver r cells) (readOperand tokens (valueOver r cells) left) left) said left w rounds a
 
 pub +expression+factors+operand+product+row+sum+terms-spec : {M : Type 1} → statement M
 unfolding valueOver sumAt expressionAt
@@ -112,18 +106,14 @@ unfolding valueOver sumAt expressionAt
     expression-is _ _ _ _ _ (n .before .sum .ensures) (rest-rows _ _ _ _ (said-value _ (n .next-of .ensures) refl (d .before .before .if1 .left)) (d .token-at .ensures) (e .before .is-compare .ensures) (e .if2 .left) (c .row .ensures))))
     -- factors
     (λ t. factors-lts.spec (_, next-of.Learnt, _, token-at.Learnt, _, is-factor.Learnt, _, value-of.Learnt, _, operand.Post, _, join-factor.Learnt) _ factors.Post factors-Inv (λ tokens r cells w left a₀ rounds₀ a rounds. rounds)
-    (λ c. record { is-whole = refl })
+    (λ c. loop-begins)
     (λ c κs. search needs)
-    (λ c. let i = c .before .before .before .loop in row-stops (i .inv) (said-stop (i .a) (c .before .next-of .ensures) (c .if1 .taken)))
+    (λ c. loop-stops (c .before .before .before .loop .inv) pairs-say (c .before .next-of .ensures) (c .if1 .taken))
     (λ c κs. search needs)
     (λ c κs. search needs)
-    (λ c.
-    let d = c .before .before in
-    let n = d .before .before .before in
-    let i = n .before .before .loop in
-    row-ends (i .inv) (said-value (i .a) (n .next-of .ensures) refl (d .before .before .if1 .left)) (d .token-at .ensures) (c .before .is-factor .ensures) (c .if2 .taken))
+    (λ c. let d = c .before .before in let n = d .before .before .before in loop-ends (n .before .before .loop .inv) pairs-say (n .next-of .ensures) (d .before .before .if1 .left) (d .token-at .ensures) (c .before .is-factor .ensures) (c .if2 .taken))
     (λ c κs. search needs)
-    (λ c. let d = c .before .before .before in omega (arith, lies-inside (d .before .before .before .before .before .before .args .set .now) (d .before .before .before .next-of .result) (d .token-at .ensures) (no-end TIMES OVER (d .token-at .result) (omega arith) (c .before .before .is-factor .ensures) (not-false _ (c .before .if2 .left)))))
+    (λ c. let d = c .before .before .before in omega (arith, loop-inside (d .before .before .before .before .before .loop .inv) refl (d .token-at .ensures) (c .before .before .is-factor .ensures) (c .before .if2 .left)))
     (λ c κs. omega arith)
     (λ c κs. sym (c .before .before .before .is-factor .ensures) ∙ not-false _ (c .before .before .if2 .left))
     (λ c. omega arith)
@@ -132,9 +122,8 @@ unfolding valueOver sumAt expressionAt
     let v = c .before .before in
     let d = v .before .before .before in
     let n = d .before .before .before in
-    let i = n .before .before .loop in
-    row-goes (i .inv) (said-value (i .a) (n .next-of .ensures) (back w32 (record { sfits = v .value-of .ok }) ∙ v .value-of .ensures) (d .before .before .if1 .left)) (d .token-at .ensures) (v .before .before .is-factor .ensures) (v .before .if2 .left) (omega arith) (c .before .operand .ensures) (c .join-factor .ensures))
-    (λ c. row-spent (c .before .loop .inv) (omega arith)))
+    loop-goes (n .before .before .loop .inv) pairs-say (n .next-of .ensures) (d .before .before .if1 .left) (d .token-at .ensures) (v .before .before .is-factor .ensures) (v .before .if2 .left) (omega arith) (back w32 (record { sfits = v .value-of .ok }) ∙ v .value-of .ensures) (c .before .operand .ensures) (c .join-factor .ensures))
+    (λ c. loop-spent (c .before .loop .inv) (omega arith)))
     -- operand
     (λ t. operand-lts.spec (_, alarm-of.Learnt, _, token-at.Learnt, _, pair-of.Learnt, _, is-variable.Learnt, _, variable.Learnt, _, expression.Post, _, closed.Learnt, _, operand.Post, _, negated-pair.Learnt, _, inverted-pair.Learnt, _, truth.Learnt) _ operand.Post
     (λ c κs. search needs)
@@ -193,18 +182,14 @@ unfolding valueOver sumAt expressionAt
     (λ c. product-is _ _ _ _ _ (c .before .before .before .before .before .before .before .operand .ensures) (c .factors .ensures)))
     -- row
     (λ t. row-lts.spec (_, next-of.Learnt, _, token-at.Learnt, _, is-row.Learnt, _, value-of.Learnt, _, sum.Post, _, join-row.Learnt) _ row.Post row-Inv (λ tokens r cells first w left a₀ rounds₀ a rounds. rounds)
-    (λ c. record { is-whole = refl })
+    (λ c. loop-begins)
     (λ c κs. search needs)
-    (λ c. let i = c .before .before .before .loop in row-stops (i .inv) (said-stop (i .a) (c .before .next-of .ensures) (c .if1 .taken)))
+    (λ c. loop-stops (c .before .before .before .loop .inv) pairs-say (c .before .next-of .ensures) (c .if1 .taken))
     (λ c κs. search needs)
     (λ c κs. search needs)
-    (λ c.
-    let d = c .before .before in
-    let n = d .before .before .before in
-    let i = n .before .before .loop in
-    row-ends (i .inv) (said-value (i .a) (n .next-of .ensures) refl (d .before .before .if1 .left)) (d .token-at .ensures) (c .before .is-row .ensures) (c .if2 .taken))
+    (λ c. let d = c .before .before in let n = d .before .before .before in loop-ends (n .before .before .loop .inv) pairs-say (n .next-of .ensures) (d .before .before .if1 .left) (d .token-at .ensures) (c .before .is-row .ensures) (c .if2 .taken))
     (λ c κs. search needs)
-    (λ c. let d = c .before .before .before in omega (arith, lies-inside (d .before .before .before .before .before .before .args .set .now) (d .before .before .before .next-of .result) (d .token-at .ensures) (row-no-end _ (d .token-at .result) (c .before .before .is-row .ensures) (not-false _ (c .before .if2 .left)))))
+    (λ c. let d = c .before .before .before in omega (arith, loop-inside (d .before .before .before .before .before .loop .inv) refl (d .token-at .ensures) (c .before .before .is-row .ensures) (c .before .if2 .left)))
     (λ c κs. omega arith)
     (λ c κs. both _ _ (sym (c .before .before .before .is-row .ensures) ∙ not-false _ (c .before .before .if2 .left)) .0)
     (λ c. omega arith)
@@ -213,9 +198,8 @@ unfolding valueOver sumAt expressionAt
     let v = c .before .before in
     let d = v .before .before .before in
     let n = d .before .before .before in
-    let i = n .before .before .loop in
-    row-goes (i .inv) (said-value (i .a) (n .next-of .ensures) (back w32 (record { sfits = v .value-of .ok }) ∙ v .value-of .ensures) (d .before .before .if1 .left)) (d .token-at .ensures) (v .before .before .is-row .ensures) (v .before .if2 .left) (omega arith) (c .before .sum .ensures) (c .join-row .ensures))
-    (λ c. row-spent (c .before .loop .inv) (omega arith)))
+    loop-goes (n .before .before .loop .inv) pairs-say (n .next-of .ensures) (d .before .before .if1 .left) (d .token-at .ensures) (v .before .before .is-row .ensures) (v .before .if2 .left) (omega arith) (back w32 (record { sfits = v .value-of .ok }) ∙ v .value-of .ensures) (c .before .sum .ensures) (c .join-row .ensures))
+    (λ c. loop-spent (c .before .loop .inv) (omega arith)))
     -- sum
     (λ t. sum-lts.spec (_, product.Post, _, next-of.Learnt, _, token-at.Learnt, _, is-term.Learnt, _, terms.Post) _ sum.Post
     (λ c κs. omega arith)
@@ -231,18 +215,14 @@ unfolding valueOver sumAt expressionAt
     (λ c. sum-is _ _ _ _ _ (c .before .before .before .before .before .before .before .product .ensures) (c .terms .ensures)))
     -- terms
     λ t. terms-lts.spec (_, next-of.Learnt, _, token-at.Learnt, _, is-term.Learnt, _, value-of.Learnt, _, product.Post, _, join-term.Learnt) _ terms.Post terms-Inv (λ tokens r cells w left a₀ rounds₀ a rounds. rounds)
-    (λ c. record { is-whole = refl })
+    (λ c. loop-begins)
     (λ c κs. search needs)
-    (λ c. let i = c .before .before .before .loop in row-stops (i .inv) (said-stop (i .a) (c .before .next-of .ensures) (c .if1 .taken)))
+    (λ c. loop-stops (c .before .before .before .loop .inv) pairs-say (c .before .next-of .ensures) (c .if1 .taken))
     (λ c κs. search needs)
     (λ c κs. search needs)
-    (λ c.
-    let d = c .before .before in
-    let n = d .before .before .before in
-    let i = n .before .before .loop in
-    row-ends (i .inv) (said-value (i .a) (n .next-of .ensures) refl (d .before .before .if1 .left)) (d .token-at .ensures) (c .before .is-term .ensures) (c .if2 .taken))
+    (λ c. let d = c .before .before in let n = d .before .before .before in loop-ends (n .before .before .loop .inv) pairs-say (n .next-of .ensures) (d .before .before .if1 .left) (d .token-at .ensures) (c .before .is-term .ensures) (c .if2 .taken))
     (λ c κs. search needs)
-    (λ c. let d = c .before .before .before in omega (arith, lies-inside (d .before .before .before .before .before .before .args .set .now) (d .before .before .before .next-of .result) (d .token-at .ensures) (no-end PLUS MINUS (d .token-at .result) (omega arith) (c .before .before .is-term .ensures) (not-false _ (c .before .if2 .left)))))
+    (λ c. let d = c .before .before .before in omega (arith, loop-inside (d .before .before .before .before .before .loop .inv) refl (d .token-at .ensures) (c .before .before .is-term .ensures) (c .before .if2 .left)))
     (λ c κs. omega arith)
     (λ c κs. sym (c .before .before .before .is-term .ensures) ∙ not-false _ (c .before .before .if2 .left))
     (λ c. omega arith)
@@ -251,6 +231,5 @@ unfolding valueOver sumAt expressionAt
     let v = c .before .before in
     let d = v .before .before .before in
     let n = d .before .before .before in
-    let i = n .before .before .loop in
-    row-goes (i .inv) (said-value (i .a) (n .next-of .ensures) (back w32 (record { sfits = v .value-of .ok }) ∙ v .value-of .ensures) (d .before .before .if1 .left)) (d .token-at .ensures) (v .before .before .is-term .ensures) (v .before .if2 .left) (omega arith) (c .before .product .ensures) (c .join-term .ensures))
-    (λ c. row-spent (c .before .loop .inv) (omega arith))
+    loop-goes (n .before .before .loop .inv) pairs-say (n .next-of .ensures) (d .before .before .if1 .left) (d .token-at .ensures) (v .before .before .is-term .ensures) (v .before .if2 .left) (omega arith) (back w32 (record { sfits = v .value-of .ok }) ∙ v .value-of .ensures) (c .before .product .ensures) (c .join-term .ensures))
+    (λ c. loop-spent (c .before .loop .inv) (omega arith))

@@ -1,14 +1,14 @@
--- `code_right_side` meets its contract: it packs what `work::right_side` gives.
+-- `set_right_side` meets its contract: it packs what `working::right_side` gives.
 use borrow.Author.Needs.{needs}
 use mathlib.Core.Path.{ap, _∙_}
 use mir.Syntax.{w64}
 use Rattle.values.proofs.Signed.{back}
 use Rattle.exports.specs.Packed.{packed}
-use Rattle.exports.proofs.code_right_side.Statement.{statement}
-use Rattle.exports.proofs.code_right_side.Tie as tie
+use Rattle.exports.proofs.set_right_side.Statement.{statement}
+use Rattle.exports.proofs.set_right_side.Tie as tie
 
-pub code-right-side-spec : {M : Type 1} → statement M
-code-right-side-spec =
+pub set-right-side-spec : {M : Type 1} → statement M
+set-right-side-spec =
     tie.close
     (tie.spec
     (λ c κs. search needs)

@@ -1,14 +1,14 @@
--- `code_condition` meets its contract: it packs what `work::condition` gives.
+-- `set_condition` meets its contract: it packs what `working::condition` gives.
 use borrow.Author.Needs.{needs}
 use mathlib.Core.Path.{ap, _∙_}
 use mir.Syntax.{w64}
 use Rattle.values.proofs.Signed.{back}
 use Rattle.exports.specs.Packed.{packed}
-use Rattle.exports.proofs.code_condition.Statement.{statement}
-use Rattle.exports.proofs.code_condition.Tie as tie
+use Rattle.exports.proofs.set_condition.Statement.{statement}
+use Rattle.exports.proofs.set_condition.Tie as tie
 
-pub code-condition-spec : {M : Type 1} → statement M
-code-condition-spec =
+pub set-condition-spec : {M : Type 1} → statement M
+set-condition-spec =
     tie.close
     (tie.spec
     (λ c κs. search needs)
