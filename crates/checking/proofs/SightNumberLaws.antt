@@ -78,7 +78,7 @@ module _ (w : ℕ) {i : ℕ} (e : i ≡ nextOf w) (l : i < setSize) where
   pub seen-next : seen (w + 1) ≡ read (sightOf w) (i + 1)
   seen-next =
       let b : (w + 1) / room ≡ w / room = omega arith in
-      let c : (w + 1) / 16384 ≡ w / 16384 = omega arith in
+      let c : (w + 1) / (2 * room) ≡ w / (2 * room) = omega arith in
       seen-as (w + 1) (i + 1) (faultOf w) (omega arith) (omega arith) (ap (λ (n : ℕ). eqb (n % 2) 1) b) (ap (λ (n : ℕ). n % 256) c)
 
   pub next-made : Made (faultOf w) (depthOf w) (i + 1) (w + 1)

@@ -1,4 +1,4 @@
--- What the check sees, as one number of 64 bits: the lowest 13 bits are the next place, 0 where it is not in the grammar; above them stand one bit for a yes/no, the lowest fault, and the greatest depth of brackets, counted to nine; and what its steps read. Definitions only.
+-- What the check sees, as one number of 64 bits: its remainder by `room` is the next place, 0 where it is not in the grammar; its quotient has one bit for a yes/no, the lowest fault, and the greatest depth of brackets, counted to nine; and what its steps read. Definitions only.
 use mathlib.Core.Bool.{Bool, true, false, cond}
 use mathlib.Core.List.{List}
 use Prim.Native.Nat.{ℕ, zero, suc, _+_, _*_, _/_, _%_, max}

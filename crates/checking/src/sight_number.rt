@@ -1,6 +1,6 @@
 // What the check sees, in one number of 64 bits: the walk hands it on in a register.
 //
-// The lowest 13 bits are the place behind it, 0 where it is not in the grammar; above them stand one bit for a yes/no, the lowest fault, and the greatest depth of
+// Its remainder by ROOM is the place behind it, 0 where it is not in the grammar; its quotient has one bit for a yes/no, the lowest fault, and the greatest depth of
 // brackets in it, counted to nine.
 ghost use mathlib.Core.Path.{_≡_};
 ghost use Rattle.checking.specs.SightNumber.{numberSeen, truthSeen, nextOf, truthOf, faultOf, isFaultless, depthOf, deeperOf};

@@ -14,7 +14,7 @@ use mir.Val.{Fits}
 use borrow.Author.Tests.{ltb-false}
 use Rattle.values.specs.Numbers.{clash}
 use Rattle.values.specs.Choice.{both}
-use Rattle.engine.specs.Order.{orderBytes, withOrder}
+use Rattle.engine.specs.Order.{orderSize, orderBytes, withOrder}
 use Rattle.engine.specs.OrderLaws.{eight-bytes}
 use Rattle.engine.specs.declared.order.Order.{Order}
 use Rattle.tokens.specs.Token.{isFifo}
@@ -31,8 +31,8 @@ unfolding isRemoval
 removal-fifo s p h = both (isFifo (getD s p 0)) _ h .0
 
 -- the orders are eight bytes more
-pub one-more : (out : List ℕ) (n : ℕ) (o : Order) → 8 * n + 8 ≤ length out → take (8 * (n + 1)) (withOrder out (n * 8) o) ≡ take (8 * n) out ++ orderBytes o
+pub one-more : (out : List ℕ) (n : ℕ) (o : Order) → orderSize * n + orderSize ≤ length out → take (orderSize * (n + 1)) (withOrder out (n * orderSize) o) ≡ take (orderSize * n) out ++ orderBytes o
 one-more out n o h =
-    let m : n * 8 ≡ 8 * n = omega arith in
-    let l : length (take (8 * n) out ++ orderBytes o) ≡ 8 * (n + 1) = rw (length-append, length-take-le (8 * n) out (omega arith), eight-bytes o) (omega arith) in
-    rw (m, ← append-assoc, take-at (take (8 * n) out ++ orderBytes o) (drop (8 * n + 8) out) (8 * (n + 1)) l)
+    let m : n * orderSize ≡ orderSize * n = omega arith in
+    let l : length (take (orderSize * n) out ++ orderBytes o) ≡ orderSize * (n + 1) = rw (length-append, length-take-le (orderSize * n) out (omega arith), eight-bytes o) (omega arith) in
+    rw (m, ← append-assoc, take-at (take (orderSize * n) out ++ orderBytes o) (drop (orderSize * n + orderSize) out) (orderSize * (n + 1)) l)

@@ -14,6 +14,7 @@ use Rattle.engine.specs.declared.one_beat.Beaten.{Beaten}
 use Rattle.engine.specs.declared.state.State.{State}
 use Rattle.engine.specs.Set.{soundLines}
 use Rattle.engine.specs.Sound.{stateSound, isSound}
+use Rattle.engine.specs.Order.{orderSize}
 use Rattle.engine.specs.Turn.{Entry, beatIn, Turned, turnsFrom}
 use Rattle.engine.specs.Beat.{bufferSize, areInputs, begun, ended, beatOf, answered, buffered}
 use Rattle.engine.specs.ActionAnswers.{worldOf}
@@ -65,16 +66,16 @@ module _ (st : State) (b : List ℕ) (y : Answer Turned) where
   refuses x e = (x ∙ ap (answered st) (sym e), ap (buffered b) (sym e))
 
   -- the first 8 bytes for each order are those of the orders
-  module _ (r c : List ℤ) (out : List ℕ) (f : Flags) (es : List Entry) (e : y ≡ good (record { world = worldOf r c out f; entries = es })) (l : length (take (f .count * 8) out) ≡ f .count * 8) where
-    bytes : f .count * 8 ≡ 8 * f .count
+  module _ (r c : List ℤ) (out : List ℕ) (f : Flags) (es : List Entry) (e : y ≡ good (record { world = worldOf r c out f; entries = es })) (l : length (take (f .count * orderSize) out) ≡ f .count * orderSize) where
+    bytes : f .count * orderSize ≡ orderSize * f .count
     bytes = omega arith
 
-    written : length (take (8 * f .count) out) ≡ 8 * f .count
+    written : length (take (orderSize * f .count) out) ≡ orderSize * f .count
     written = rw bytes at l
 
     pub answers : {x : Beaten} {next : State} {kept : List ℤ} → x ≡ record { code = 0; orders = f .count; acted = f .acted; state = next } → next ≡ record { r = r; cells = kept; runs = f .runs; locked = f .locked; cancelled = st .cancelled; memory = f .memory } → kept ≡ drop 30 c → x ≡ answered st y
     unfolding ended
-    answers p n k = let m : 8 * f .count / 8 ≡ f .count = omega arith in p ∙ rw (n, e, written, m, k)
+    answers p n k = let m : orderSize * f .count / orderSize ≡ f .count = omega arith in p ∙ rw (n, e, written, m, k)
 
-    pub writes : {o : List ℕ} → o ≡ take (f .count * 8) out ++ drop (f .count * 8) b → o ≡ buffered b y
+    pub writes : {o : List ℕ} → o ≡ take (f .count * orderSize) out ++ drop (f .count * orderSize) b → o ≡ buffered b y
     writes o = o ∙ rw (e, written, bytes)

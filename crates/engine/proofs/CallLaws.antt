@@ -11,6 +11,7 @@ use lib.Seq.{length-take-le, set-getD}
 use borrow.Author.Tests.{eq-eqb, ne-eqb}
 use Rattle.values.specs.Codes.{unsound}
 use Rattle.values.proofs.Lists.{put, replicate-more}
+use Rattle.tokens.specs.Token.{maxLines}
 use Rattle.checking.specs.declared.line.Line.{Line}
 use Rattle.engine.specs.declared.set.Lines.{Lines}
 use Rattle.engine.specs.declared.state.State.{State}
@@ -85,6 +86,6 @@ module _ (s : List ℕ) (st : State) where
 
   -- the lines of the set are l, the cells cs and the cancelled lines xs
   pub reset-sound : isSound s st ≡ true → (l : Lines) → l ≡ soundLines s → (cs : List ℤ) → cs ≡ zeroed (st .cells) → (xs : List Bool) → xs ≡ resetCancelled (l .items) (st .cancelled) (l .count)
-      → resetCall s st ≡ record { code = 0; state = record { r = st .r; cells = cs; runs = replicate 8 false; locked = replicate 32 false; cancelled = xs; memory = replicate 32 false } }
+      → resetCall s st ≡ record { code = 0; state = record { r = st .r; cells = cs; runs = replicate 8 false; locked = replicate maxLines false; cancelled = xs; memory = replicate maxLines false } }
   unfolding resetCall resetState
   reset-sound z l e cs g xs h = rw (h, g, e) (rw (resetCall, z))

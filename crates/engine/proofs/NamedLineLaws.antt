@@ -8,6 +8,7 @@ use lib.Dec.{ltb}
 use lib.ListN.{getD}
 use borrow.Author.Tests.{ltb-true, ltb-false, lt-ltb, le-ltb}
 use Rattle.values.specs.Codes.{unsound, unknownLine}
+use Rattle.tokens.specs.Token.{maxLines}
 use Rattle.engine.specs.declared.set.Lines.{Lines}
 use Rattle.engine.specs.declared.state.State.{State}
 use Rattle.engine.specs.declared.named_line.Found.{Found}
@@ -53,18 +54,18 @@ module _ (s : List ℕ) (st : State) (n : ℕ) where
     found-rank h c = at ∙ at-rank (l .count) (st .cancelled) k h c
 
 -- a rank that was found is below 32
-at-below : (count : ℕ) (cancelled : List Bool) (k : ℕ) → count ≤ 32 → foundAt count cancelled k .rank < 32
+at-below : (count : ℕ) (cancelled : List Bool) (k : ℕ) → count ≤ maxLines → foundAt count cancelled k .rank < maxLines
 at-below count cancelled k h = go (ltb k count) (getD cancelled k false) refl refl
   where
-    go : (b d : Bool) → ltb k count ≡ b → getD cancelled k false ≡ d → foundAt count cancelled k .rank < 32
+    go : (b d : Bool) → ltb k count ≡ b → getD cancelled k false ≡ d → foundAt count cancelled k .rank < maxLines
     go true true e f = rw (at-cancelled count cancelled k (ltb-true k count e) f) (omega arith)
     go true false e f = let l = ltb-true k count e in rw (at-rank count cancelled k l f) (omega arith)
     go false d e f = rw (at-none count cancelled k (ltb-false k count e)) (omega arith)
 
-pub found-below : (s : List ℕ) (st : State) (n : ℕ) → found s st n .rank < 32
+pub found-below : (s : List ℕ) (st : State) (n : ℕ) → found s st n .rank < maxLines
 unfolding found
 found-below s st n = go (isSound s st) refl
   where
-    go : (b : Bool) → isSound s st ≡ b → found s st n .rank < 32
+    go : (b : Bool) → isSound s st ≡ b → found s st n .rank < maxLines
     go true z = rw (found, z) (at-below (soundLines s .count) (st .cancelled) (rankIn (soundLines s .numbers) n 0) (sound-count s))
     go false z = rw (found, z) (omega arith)

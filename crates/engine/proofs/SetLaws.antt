@@ -11,7 +11,7 @@ use lib.ListN.{length, drop, getD, set, replicate, drop-of-length-le}
 use lib.Seq.{drop-cons}
 use borrow.Author.Tests.{lt-ltb, le-ltb, eq-eqb, ne-eqb}
 use Rattle.checking.specs.declared.line.Line.{Line}
-use Rattle.tokens.specs.Token.{END, whole, setSize}
+use Rattle.tokens.specs.Token.{END, whole, maxLines, setSize}
 use Rattle.checking.specs.Fault.{lineAt}
 use Rattle.engine.specs.declared.set.Lines.{Lines}
 use Rattle.values.specs.PutAt.{putAt}
@@ -67,15 +67,15 @@ module _ (s ns : List ℕ) (p t : ℕ) (e : t ≡ getD s p 0) where
       named : x ≡ rankIn ns (whole (getD s (p + 2) 0)) 0
       named = g ∙ ap (λ (n : ℕ). rankIn ns n 0) (w ∙ ap whole u)
 
-      pub names-unknown : 32 ≤ x → (left : ℕ) → 0 < left → namesKnown s ns left p ≡ false
+      pub names-unknown : maxLines ≤ x → (left : ℕ) → 0 < left → namesKnown s ns left p ≡ false
       unfolding namesKnown
       names-unknown k zero l = absurd (omega arith)
-      names-unknown k (suc m) l = simp (namesKnown, ne-eqb (getD s p 0) END (λ z. f (e ∙ z)), ap isLock (sym e) ∙ h, le-ltb (rankIn ns (whole (getD s (p + 2) 0)) 0) 32 (rw named at k))
+      names-unknown k (suc m) l = simp (namesKnown, ne-eqb (getD s p 0) END (λ z. f (e ∙ z)), ap isLock (sym e) ∙ h, le-ltb (rankIn ns (whole (getD s (p + 2) 0)) 0) maxLines (rw named at k))
 
-      pub names-lock : x < 32 → (left : ℕ) → 0 < left → namesKnown s ns left p ≡ namesKnown s ns (left - 1) (p + 1)
+      pub names-lock : x < maxLines → (left : ℕ) → 0 < left → namesKnown s ns left p ≡ namesKnown s ns (left - 1) (p + 1)
       unfolding namesKnown
       names-lock k zero l = absurd (omega arith)
-      names-lock k (suc m) l = rw (one-less m) (simp (namesKnown, ne-eqb (getD s p 0) END (λ z. f (e ∙ z)), ap isLock (sym e) ∙ h, lt-ltb (rankIn ns (whole (getD s (p + 2) 0)) 0) 32 (rw named at k)))
+      names-lock k (suc m) l = rw (one-less m) (simp (namesKnown, ne-eqb (getD s p 0) END (λ z. f (e ∙ z)), ap isLock (sym e) ∙ h, lt-ltb (rankIn ns (whole (getD s (p + 2) 0)) 0) maxLines (rw named at k)))
 
 pub names-none : (s ns : List ℕ) (p left : ℕ) → left ≤ 0 → namesKnown s ns left p ≡ true
 unfolding namesKnown
@@ -129,13 +129,13 @@ module _ (s : List ℕ) (k last n : ℕ) (ns : List ℕ) (ls : List Line) where
   lines-none zero h = refl
   lines-none (suc m) h = absurd (omega arith)
 
-pub read-many : (s : List ℕ) → 32 < lineCount s → linesRead s ≡ noLines
+pub read-many : (s : List ℕ) → maxLines < lineCount s → linesRead s ≡ noLines
 unfolding linesRead
-read-many s h = rw (linesRead, lt-ltb 32 (lineCount s) h)
+read-many s h = rw (linesRead, lt-ltb maxLines (lineCount s) h)
 
-pub read-few : (s : List ℕ) (n : ℕ) → n ≡ lineCount s → n ≤ 32 → linesFrom s (n - 0) 0 0 (replicate 32 0) (replicate 32 noLine) ≡ linesRead s
+pub read-few : (s : List ℕ) (n : ℕ) → n ≡ lineCount s → n ≤ maxLines → linesFrom s (n - 0) 0 0 (replicate maxLines 0) (replicate maxLines noLine) ≡ linesRead s
 unfolding linesRead
-read-few s n e h = rw (sub-zero, e, linesRead, le-ltb 32 (lineCount s) (rw e at h))
+read-few s n e h = rw (sub-zero, e, linesRead, le-ltb maxLines (lineCount s) (rw e at h))
 
 -- ---- the lines of a set that passes each check
 

@@ -48,6 +48,6 @@ rows-room (l ∷ ls) rs qs h =
     (λ k f g. clash (cc))
 
 -- THE ROOM OF A TEXT
-pub taken-room : (t : List ℕ) (rs : List Row) → length t ≤ textSize → rowsFrom [] (tokenLines t) ≡ taken rs → total rs ≤ 4097
+pub taken-room : (t : List ℕ) (rs : List Row) → length t ≤ textSize → rowsFrom [] (tokenLines t) ≡ taken rs → total rs ≤ textSize + 1
 unfolding total
 taken-room t rs l h = let r = rows-room (tokenLines t) [] rs h in let w = text-room t in omega arith

@@ -1,4 +1,4 @@
--- What the walk hands on, as one number of 64 bits: the lowest 13 bits are the next place, 0 where an alarm ends it; above them stand the 32 bits of the value, or the alarm. Definitions only.
+-- What the walk hands on, as one number of 64 bits: its remainder by `room` is the next place, 0 where an alarm ends it; its quotient has the 32 bits of the value, or the alarm. Definitions only.
 use mathlib.Core.Bool.{true, false}
 use Prim.Native.Nat.{ℕ, _+_, _*_, _/_, _%_}
 use lib.Dec.{eqb}

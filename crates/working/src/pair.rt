@@ -1,6 +1,6 @@
 // A value and the place behind it, or an alarm, in one number of 64 bits: the walk hands it on in a register.
 //
-// The lowest 13 bits are the place, 0 for an alarm; above them stand the 32 bits of the value, or the alarm.
+// Its remainder by ROOM is the place, 0 for an alarm; its quotient has the 32 bits of the value, or the alarm.
 ghost use mathlib.Core.Path.{_≡_};
 ghost use Prim.Native.Nat.{_<_};
 ghost use Rattle.tokens.specs.Token.{room};

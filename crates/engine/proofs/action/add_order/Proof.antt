@@ -5,6 +5,7 @@ use Prim.Native.Nat.{_+_, _*_, _≤_}
 use native.Mathlib.Omega.{arith}
 use lib.ListN.{length, take}
 use denote.Ref.{now}
+use Rattle.engine.specs.Order.{orderSize}
 use Rattle.engine.specs.ActionAnswers.{worldOf}
 use Rattle.engine.proofs.ActionAnswerLaws.{with-orders}
 use Rattle.engine.proofs.ActionLaws.{one-more}
@@ -23,5 +24,5 @@ add-order-spec =
     let p = c .before .before in
     let a = p .before .before .before .args in
     let n = a .flags .count in
-    let l : 8 * n + 8 ≤ length (now (a .out)) = search needs in
-    (λ r cs. rw (c .did-all .ensures) (refl, (refl, with-orders (worldOf r cs (now (a .out)) (a .flags)) (ap (take (8 * (n + 1))) (p .put .ensures) ∙ one-more (now (a .out)) n (a .o) l))), rw (c .did-all .ensures) (omega arith, refl))))
+    let l : orderSize * n + orderSize ≤ length (now (a .out)) = search needs in
+    (λ r cs. rw (c .did-all .ensures) (refl, (refl, with-orders (worldOf r cs (now (a .out)) (a .flags)) (ap (take (orderSize * (n + 1))) (p .put .ensures) ∙ one-more (now (a .out)) n (a .o) l))), rw (c .did-all .ensures) (omega arith, refl))))

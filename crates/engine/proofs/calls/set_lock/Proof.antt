@@ -2,13 +2,14 @@
 use borrow.Author.Needs.{needs}
 use native.Mathlib.Omega.{arith}
 use Prim.Native.Nat.{_<_}
+use Rattle.tokens.specs.Token.{maxLines}
 use Rattle.engine.specs.Calls.{withLocked, lockedCall}
 use Rattle.engine.proofs.NamedLineLaws.{found-below}
 use Rattle.engine.proofs.CallLaws.{called-refused, called-done}
 use Rattle.engine.proofs.calls.set_lock.Statement.{statement}
 use Rattle.engine.proofs.calls.set_lock.Tie as tie
 
-below : (c : tie.After-find) → c .find .result .rank < 32
+below : (c : tie.After-find) → c .find .result .rank < maxLines
 below c = rw (c .find .ensures) (found-below _ _ _)
 
 pub set-lock-spec : {M : Type 1} → statement M

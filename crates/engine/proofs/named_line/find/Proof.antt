@@ -5,6 +5,7 @@ use native.Mathlib.Omega.{arith}
 use mathlib.Core.Path.{_≡_, sym, _∙_}
 use mathlib.Core.Bool.{true}
 use Prim.Native.Nat.{_≤_}
+use Rattle.tokens.specs.Token.{maxLines}
 use Rattle.engine.specs.Sound.{isSound}
 use Rattle.engine.specs.SetCountLaws.{sound-count}
 use Rattle.engine.proofs.SoundTestLaws.{unsound-set, sound-as}
@@ -15,7 +16,7 @@ use Rattle.engine.proofs.named_line.find.Tie as tie
 sound : (c : tie.Else2) → isSound (c .before .before .before .before .args .set .now) (c .before .before .before .before .args .state) ≡ true
 sound c = sound-as _ _ _ (c .before .before .before .sound-lines .ensures) (not-false _ (c .before .before .if1 .left)) _ (c .before .is-state-sound .ensures) ∙ not-false _ (c .if2 .left)
 
-few : (c : tie.After-sound-lines) → c .sound-lines .result .count ≤ 32
+few : (c : tie.After-sound-lines) → c .sound-lines .result .count ≤ maxLines
 few c = rw (c .sound-lines .ensures) (sound-count _)
 
 pub find-spec : {M : Type 1} → statement M

@@ -9,11 +9,12 @@ use lib.ListN.{length, getD, take, drop, length-set}
 use lib.Seq.{length-take-le, take-suc, append-snoc}
 use denote.Ref.{now}
 use Rattle.values.proofs.Lists.{put}
+use Rattle.engine.specs.Beat.{bufferSize}
 use Rattle.engine.proofs.one_beat.copy_orders.Statement.{statement}
 use Rattle.engine.proofs.one_beat.copy_orders.Tie as tie
 
 abbrev Inv-loop : tie.InvT-loop
-Inv-loop orders₀ out n all i₀ orders i = (orders ≡ take i all ++ drop i orders₀) × (length orders ≡ length orders₀) × (i ≤ n) × (length all ≡ 2048)
+Inv-loop orders₀ out n all i₀ orders i = (orders ≡ take i all ++ drop i orders₀) × (length orders ≡ length orders₀) × (i ≤ n) × (length all ≡ bufferSize)
 
 abbrev μ-loop : tie.MeasureT-loop
 μ-loop orders₀ out n all i₀ orders i = n - i
@@ -24,7 +25,7 @@ loop-again c =
     let d = now (b .before .before .args .orders) in
     let s = now (b .before .before .args .out) in
     let i = b .loop .i in
-    let l : length s ≡ 2048 = b .loop .inv .3 in
+    let l : length s ≡ bufferSize = b .loop .inv .3 in
     let e : take (i + 1) s ++ drop (i + 1) d ≡ take i s ++ (getD s i 0 ∷ drop (i + 1) d) = rw (add-one i, take-suc s i 0 (omega arith), append-snoc) in
     (rw (b .loop .inv .0) (put (take i s) i (length-take-le i s (omega arith)) d (omega arith) (getD s i 0) 0 ∙ sym e), simp length-set (b .loop .inv .1), omega arith, l)
 

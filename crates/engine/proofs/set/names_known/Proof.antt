@@ -3,6 +3,7 @@ use borrow.Author.Needs.{needs}
 use native.Mathlib.Omega.{arith}
 use mathlib.Core.Path.{_≡_, refl, sym, _∙_}
 use mathlib.Core.Logic.{⊎-elim}
+use Rattle.tokens.specs.Token.{setSize}
 use Rattle.engine.specs.Set.{namesKnown}
 use Rattle.engine.proofs.SetLaws.{names-end, names-other, names-unknown, names-lock, names-none}
 use Rattle.tokens.proofs.Between.{lies-inside}
@@ -10,7 +11,7 @@ use Rattle.engine.proofs.set.names_known.Statement.{statement}
 use Rattle.engine.proofs.set.names_known.Tie as tie
 
 abbrev Inv-loop : tie.InvT-loop
-Inv-loop set numbers start p₀ left₀ p left = namesKnown set numbers left p ≡ namesKnown set numbers 4130 start
+Inv-loop set numbers start p₀ left₀ p left = namesKnown set numbers left p ≡ namesKnown set numbers setSize start
 
 abbrev μ-loop : tie.MeasureT-loop
 μ-loop set numbers start p₀ left₀ p left = left
