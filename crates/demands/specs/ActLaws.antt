@@ -11,6 +11,7 @@ use lib.IntN.{ℤ}
 use lib.ListN.{getD}
 use borrow.Author.Tests.{eq-eqb, ne-eqb}
 use Rattle.values.specs.Numbers.{clash}
+use Rattle.tokens.specs.Token.{maxActions}
 use Rattle.tokens.specs.Descent.{Answer, good, stop, _>>=_}
 use Rattle.working.specs.Operators.{isYes}
 use Rattle.working.specs.Working.{conditionValue}
@@ -71,11 +72,11 @@ module _ (s : List ℕ) (ls : Lines) (l : Line) (k : ℕ) (r : History) (x : Wor
   unfolding doTurn
   do-after es false w v f g = record { word = omega arith; orders = gave-none _ (x .orders); ever = f; was = g }
   do-after es true w v f g =
-      bind-ok (After (l .number) k r x true w v) (actionsOf s (ls .numbers) (byRank (cancelledBy ls r)) (l .number) 8 (counted x k) (l .actions)) _
+      bind-ok (After (l .number) k r x true w v) (actionsOf s (ls .numbers) (byRank (cancelledBy ls r)) (l .number) maxActions (counted x k) (l .actions)) _
       (λ d q. record {
-        word = is-ok (Fair s (ls .numbers) (byRank (cancelledBy ls r)) (l .number) (counted x k)) _ d q (actions-fair s (ls .numbers) (byRank (cancelledBy ls r)) (l .number) 8 (counted x k) (l .actions)) .1;
+        word = is-ok (Fair s (ls .numbers) (byRank (cancelledBy ls r)) (l .number) (counted x k)) _ d q (actions-fair s (ls .numbers) (byRank (cancelledBy ls r)) (l .number) maxActions (counted x k) (l .actions)) .1;
         orders = gave-map (λ o. o .line ≡ l .number) _ (x .orders) (d .world .orders) (λ o e. (refl, e))
-            (is-ok (Ends s (ls .numbers) (byRank (cancelledBy ls r)) (l .number) (counted x k)) _ d q (actions-end s (ls .numbers) (byRank (cancelledBy ls r)) (l .number) 8 (counted x k) (l .actions)) .0);
+            (is-ok (Ends s (ls .numbers) (byRank (cancelledBy ls r)) (l .number) (counted x k)) _ d q (actions-end s (ls .numbers) (byRank (cancelledBy ls r)) (l .number) maxActions (counted x k) (l .actions)) .0);
         ever = λ j. rw (after-append es (map lockEntry (d .notes)) r) (notes-ever (d .notes) j (after es r) ∙ f j);
         was = λ j. rw (after-append es (map lockEntry (d .notes)) r) (notes-was (d .notes) j (after es r) ∙ g j);
       })

@@ -26,7 +26,7 @@ use Rattle.engine.specs.Action.{lockOf, takenAt, assignmentOf, commandOf, actio
 use Rattle.engine.specs.Actions.{actionsOf}
 use Rattle.engine.specs.Keyword.{tries, acts, remembers}
 use Rattle.engine.specs.Turn.{takesTurn, doTurn, tryTurn, turnOf, turnsFrom}
-use Rattle.engine.specs.Beat.{areInputs, begun, ended, beatOf, beatAnswer, beatBuffer}
+use Rattle.engine.specs.Beat.{bufferSize, areInputs, begun, ended, beatOf, beatAnswer, beatBuffer}
 use Rattle.engine.specs.NamedLine.{foundAt, found}
 use Rattle.engine.specs.Calls.{called, lockedCall, lockCall, unlockCall, cancelCall, resetCancelled, zeroed, resetState, resetCall}
 use Rattle.soundness.specs.Call.{Call, doBeat, doLock, doUnlock, doCancel, doReset}
@@ -50,7 +50,7 @@ lines =
 
 -- a beat in AUTOMATIC with this input word
 abbrev pub beat : ℕ → Call
-beat word = doBeat true word (replicate 14 (pos 0)) (replicate 2048 0)
+beat word = doBeat true word (replicate 14 (pos 0)) (replicate bufferSize 0)
 
 -- the code and the word of the lines that acted, newest first
 abbrev pub words : List Call → List (ℕ × ℕ)
@@ -66,6 +66,6 @@ pub runs :
     × (words (beat 1 ∷ doLock 1 ∷ beat 0 ∷ beat 1 ∷ doUnlock 1 ∷ beat 1 ∷ doLock 9 ∷ []) ≡ (unknownLine, 0) ∷ (0, 4) ∷ (0, 0) ∷ (0, 4) ∷ (0, 4) ∷ (0, 0) ∷ (0, 7) ∷ [])
     × (words (beat 1 ∷ beat 0 ∷ doReset ∷ beat 0 ∷ beat 1 ∷ doLock 1 ∷ doCancel 3 ∷ beat 1 ∷ doReset ∷ beat 1 ∷ []) ≡ (0, 0) ∷ (0, 0) ∷ (0, 0) ∷ (0, 0) ∷ (unknownLine, 0) ∷ (0, 4) ∷ (0, 0) ∷ (0, 0) ∷ (0, 4) ∷ (0, 7) ∷ [])
     × (words (beat 3 ∷ beat 0 ∷ doUnlock 1 ∷ beat 1 ∷ beat 0 ∷ beat 1 ∷ []) ≡ (0, 5) ∷ (0, 4) ∷ (0, 4) ∷ (0, 0) ∷ (0, 4) ∷ (0, 15) ∷ [])
-    × (words (doBeat false 1 (replicate 14 (pos 0)) (replicate 2048 0) ∷ doBeat true 1 (replicate 14 (pos 0)) [] ∷ beat 1 ∷ []) ≡ (0, 7) ∷ (shortBuffer, 0) ∷ (0, 4) ∷ [])
+    × (words (doBeat false 1 (replicate 14 (pos 0)) (replicate bufferSize 0) ∷ doBeat true 1 (replicate 14 (pos 0)) [] ∷ beat 1 ∷ []) ≡ (0, 7) ∷ (shortBuffer, 0) ∷ (0, 4) ∷ [])
 unfolding inRange valued lessThan equalTo wholeUnits outputOf grownTimer isIndex indexOf isIndexed indexAt joined more readProduct readSum readRest readExpression readVariable operandFrom readOperand sumAt expressionAt isInside cellOf variableValue lower opensTooMany wantingFault numberFault readFault joinSights sight isWritable writeFault codeFault idFault callFault countFault numberOf isRemoval assignedAt assignmentAt commandAt actionAt actionsAt lineParts bodyAt restAt lineAt joinTruths joinValues valueOver conditionValue rightValue linesFrom linesRead rankIn namesKnown allKnown namedLines soundLines powerOn grownCells inputCells beatCells allRanged isCell areCells allZero isFifoSound areFifos isFlag areFlags stateSound isSound writeCell writeInside writeTo lockOf takenAt assignmentOf commandOf actionOf actionsOf tries acts remembers takesTurn doTurn tryTurn turnOf turnsFrom areInputs begun ended beatOf beatAnswer beatBuffer foundAt found called lockedCall lockCall unlockCall cancelCall resetCancelled zeroed resetState resetCall step runFrom
 runs = (refl, refl, refl, refl, refl)

@@ -12,7 +12,7 @@ use lib.ListN.{length, getD}
 use Rattle.values.specs.Codes.{shortBuffer, wrongNumbers, unsound}
 use Rattle.values.specs.Numbers.{clash}
 use Rattle.values.specs.Choice.{either}
-use Rattle.tokens.specs.Token.{WHEN, EVERY}
+use Rattle.tokens.specs.Token.{WHEN, EVERY, maxActions}
 use Rattle.tokens.specs.Descent.{Answer, good, stop, _>>=_}
 use Rattle.working.specs.Operators.{isYes}
 use Rattle.working.specs.Working.{conditionValue}
@@ -342,8 +342,8 @@ module _ (s : List ℕ) (ls : Lines) where
     unfolding doTurn
     do-flagless es false = f
     do-flagless es true =
-        bind-ok (λ t. Flagless (t .world)) (actionsOf s (ls .numbers) (byRank (cancelledBy ls r)) (l .number) 8 (counted x k) (l .actions)) _
-        (λ d e. let h = is-ok (Noted s (ls .numbers) (byRank (cancelledBy ls r)) (l .number) (counted x k)) _ d e (actions-noted s (ls .numbers) (byRank (cancelledBy ls r)) (l .number) 8 (counted x k) (l .actions)) in
+        bind-ok (λ t. Flagless (t .world)) (actionsOf s (ls .numbers) (byRank (cancelledBy ls r)) (l .number) maxActions (counted x k) (l .actions)) _
+        (λ d e. let h = is-ok (Noted s (ls .numbers) (byRank (cancelledBy ls r)) (l .number) (counted x k)) _ d e (actions-noted s (ls .numbers) (byRank (cancelledBy ls r)) (l .number) maxActions (counted x k) (l .actions)) in
         (h .0 ∙ rw (f .0) (none-noted (d .notes)), h .1 ∙ f .1))
 
     turn-flagless : Ok (λ t. Flagless (t .world)) (turnByRule s ls l k r x)

@@ -20,7 +20,7 @@ use Rattle.working.specs.Working.{rightValue, conditionValue}
 use Rattle.checking.specs.declared.line.Line.{Line}
 use Rattle.engine.specs.declared.order.Order.{Order}
 use Rattle.engine.specs.Set.{rankIn}
-use Rattle.engine.specs.Order.{orderBytes}
+use Rattle.engine.specs.Order.{orderSize, orderBytes}
 use Rattle.engine.specs.OrderLaws.{eight-bytes}
 use Rattle.engine.specs.Action.{World, Did, fromValueOrAlarm, takenAt, assignmentOf, lockOf, commandOf, driveOf, actionOf}
 use Rattle.engine.specs.Actions.{actionsOf}
@@ -38,7 +38,7 @@ bytes-append : (os ps : List Order) → bytesOf (os ++ ps) ≡ bytesOf os ++ byt
 bytes-append [] ps = refl
 bytes-append (o ∷ os) ps = rw (bytes-append os ps) (sym (append-assoc (orderBytes o) (bytesOf os) (bytesOf ps)))
 
-pub bytes-length : (os : List Order) → length (bytesOf os) ≡ 8 * length os
+pub bytes-length : (os : List Order) → length (bytesOf os) ≡ orderSize * length os
 bytes-length [] = refl
 bytes-length (o ∷ os) = omega (arith, length-append (orderBytes o) (bytesOf os), eight-bytes o, bytes-length os)
 

@@ -16,6 +16,7 @@ use Rattle.engine.specs.Set.{noLine, emptySet, soundLines}
 use Rattle.engine.specs.State.{powerOn}
 use Rattle.engine.specs.Write.{Vars}
 use Rattle.engine.specs.Turn.{Turned, turnsFrom}
+use Rattle.engine.specs.Order.{orderSize}
 use Rattle.engine.specs.Beat.{begun, beatAnswer, beatBuffer}
 use Rattle.reader.specs.Load.{loadAnswer, loadSet}
 use Rattle.demands.specs.History.{wasTrue}
@@ -83,7 +84,7 @@ module _ (t : List ℕ) (qs : List Ask) (m : Bool) (word : ℕ) (lent : List ℤ
 
   -- each order in the buffer carries the number of a line that acted
   pub orders-from-a-load : let n = standing t qs in let x = beatAnswer (n .set) (n .since .kept) m word lent b in
-      (os : List Order) × (x .orders ≡ length os) × (beatBuffer (n .set) (n .since .kept) m word lent b ≡ bytesOf os ++ drop (8 * length os) b) × Each (OfActed (soundLines (n .set)) (x .acted)) os
+      (os : List Order) × (x .orders ≡ length os) × (beatBuffer (n .set) (n .since .kept) m word lent b ≡ bytesOf os ++ drop (orderSize * length os) b) × Each (OfActed (soundLines (n .set)) (x .acted)) os
   orders-from-a-load = rw (since-the-load t qs) (orders-of-acting-lines (loadSet (lastText t qs)) (callsSince [] qs) m word lent b)
 
   -- between two starts, a load or a reset, a WHEN line acts at most once

@@ -23,6 +23,7 @@ use Rattle.engine.specs.Sound.{isSound}
 use Rattle.engine.specs.Write.{Vars}
 use Rattle.engine.specs.Action.{World, fromValueOrAlarm}
 use Rattle.engine.specs.Turn.{Entry, beatIn, worked, locks, cancels, resets, Turned, doTurn}
+use Rattle.engine.specs.Order.{orderSize}
 use Rattle.engine.specs.Beat.{bufferSize, areInputs, beatOf, buffered, beatAnswer, beatBuffer}
 use Rattle.engine.specs.Calls.{lockCall, unlockCall, cancelCall, resetState, resetCall}
 use Rattle.soundness.specs.Call.{Call, doBeat, doLock, doUnlock, doCancel, doReset}
@@ -215,7 +216,7 @@ abbrev pub beatenByRule : Call → Answer Turned → List ℕ → Now Vars → N
 beatenByRule c (good t) b n = record {
   kept = endedBy (t .world);
   written = after (t .entries) (n .written);
-  told = (c, record { code = 0; orders = length (t .world .orders) / 8; acted = t .world .acted; buffer = buffered b (good t) }) ∷ n .told;
+  told = (c, record { code = 0; orders = length (t .world .orders) / orderSize; acted = t .world .acted; buffer = buffered b (good t) }) ∷ n .told;
 }
 beatenByRule c (stop k) b n = record { kept = n .kept; written = n .written; told = (c, record { code = k; orders = 0; acted = 0; buffer = b }) ∷ n .told }
 

@@ -8,7 +8,7 @@ use lib.Dec.{eqb}
 use lib.ListN.{getD}
 use borrow.Author.Tests.{eqb-true, lt-ltb}
 use Rattle.values.specs.Choice.{either}
-use Rattle.tokens.specs.Token.{WHEN, WHENEVER, FROM, EVERY, maxLines}
+use Rattle.tokens.specs.Token.{WHEN, WHENEVER, FROM, EVERY, maxLines, maxActions}
 use Rattle.tokens.specs.Descent.{Answer, good, stop, _>>=_}
 use Rattle.working.specs.Operators.{isYes}
 use Rattle.working.specs.Working.{conditionValue}
@@ -106,9 +106,9 @@ module _ (ls : Lines) where
     unfolding doTurn
     do-same l es false h = refl
     do-same l es true h =
-        rw (actions-dress s (ls .numbers) (byRank (cancelledBy ls r)) (l .number) 8 (byRank (lockedBy ls (after es r))) (byRank (memoryBy ls (after es r))) (counted x k) (l .actions))
-        (go (actionsOf s (ls .numbers) (byRank (cancelledBy ls r)) (l .number) 8 (counted x k) (l .actions))
-        (actions-fair s (ls .numbers) (byRank (cancelledBy ls r)) (l .number) 8 (counted x k) (l .actions)))
+        rw (actions-dress s (ls .numbers) (byRank (cancelledBy ls r)) (l .number) maxActions (byRank (lockedBy ls (after es r))) (byRank (memoryBy ls (after es r))) (counted x k) (l .actions))
+        (go (actionsOf s (ls .numbers) (byRank (cancelledBy ls r)) (l .number) maxActions (counted x k) (l .actions))
+        (actions-fair s (ls .numbers) (byRank (cancelledBy ls r)) (l .number) maxActions (counted x k) (l .actions)))
       where
         end : Did → Answer Turned
         end d = good (record { world = d .world; entries = es ++ map lockEntry (d .notes) })
@@ -124,7 +124,7 @@ module _ (ls : Lines) where
     unfolding doTurn
     do-quiet l es false h m = (h, m)
     do-quiet l es true h m =
-        bind-ok (Quiet r) (actionsOf s (ls .numbers) (byRank (cancelledBy ls r)) (l .number) 8 (counted x k) (l .actions)) _
+        bind-ok (Quiet r) (actionsOf s (ls .numbers) (byRank (cancelledBy ls r)) (l .number) maxActions (counted x k) (l .actions)) _
         (λ d q. rw (after-append es (map lockEntry (d .notes)) r) (notes-cancelled (d .notes) (after es r) ∙ h, notes-mode (d .notes) (after es r) ∙ m))
 
     -- a line that is not cancelled

@@ -18,6 +18,7 @@ use Rattle.engine.specs.Set.{noLine, soundLines}
 use Rattle.engine.specs.Write.{Vars}
 use Rattle.engine.specs.Action.{World}
 use Rattle.engine.specs.Turn.{beatIn, Turned, takesTurn, turnOf, turnsFrom}
+use Rattle.engine.specs.Order.{orderSize}
 use Rattle.engine.specs.Beat.{begun, beatOf, answered, buffered, beatAnswer, beatBuffer}
 use Rattle.soundness.specs.Call.{Call}
 use Rattle.soundness.specs.CallCodes.{ended-well}
@@ -139,7 +140,7 @@ module _ (s : List ℕ) (cs : List Call) (m : Bool) (word : ℕ) (lent : List �
   -- EACH ORDER IN THE BUFFER CARRIES THE NUMBER OF A LINE WHOSE BIT IS SET: the buffer begins with the bytes of some orders, as many as the answer says, and the bytes behind them stay
   pub orders-of-acting-lines :
       let x = beatAnswer s (run s cs .kept) m word lent b in
-      (os : List Order) × (x .orders ≡ length os) × (beatBuffer s (run s cs .kept) m word lent b ≡ bytesOf os ++ drop (8 * length os) b) × Each (OfActed (soundLines s) (x .acted)) os
+      (os : List Order) × (x .orders ≡ length os) × (beatBuffer s (run s cs .kept) m word lent b ≡ bytesOf os ++ drop (orderSize * length os) b) × Each (OfActed (soundLines s) (x .acted)) os
   unfolding beatAnswer beatBuffer
   orders-of-acting-lines = go (beatOf s (run s cs .kept) m word lent (length b)) orders
     where
@@ -148,8 +149,8 @@ module _ (s : List ℕ) (cs : List Call) (m : Bool) (word : ℕ) (lent : List �
 
       go : (a : Answer Turned) → ((t : Turned) → a ≡ good t → Gave (OfActed (soundLines s) (t .world .acted)) [] (t .world .orders)) →
           let x = answered (run s cs .kept) a in
-          (os : List Order) × (x .orders ≡ length os) × (buffered b a ≡ bytesOf os ++ drop (8 * length os) b) × Each (OfActed (soundLines s) (x .acted)) os
+          (os : List Order) × (x .orders ≡ length os) × (buffered b a ≡ bytesOf os ++ drop (orderSize * length os) b) × Each (OfActed (soundLines s) (x .acted)) os
       go (good t) f =
-          let g = f t refl in let n : length (t .world .orders) ≡ 8 * length (g .given) = ap length (g .bytes) ∙ bytes-length (g .given) in
+          let g = f t refl in let n : length (t .world .orders) ≡ orderSize * length (g .given) = ap length (g .bytes) ∙ bytes-length (g .given) in
           (g .given, rw n (omega arith), ap (λ xs. xs ++ drop (length (t .world .orders)) b) (g .bytes) ∙ ap (λ k. bytesOf (g .given) ++ drop k b) n, g .such)
       go (stop c) f = ([], refl, refl, tt)

@@ -10,7 +10,7 @@ use lib.ListN.{length}
 use borrow.Author.Tests.{ne-eqb}
 use Rattle.values.specs.Codes.{confused, outside, readOnly, mAlone, tooManyActions}
 use Rattle.values.specs.Choice.{both, decide}
-use Rattle.tokens.specs.Token.{between, IM, isFifo, thousandths, axisOf, EVERY, SETAL, WHEN}
+use Rattle.tokens.specs.Token.{between, IM, isFifo, thousandths, axisOf, EVERY, SETAL, WHEN, maxActions}
 use Rattle.values.specs.Value.{top}
 use Rattle.tokens.specs.Index.{isInside}
 use Rattle.tokens.proofs.SingleFaultLaws.{none-first}
@@ -181,4 +181,4 @@ condition-proper (under w v e) = wanted-proper true (expressionMeaning sight e) 
 -- the fault of a line as a tree is one of 6 to 10, or none
 pub line-proper : (l : Line) → Proper (lineFault l)
 unfolding lineFault countFault
-line-proper (line w v n c a r) = lower-proper _ _ (lower-proper _ _ (id-proper n) (condition-proper c)) (lower-proper _ _ (actions-proper (keywordOf c) r a) (unless-proper (leb (suc (length r)) 8) tooManyActions tt))
+line-proper (line w v n c a r) = lower-proper _ _ (lower-proper _ _ (id-proper n) (condition-proper c)) (lower-proper _ _ (actions-proper (keywordOf c) r a) (unless-proper (leb (suc (length r)) maxActions) tooManyActions tt))

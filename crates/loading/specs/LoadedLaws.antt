@@ -7,7 +7,7 @@ use native.Mathlib.Decide.{decLt}
 use native.Mathlib.Omega.{arith}
 use lib.ListN.{length, getD, replicate, length-replicate, List·getD-eq-default, getD-replicate}
 use borrow.Author.Tests.{ltb-true}
-use Rattle.tokens.specs.Token.{setSize, maxLines}
+use Rattle.tokens.specs.Token.{setSize, maxLines, textSize}
 use Rattle.engine.specs.declared.set.Lines.{Lines}
 use Rattle.engine.specs.Set.{rankIn, isKnown, soundLines}
 use Rattle.soundness.specs.SetSoundLaws.{rank-number}
@@ -31,7 +31,7 @@ module _ (t : List ℕ) (rs : List Row) (h : outcome t ≡ taken rs) where
   pub rows-apart : Apart rs × (length rs ≤ maxLines)
   rows-apart = let k = taking t rs h in let f = k .few in taken-apart (tokenLines t) [] rs tt (omega arith) (k .rows)
 
-  pub rows-room : total rs ≤ 4097
+  pub rows-room : total rs ≤ textSize + 1
   rows-room = let k = taking t rs h in taken-room t rs (k .short) (k .rows)
 
   abbrev few : length rs ≤ maxLines

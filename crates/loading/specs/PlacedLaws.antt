@@ -5,7 +5,7 @@ use Prim.Native.Nat.{ℕ, zero, suc, _+_, _≤_, _<_}
 use native.Mathlib.Omega.{arith}
 use lib.ListN.{length, getD, set, length-set, length-append, length-map}
 use lib.Seq.{getD-set-same, getD-set-other}
-use Rattle.tokens.specs.Token.{END, setSize, maxLines}
+use Rattle.tokens.specs.Token.{END, setSize, maxLines, textSize}
 use Rattle.grammar.specs.Meaning.{Stands}
 use Rattle.engine.specs.Set.{emptySet, firstPlace, startPlace, startOf, lineCount, withoutMark, withEnd, withLine}
 use Rattle.loading.specs.PlaceLaws.{stands-same}
@@ -108,6 +108,6 @@ unfolding setOf
 set-count rs = let e = empty-length in let n = placed-count rs 0 firstPlace emptySet (omega arith) (omega arith) empty-count in omega arith
 
 -- and each of them, by its rank, if there is room for their tokens
-pub set-laid : (rs : List Row) → length rs ≤ maxLines → total rs ≤ 4097 → Laid (setOf rs) rs 0
+pub set-laid : (rs : List Row) → length rs ≤ maxLines → total rs ≤ textSize + 1 → Laid (setOf rs) rs 0
 unfolding setOf
 set-laid rs few room = let e = empty-length in placed-laid rs 0 firstPlace emptySet (omega arith) (omega arith) (omega arith)

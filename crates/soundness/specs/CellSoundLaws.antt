@@ -17,6 +17,7 @@ use Rattle.values.specs.TimeLaws.{Timed}
 use Rattle.values.specs.Fifo.{places, Unused}
 use Rattle.values.specs.FifoLaws.{PlacesRanged, set-each, same-each, zero-in-range}
 use Rattle.values.specs.Numbers.{clash}
+use Rattle.tokens.specs.Token.{maxLines}
 use Rattle.working.specs.Variables.{asCount}
 use Rattle.engine.specs.declared.state.State.{State}
 use Rattle.engine.specs.Set.{soundLines}
@@ -162,7 +163,7 @@ each-fifo r c k h = each-zero (drop (fifoCount c k) (fifoRun r k)) (λ i. getD-d
 
 -- cancelled lines without lock or memory, nothing for a rank that the set does not have
 abbrev pub FlagsRight : ℕ → List Bool → List Bool → List Bool → Type 0
-FlagsRight count locked cancelled memory = (k : ℕ) → k < 32 → isFlag count k (getD locked k false) (getD cancelled k false) (getD memory k false) ≡ true
+FlagsRight count locked cancelled memory = (k : ℕ) → k < maxLines → isFlag count k (getD locked k false) (getD cancelled k false) (getD memory k false) ≡ true
 
 flags-from : (count : ℕ) (a b c : List Bool) (m j : ℕ) → areFlags count a b c m j ≡ true → (i k : ℕ) → i < m → k ≡ j + i → isFlag count k (getD a k false) (getD b k false) (getD c k false) ≡ true
 unfolding areFlags
@@ -176,12 +177,12 @@ from-flags count a b c zero j h = refl
 from-flags count a b c (suc m) j h = and-true (h j (omega arith) (omega arith)) (from-flags count a b c m (j + 1) (λ k l n. h k (omega arith) (omega arith)))
 
 -- the test says it of every rank
-pub flags-each : (count : ℕ) (a b c : List Bool) → areFlags count a b c 32 0 ≡ true → FlagsRight count a b c
-flags-each count a b c h k l = flags-from count a b c 32 0 h k k l (omega arith)
+pub flags-each : (count : ℕ) (a b c : List Bool) → areFlags count a b c maxLines 0 ≡ true → FlagsRight count a b c
+flags-each count a b c h k l = flags-from count a b c maxLines 0 h k k l (omega arith)
 
 -- and every rank makes the test true
-pub each-flags : (count : ℕ) (a b c : List Bool) → FlagsRight count a b c → areFlags count a b c 32 0 ≡ true
-each-flags count a b c h = from-flags count a b c 32 0 (λ k l m. h k (omega arith))
+pub each-flags : (count : ℕ) (a b c : List Bool) → FlagsRight count a b c → areFlags count a b c maxLines 0 ≡ true
+each-flags count a b c h = from-flags count a b c maxLines 0 (λ k l m. h k (omega arith))
 
 -- ---- a sound state
 
@@ -294,7 +295,7 @@ flag-beyond count k a b c l h = let e = rw (le-ltb k count l) at h in by-flags a
 pub power-on-sound : (n : ℕ) → stateSound n powerOn ≡ true
 unfolding stateSound powerOn allRanged areCells areFifos isFifoSound allZero isCell inRange outputOf wholeUnits equalTo lessThan
 power-on-sound n =
-    each-flags n (replicate 32 false) (replicate 32 false) (replicate 32 false) (λ k l. rw (same-each 32 k false) (flag-none n k))
+    each-flags n (replicate maxLines false) (replicate maxLines false) (replicate maxLines false) (λ k l. rw (same-each maxLines k false) (flag-none n k))
 
 -- so it is sound for every sound set
 pub power-on : (s : List ℕ) → soundLines s .sound ≡ true → isSound s powerOn ≡ true

@@ -10,7 +10,7 @@ use borrow.Author.Tests.{eqb-true, leb-true}
 use Rattle.values.specs.Codes.{tooManyActions}
 use Rattle.values.specs.Choice.{either, ifNot, both}
 use Rattle.values.specs.Numbers.{clash}
-use Rattle.tokens.specs.Token.{END, EQUALS, DO, ID, IDS, WHEN, EVERY, isNumber, isKeyword, isId, isWhole, setSize}
+use Rattle.tokens.specs.Token.{END, EQUALS, DO, ID, IDS, WHEN, EVERY, isNumber, isKeyword, isId, isWhole, setSize, maxActions}
 use Rattle.tokens.specs.Descent.{token, good, _>>=_, Read, read, ends, then, expressionAt}
 use Rattle.tokens.specs.SingleFault.{lower, opensTooMany}
 use Rattle.checking.specs.Fault.{sight, faultFor, countFault, actionAt, actionsAt, faultyLine, lineParts, bodyAt, restAt, lineAt}
@@ -37,11 +37,11 @@ module _ (s : List ℕ) (kw k : ℕ) where
 
   -- actions without a fault had none before them, and were fewer than eight
   abbrev Before : ℕ → ℕ → Type 0
-  Before n f = (f ≡ 0) × (n < 8)
+  Before n f = (f ≡ 0) × (n < maxActions)
 
-  few-before : (n : ℕ) → countFault (n + 1) ≡ 0 → n < 8
+  few-before : (n : ℕ) → countFault (n + 1) ≡ 0 → n < maxActions
   unfolding countFault
-  few-before n e = let l = leb-true (n + 1) 8 (unless-zero (leb (n + 1) 8) tooManyActions e (omega arith)) in omega arith
+  few-before n e = let l = leb-true (n + 1) maxActions (unless-zero (leb (n + 1) maxActions) tooManyActions e (omega arith)) in omega arith
 
   after-clear : (m n f g q : ℕ) → (Clear (actionsAt s kw k m (n + 1) (lower f g) q) → Before (n + 1) (lower f g)) → Clear (afterAction m n f g q) → Before n (lower f g)
   after-clear m n f g q rest =
@@ -67,7 +67,7 @@ module _ (s : List ℕ) (sound : soundLines s .sound ≡ true) (size : length s 
   DidFine d = WorldSound (soundLines s .count) cancelled (d .world)
 
   -- actions that the check found without a fault keep the beat under way sound
-  pub actions-keep : (j m n f : ℕ) (x : World) (p : ℕ) → j + n ≡ 8 → WorldSound (soundLines s .count) cancelled x → Passed s start p → Clear (actionsAt s kw setSize m n f p) →
+  pub actions-keep : (j m n f : ℕ) (x : World) (p : ℕ) → j + n ≡ maxActions → WorldSound (soundLines s .count) cancelled x → Passed s start p → Clear (actionsAt s kw setSize m n f p) →
       Holds DidFine (actionsOf s (soundLines s .numbers) cancelled number j x p)
   unfolding actionsOf actionsAt
   actions-keep zero m n f x p t h k c = absurd (omega (arith, first-clear s kw setSize m n f p c .1))

@@ -17,7 +17,7 @@ use Rattle.values.specs.Time.{timer}
 use Rattle.values.specs.TimeLaws.{grown-keeps}
 use Rattle.values.specs.FifoLaws.{PlacesRanged, zero-in-range, InRange}
 use Rattle.values.specs.Numbers.{clash}
-use Rattle.tokens.specs.Token.{WHEN, WHENEVER, FROM, EVERY, isKeyword, setSize}
+use Rattle.tokens.specs.Token.{WHEN, WHENEVER, FROM, EVERY, isKeyword, setSize, maxActions}
 use Rattle.tokens.specs.Descent.{Answer, good, stop}
 use Rattle.working.specs.Operators.{isYes}
 use Rattle.working.specs.Working.{conditionValue}
@@ -81,9 +81,9 @@ module _ (s : List ℕ) (sound : soundLines s .sound ≡ true) (size : length s 
     unfolding doTurn
     done-fine x es false h = h
     done-fine x es true h =
-        holds-then (λ (d : Did). Fine (d .world)) TurnFine (actionsOf s numbers cancelled (lineOf s k .number) 8 (counted x k) (lineOf s k .actions)) _
+        holds-then (λ (d : Did). Fine (d .world)) TurnFine (actionsOf s numbers cancelled (lineOf s k .number) maxActions (counted x k) (lineOf s k .actions)) _
         (actions-keep s sound size cancelled (lineOf s k .number) (lineOf s k .keyword) (getD s (1 + k) 0) (lines-known s sound k inside)
-        8 setSize 0 0 (counted x k) (lineOf s k .actions) refl (record { vars = h .vars; flags = h .flags }) (clear .passed) (clear .actions))
+        maxActions setSize 0 0 (counted x k) (lineOf s k .actions) refl (record { vars = h .vars; flags = h .flags }) (clear .passed) (clear .actions))
         (λ d e. e)
 
     turn-fine : (x : World) → Fine x → Holds TurnFine (turnOf s numbers cancelled automatic (lineOf s k) k x)

@@ -13,7 +13,7 @@ use Rattle.values.specs.Codes.{zeroDivisor}
 use Rattle.values.specs.Complement.{twosComplement}
 use Rattle.values.specs.Value.{inRange, valued, sumOf, differenceOf, productOf, quotientOf, lessThan, equalTo, wholeUnits}
 use Rattle.values.specs.Fifo.{fits, appendAnswer, appended, shifted, removeAnswer, removed, countOf}
-use Rattle.tokens.specs.Token.{SAME, ATLEAST, MORE, MINUS, PLUS, TIMES, OVER, ID, IDS, WHEN, WHENEVER, EVERY, IN, MARKER, R, FIFO1, POS, LOCK, UNLOCK, X}
+use Rattle.tokens.specs.Token.{SAME, ATLEAST, MORE, MINUS, PLUS, TIMES, OVER, ID, IDS, WHEN, WHENEVER, EVERY, IN, MARKER, R, FIFO1, POS, LOCK, UNLOCK, X, maxLines}
 use Rattle.tokens.specs.Descent.{Answer, good, stop, _>>=_}
 use Rattle.tokens.specs.Index.{isInside}
 use Rattle.working.specs.Variables.{cellOf, countAt, fifoValue, fifoAt, variableValue}
@@ -98,7 +98,7 @@ turnCases =
     ∷ []
 
 abbrev pub outcomeOf : Case → Answer Shown
-outcomeOf c = turnsTree (namesOf fourLines (replicate 32 false)) (c .automatic) fourLines 0 (begun powerOn (c .inputs) (replicate 14 (pos 0))) >>= shown
+outcomeOf c = turnsTree (namesOf fourLines (replicate maxLines false)) (c .automatic) fourLines 0 (begun powerOn (c .inputs) (replicate 14 (pos 0))) >>= shown
 
 abbrev pub expected : Case → Answer Shown
 expected c = c .outcome
