@@ -6,10 +6,9 @@ use mathlib.Core.List.{List, [], _∷_, _++_}
 use Prim.Native.Nat.{ℕ}
 use Rattle.engine.specs.declared.state.State.{State}
 use Rattle.engine.specs.State.{powerOn}
-use Rattle.engine.specs.Write.{Vars}
 use Rattle.reader.specs.Load.{loadAnswer, loadSet}
 use Rattle.soundness.specs.Call.{Call}
-use Rattle.demands.specs.Run.{Now, step, variablesOf, stepByRule}
+use Rattle.demands.specs.Run.{Now, step, Rest, restOf, stepByRule}
 
 -- a load of a text, or a call over the set that was loaded last
 pub data Ask : Type 0 where
@@ -41,20 +40,20 @@ askAll (q ∷ qs) n = askAll qs (ask q n)
 abbrev pub standing : List ℕ → List Ask → Standing State
 standing t qs = askAll qs (newlyLoaded t)
 
--- ---- the control that keeps no flags: it has the variables of power-on and an empty history after each load
+-- ---- the control that keeps no flags: after each load it has the rest of power-on and an empty history
 
-abbrev pub newlyLoadedByRule : List ℕ → Standing Vars
-newlyLoadedByRule t = record { set = loadSet t; code = loadAnswer t .code; line = loadAnswer t .line; since = record { kept = variablesOf powerOn; written = []; told = [] } }
+abbrev pub newlyLoadedByRule : List ℕ → Standing Rest
+newlyLoadedByRule t = record { set = loadSet t; code = loadAnswer t .code; line = loadAnswer t .line; since = record { kept = restOf powerOn; written = []; told = [] } }
 
-abbrev pub askByRule : Ask → Standing Vars → Standing Vars
+abbrev pub askByRule : Ask → Standing Rest → Standing Rest
 askByRule (doLoad t) n = newlyLoadedByRule t
 askByRule (doCall c) n = record { set = n .set; code = n .code; line = n .line; since = stepByRule (n .set) c (n .since) }
 
-unfoldable pub askAllByRule : List Ask → Standing Vars → Standing Vars
+unfoldable pub askAllByRule : List Ask → Standing Rest → Standing Rest
 askAllByRule [] n = n
 askAllByRule (q ∷ qs) n = askAllByRule qs (askByRule q n)
 
-abbrev pub standingByRule : List ℕ → List Ask → Standing Vars
+abbrev pub standingByRule : List ℕ → List Ask → Standing Rest
 standingByRule t qs = askAllByRule qs (newlyLoadedByRule t)
 
 -- ---- looking back

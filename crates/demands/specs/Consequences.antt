@@ -23,7 +23,6 @@ use Rattle.engine.specs.declared.named_line.Found.{Found}
 use Rattle.engine.specs.declared.calls.Called.{Called}
 use Rattle.engine.specs.Set.{noLine, soundLines}
 use Rattle.engine.specs.Sound.{isSound}
-use Rattle.engine.specs.Write.{Vars}
 use Rattle.engine.specs.Action.{World, Note, Did, fromValueOrAlarm}
 use Rattle.engine.specs.Actions.{actionsOf}
 use Rattle.engine.specs.Turn.{Entry, beatIn, worked, locks, cancels, resets, Turned, counted, takesTurn, doTurn, turnOf, turnsFrom}
@@ -33,7 +32,7 @@ use Rattle.engine.specs.Calls.{withLocked, called, lockedCall, lockCall, unlock
 use Rattle.engine.specs.SetCountLaws.{sound-count}
 use Rattle.demands.specs.History.{History, after, isAutomatic, everTrue, wasTrue, takesByRule, triesByRule, actsByRule}
 use Rattle.soundness.specs.Call.{Call, doBeat, doLock, doUnlock, doCancel, doReset}
-use Rattle.demands.specs.Run.{Now, coded, noted, rankOf, codeByRule, cleared, run, stateBy, begunBy, byRank, cancelledBy, tryByRule, turnByRule, turnsByRule, beatByRule, stepByRule, resetByRule, runByRuleFrom, runByRule, beatenByRule}
+use Rattle.demands.specs.Run.{Now, coded, noted, rankOf, codeByRule, cleared, run, Rest, stateBy, begunBy, byRank, cancelledBy, tryByRule, turnByRule, turnsByRule, beatByRule, stepByRule, resetByRule, runByRuleFrom, runByRule, beatenByRule}
 use Rattle.demands.specs.Acts.{isActed, conditionNow, triesNow, actsNow, actedSince}
 use Rattle.tokens.specs.AnswerLaws.{Ok, is-ok, bind-ok}
 use Rattle.demands.specs.ActionRuleLaws.{noteAll, Noted, actions-noted}
@@ -43,7 +42,7 @@ use Rattle.demands.specs.Demand3.{beat-same, demand-3}
 
 -- ---- a beat that ended well, by the rule
 
-module _ (s : List ℕ) (v : Vars) (r : History) (m : Bool) (word : ℕ) (lent : List ℤ) (size : ℕ) where
+module _ (s : List ℕ) (v : Rest) (r : History) (m : Bool) (word : ℕ) (lent : List ℤ) (size : ℕ) where
   -- it is its mode and the turns of all the lines
   pub beat-turns : (t : Turned) → beatByRule s v r m word lent size ≡ good t →
       (u : Turned) × (turnsByRule s (soundLines s) (soundLines s .count) 0 (beatIn m ∷ r) (begunBy v word lent) ≡ good u) × (t ≡ record { world = u .world; entries = beatIn m ∷ u .entries })
@@ -64,7 +63,7 @@ module _ (s : List ℕ) (v : Vars) (r : History) (m : Bool) (word : ℕ) (lent :
   -- what it did for the line of rank k
   beat-done : (t : Turned) (k : ℕ) → k < soundLines s .count → beatByRule s v r m word lent size ≡ good t →
       (u : Turned) × Done s (soundLines s) k (beatIn m ∷ r) (begunBy v word lent) u × (t ≡ record { world = u .world; entries = beatIn m ∷ u .entries })
-  unfolding begunBy
+  unfolding begunBy begun
   beat-done t k h e =
       let u = beat-turns t e in
       (u .0, done s (soundLines s) (soundLines s .count) k (beatIn m ∷ r) (begunBy v word lent) (u .0) h refl (u .1), u .2)
@@ -103,7 +102,7 @@ module _ (s : List ℕ) (k : ℕ) (h : k < soundLines s .count) (r : History) (x
       turnOf s (soundLines s .numbers) cancelled m line k (flagged (soundLines s) r x) ≡ good (record { world = flagged (soundLines s) (after (t .entries) r) (t .world); entries = t .entries })
   turn-said t e = rw (← p, ← q) (turn-same (soundLines s) s k r x (omega (arith, sound-count s)) h ∙ rw e)
 
-module _ (s : List ℕ) (v : Vars) (r : History) (m : Bool) (word : ℕ) (lent : List ℤ) (size : ℕ) (t : Turned) where
+module _ (s : List ℕ) (v : Rest) (r : History) (m : Bool) (word : ℕ) (lent : List ℤ) (size : ℕ) (t : Turned) where
   -- the beat of the engine is the beat by the rule, in flags
   pub unflagged : beatOf s (stateBy (soundLines s) v r) m word lent size ≡ good t →
       (u : Turned) × (beatByRule s v r m word lent size ≡ good u) × (t .world .acted ≡ u .world .acted) × (t .entries ≡ u .entries) × (t .world .orders ≡ u .world .orders)
@@ -174,18 +173,18 @@ or-right true b e = refl
 or-right false b e = e
 
 module _ (s : List ℕ) (k : ℕ) (h : k < soundLines s .count) (w : getD (soundLines s .items) k noLine .keyword ≡ WHEN) where
-  abbrev Once : Now Vars → Type 0
+  abbrev Once : Now Rest → Type 0
   Once n = actedSince k (n .told) ≡ true → everTrue k (n .written) ≡ true
 
-  noted-ever : (c : ℕ) (e : Entry) (r : History) → everTrue k (e ∷ r) ≡ everTrue k r → everTrue k (noted c e r) ≡ everTrue k r
-  noted-ever c e r p = go (eqb c 0)
+  noted-ever : (c : ℕ) (es : List Entry) (r : History) → everTrue k (after es r) ≡ everTrue k r → everTrue k (noted c es r) ≡ everTrue k r
+  noted-ever c es r p = go (eqb c 0)
     where
-      go : (b : Bool) → let x : History = elim b [ true ↦ e ∷ r | false ↦ r ] in everTrue k x ≡ everTrue k r
+      go : (b : Bool) → let x : History = elim b [ true ↦ after es r | false ↦ r ] in everTrue k x ≡ everTrue k r
       go true = p
       go false = refl
 
   -- a beat that ended well
-  once-good : (m : Bool) (word : ℕ) (lent : List ℤ) (n : Now Vars) (t u : Turned) → Done s (soundLines s) k (beatIn m ∷ n .written) (begunBy (n .kept) word lent) u →
+  once-good : (m : Bool) (word : ℕ) (lent : List ℤ) (n : Now Rest) (t u : Turned) → Done s (soundLines s) k (beatIn m ∷ n .written) (begunBy (n .kept) word lent) u →
       t ≡ record { world = u .world; entries = beatIn m ∷ u .entries } → Once n → isActed (t .world .acted) k || actedSince k (n .told) ≡ true → everTrue k (after (t .entries) (n .written)) ≡ true
   once-good m word lent n t u d q f g =
       ap (λ y. everTrue k (after (y .entries) (n .written))) q ∙ d .ever ∙ go (isActed (t .world .acted) k) (ap (λ y. isActed (y .world .acted) k) q ∙ d .acted) g
@@ -205,7 +204,7 @@ module _ (s : List ℕ) (k : ℕ) (h : k < soundLines s .count) (w : getD (sound
           rw (fresh (takesByRule line k r) (triesByRule (line .keyword) k r) c (everTrue k r) z .0)
       go false p e = or-right (triesNow line k r && c) (everTrue k (n .written)) (f e)
 
-  once-beat : (m : Bool) (word : ℕ) (lent : List ℤ) (b : List ℕ) (n : Now Vars) → Once n → Once (stepByRule s (doBeat m word lent b) n)
+  once-beat : (m : Bool) (word : ℕ) (lent : List ℤ) (b : List ℕ) (n : Now Rest) → Once n → Once (stepByRule s (doBeat m word lent b) n)
   unfolding stepByRule
   once-beat m word lent b n f = go (beatByRule s (n .kept) (n .written) m word lent (length b)) refl
     where
@@ -213,26 +212,26 @@ module _ (s : List ℕ) (k : ℕ) (h : k < soundLines s .count) (w : getD (sound
       go (good t) e g = let d = beat-done s (n .kept) (n .written) m word lent (length b) t k h e in once-good m word lent n t (d .0) (d .1) (d .2) f g
       go (stop c) e g = f (or-either (isActed 0 k) (actedSince k (n .told)) g (no-bit k))
 
-  once-reset : (n : Now Vars) → Once n → Once (resetByRule s n)
+  once-reset : (n : Now Rest) → Once n → Once (resetByRule s n)
   unfolding resetByRule
   once-reset n f = go (isSound s (stateBy (soundLines s) (n .kept) (n .written)))
     where
-      go : (a : Bool) → let x : Now Vars = elim a [
+      go : (a : Bool) → let x : Now Rest = elim a [
         | true ↦ record { kept = cleared (n .kept) (soundLines s) (n .written); written = resets ∷ n .written; told = (doReset, coded 0) ∷ n .told }
         | false ↦ record { kept = n .kept; written = n .written; told = (doReset, coded 22) ∷ n .told }
       ] in Once x
       go true g = g
       go false g = f g
 
-  once-step : (c : Call) (n : Now Vars) → Once n → Once (stepByRule s c n)
+  once-step : (c : Call) (n : Now Rest) → Once n → Once (stepByRule s c n)
   unfolding stepByRule
   once-step (doBeat m word lent b) n f = once-beat m word lent b n f
-  once-step (doLock i) n f = λ g. noted-ever (codeByRule s (n .kept) (n .written) i) (locks (rankOf s i) true) (n .written) refl ∙ f g
-  once-step (doUnlock i) n f = λ g. noted-ever (codeByRule s (n .kept) (n .written) i) (locks (rankOf s i) false) (n .written) refl ∙ f g
-  once-step (doCancel i) n f = λ g. noted-ever (codeByRule s (n .kept) (n .written) i) (cancels (rankOf s i)) (n .written) refl ∙ f g
+  once-step (doLock i) n f = λ g. noted-ever (codeByRule s (n .kept) (n .written) i) (locks (rankOf s i) true ∷ []) (n .written) refl ∙ f g
+  once-step (doUnlock i) n f = λ g. noted-ever (codeByRule s (n .kept) (n .written) i) (locks (rankOf s i) false ∷ []) (n .written) refl ∙ f g
+  once-step (doCancel i) n f = λ g. noted-ever (codeByRule s (n .kept) (n .written) i) (cancels (rankOf s i) ∷ []) (n .written) refl ∙ f g
   once-step doReset n f = once-reset n f
 
-  once-run : (cs : List Call) (n : Now Vars) → Once n → Once (runByRuleFrom s cs n)
+  once-run : (cs : List Call) (n : Now Rest) → Once n → Once (runByRuleFrom s cs n)
   unfolding runByRuleFrom
   once-run [] n f = f
   once-run (c ∷ cs) n f = once-run cs (stepByRule s c n) (once-step c n f)
@@ -243,8 +242,8 @@ module _ (s : List ℕ) (k : ℕ) (h : k < soundLines s .count) (w : getD (sound
 
 -- ---- tests
 
-begun-none : (v : Vars) (word : ℕ) (lent : List ℤ) → begunBy v word lent .acted ≡ 0
-unfolding begunBy
+begun-none : (v : Rest) (word : ℕ) (lent : List ℤ) → begunBy v word lent .acted ≡ 0
+unfolding begunBy begun
 begun-none v word lent = refl
 
 not-yet : (a m : Bool) → (a ≡ true → m ≡ true) → m ≡ false → a ≡ false

@@ -19,7 +19,6 @@ use Rattle.engine.specs.declared.calls.Called.{Called}
 use Rattle.engine.specs.Set.{noLine, soundLines}
 use Rattle.engine.specs.State.{powerOn}
 use Rattle.engine.specs.Sound.{isSound}
-use Rattle.engine.specs.Write.{Vars}
 use Rattle.engine.specs.Turn.{Entry, beatIn, locks, cancels, resets, Turned}
 use Rattle.engine.specs.Beat.{bufferSize, areInputs, begun, ended, beatOf, answered, buffered, beatAnswer, beatBuffer}
 use Rattle.engine.specs.NamedLine.{foundAt, found}
@@ -27,7 +26,7 @@ use Rattle.engine.specs.Calls.{withLocked, withCancelled, called, lockedCall, l
 use Rattle.engine.specs.SetCountLaws.{sound-count}
 use Rattle.demands.specs.History.{History, after, isCancelled, isLocked}
 use Rattle.soundness.specs.Call.{Call, doBeat, doLock, doUnlock, doCancel, doReset}
-use Rattle.demands.specs.Run.{Now, coded, entriesOf, rankOf, hosted, beaten, step, runFrom, run, byRank, cancelledBy, lockedBy, remembersBy, memoryBy, variablesOf, stateBy, begunBy, endedBy, turnsByRule, beatByRule, codeByRule, hostedByRule, beatenByRule, cleared, resetByRule, stepByRule, runByRuleFrom, runByRule}
+use Rattle.demands.specs.Run.{Now, coded, entriesOf, rankOf, hosted, beaten, step, runFrom, run, byRank, cancelledBy, lockedBy, remembersBy, memoryBy, Rest, restOf, withRest, stateBy, begunBy, endedBy, turnsByRule, beatByRule, codeByRule, hostedByRule, beatenByRule, cleared, resetByRule, stepByRule, runByRuleFrom, runByRule}
 use Rattle.demands.specs.FlagLaws.{byRank-at, lock-locked, cancel-cancelled, cancel-locked, cancel-memory, reset-locked, reset-cancelled, reset-memory, new-locked, new-cancelled, new-memory}
 use Rattle.tokens.specs.AnswerLaws.{Ok, is-ok, bind-ok}
 use Rattle.tokens.specs.ChooseLaws.{choose}
@@ -35,7 +34,7 @@ use Rattle.demands.specs.TurnRuleLaws.{flaggedTurn, turns-same, turns-qu
 
 -- ---- a beat
 
-module _ (s : List ℕ) (v : Vars) (r : History) (m : Bool) (word : ℕ) (lent : List ℤ) (size : ℕ) where
+module _ (s : List ℕ) (v : Rest) (r : History) (m : Bool) (word : ℕ) (lent : List ℤ) (size : ℕ) where
   begins : Turned → Answer Turned
   begins t = good (record { world = t .world; entries = beatIn m ∷ t .entries })
 
@@ -67,18 +66,15 @@ module _ (s : List ℕ) (v : Vars) (r : History) (m : Bool) (word : ℕ) (lent :
 
 -- ---- states by their flags
 
-abbrev stateIn : Vars → List Bool → List Bool → List Bool → State
-stateIn v l c m = record { r = v .r; cells = v .cells; runs = v .runs; locked = l; cancelled = c; memory = m }
-
-in-flags : (v : Vars) {l k c d m o : List Bool} → l ≡ k → c ≡ d → m ≡ o → stateIn v l c m ≡ stateIn v k d o
+in-flags : (v : Rest) {l k c d m o : List Bool} → l ≡ k → c ≡ d → m ≡ o → withRest v l c m ≡ withRest v k d o
 in-flags v p q h = cc
 
 -- ---- where the control stands that keeps no flags, with the flags that its history gives
 
-abbrev pub withFlags : List ℕ → Now Vars → Now State
+abbrev pub withFlags : List ℕ → Now Rest → Now State
 withFlags s n = record { kept = stateBy (soundLines s) (n .kept) (n .written); written = n .written; told = n .told }
 
-module _ (s : List ℕ) (n : Now Vars) where
+module _ (s : List ℕ) (n : Now Rest) where
   step-beat : (m : Bool) (word : ℕ) (lent : List ℤ) (b : List ℕ) → step s (doBeat m word lent b) (withFlags s n) ≡ withFlags s (stepByRule s (doBeat m word lent b) n)
   unfolding step stepByRule beatAnswer beatBuffer stateBy ended endedBy
   step-beat m word lent b =
@@ -104,13 +100,13 @@ module _ (s : List ℕ) (n : Now Vars) where
   abbrev codeBy : Bool → Bool → Bool → ℕ
   codeBy a b c = elim a [ true ↦ elim b [ true ↦ elim c [ true ↦ unknownLine | false ↦ 0 ] | false ↦ unknownLine ] | false ↦ unsound ]
 
-  host-same : (x : Call) (e : Entry) (change : ℕ → State) (number : ℕ) →
+  host-same : (x : Call) (es : List Entry) (change : ℕ → State) (number : ℕ) →
       (rankOf s number < maxLines → ltb (rankOf s number) (soundLines s .count) ≡ true → cancelledBy (soundLines s) (n .written) (rankOf s number) ≡ false →
-      change (rankOf s number) ≡ stateBy (soundLines s) (n .kept) (e ∷ n .written)) →
-      hosted x (called (stateBy (soundLines s) (n .kept) (n .written)) (found s (stateBy (soundLines s) (n .kept) (n .written)) number) change) e (withFlags s n)
-      ≡ withFlags s (hostedByRule x (codeByRule s (n .kept) (n .written) number) e n)
+      change (rankOf s number) ≡ stateBy (soundLines s) (n .kept) (after es (n .written))) →
+      hosted x (called (stateBy (soundLines s) (n .kept) (n .written)) (found s (stateBy (soundLines s) (n .kept) (n .written)) number) change) es (withFlags s n)
+      ≡ withFlags s (hostedByRule x (codeByRule s (n .kept) (n .written) number) es n)
   unfolding called found foundAt codeByRule stateBy
-  host-same x e change number h =
+  host-same x es change number h =
       go (isSound s st) (ltb k (ls .count)) (getD (st .cancelled) k false) (isCancelled (getD (ls .items) k noLine .ids) k (n .written)) refl refl asked
     where
       ls : Lines
@@ -129,7 +125,7 @@ module _ (s : List ℕ) (n : Now Vars) where
       asked b = byRank-at (cancelledBy ls (n .written)) k (small b) ∙ rw b (and-true (isCancelled (getD (ls .items) k noLine .ids) k (n .written)))
 
       go : (a b c d : Bool) → ltb k (ls .count) ≡ b → isCancelled (getD (ls .items) k noLine .ids) k (n .written) ≡ d → (b ≡ true → c ≡ d) →
-          hosted x (called st (foundBy a b c k) change) e (withFlags s n) ≡ withFlags s (hostedByRule x (codeBy a b d) e n)
+          hosted x (called st (foundBy a b c k) change) es (withFlags s n) ≡ withFlags s (hostedByRule x (codeBy a b d) es n)
       go true true true true p i q = refl
       go true true true false p i q = let z = q refl in cc
       go true true false true p i q = let z = q refl in cc
@@ -138,17 +134,17 @@ module _ (s : List ℕ) (n : Now Vars) where
       go false b c d p i q = refl
 
   step-lock : (x : Call) (b : Bool) (number : ℕ) →
-      hosted x (lockedCall s (stateBy (soundLines s) (n .kept) (n .written)) number b) (locks (rankOf s number) b) (withFlags s n)
-      ≡ withFlags s (hostedByRule x (codeByRule s (n .kept) (n .written) number) (locks (rankOf s number) b) n)
+      hosted x (lockedCall s (stateBy (soundLines s) (n .kept) (n .written)) number b) (locks (rankOf s number) b ∷ []) (withFlags s n)
+      ≡ withFlags s (hostedByRule x (codeByRule s (n .kept) (n .written) number) (locks (rankOf s number) b ∷ []) n)
   unfolding lockedCall stateBy
   step-lock x b number =
-      host-same x (locks (rankOf s number) b) (λ k. withLocked (stateBy (soundLines s) (n .kept) (n .written)) k b) number
+      host-same x (locks (rankOf s number) b ∷ []) (λ k. withLocked (stateBy (soundLines s) (n .kept) (n .written)) k b) number
       (λ h p c. rw (lock-locked (soundLines s) (rankOf s number) b (n .written) h c))
 
   step-cancel : (number : ℕ) → step s (doCancel number) (withFlags s n) ≡ withFlags s (stepByRule s (doCancel number) n)
   unfolding step stepByRule cancelCall stateBy
   step-cancel number =
-      host-same (doCancel number) (cancels (rankOf s number)) (λ k. withCancelled (stateBy (soundLines s) (n .kept) (n .written)) k) number
+      host-same (doCancel number) (cancels (rankOf s number) ∷ []) (λ k. withCancelled (stateBy (soundLines s) (n .kept) (n .written)) k) number
       (λ h p c. rw (
         cancel-locked (soundLines s) (rankOf s number) (n .written) h p,
         cancel-cancelled (soundLines s) (rankOf s number) (n .written) h p,
@@ -164,8 +160,8 @@ module _ (s : List ℕ) (n : Now Vars) where
 
       go : (a : Bool) →
           (let c : Called = elim a [ true ↦ record { code = 0; state = resetState (soundLines s .items) (soundLines s .count) (stateBy (soundLines s) (n .kept) (n .written)) } | false ↦ record { code = unsound; state = stateBy (soundLines s) (n .kept) (n .written) } ] in
-          hosted doReset c resets (withFlags s n))
-          ≡ (let m : Now Vars = elim a [ true ↦ record { kept = cleared (n .kept) (soundLines s) (n .written); written = resets ∷ n .written; told = (doReset, coded 0) ∷ n .told } | false ↦ record { kept = n .kept; written = n .written; told = (doReset, coded unsound) ∷ n .told } ] in
+          hosted doReset c (resets ∷ []) (withFlags s n))
+          ≡ (let m : Now Rest = elim a [ true ↦ record { kept = cleared (n .kept) (soundLines s) (n .written); written = resets ∷ n .written; told = (doReset, coded 0) ∷ n .told } | false ↦ record { kept = n .kept; written = n .written; told = (doReset, coded unsound) ∷ n .told } ] in
           withFlags s m)
       go true = rw after-reset
       go false = refl
@@ -181,12 +177,12 @@ module _ (s : List ℕ) (n : Now Vars) where
 
 -- ---- from a load on
 
-run-same : (s : List ℕ) (cs : List Call) (n : Now Vars) → runFrom s cs (withFlags s n) ≡ withFlags s (runByRuleFrom s cs n)
+run-same : (s : List ℕ) (cs : List Call) (n : Now Rest) → runFrom s cs (withFlags s n) ≡ withFlags s (runByRuleFrom s cs n)
 unfolding runFrom runByRuleFrom
 run-same s [] n = refl
 run-same s (c ∷ cs) n = rw (step-same s n c) (run-same s cs (stepByRule s c n))
 
-pub load-same : (s : List ℕ) → powerOn ≡ stateBy (soundLines s) (variablesOf powerOn) []
+pub load-same : (s : List ℕ) → powerOn ≡ stateBy (soundLines s) (restOf powerOn) []
 unfolding powerOn stateBy
 load-same s = in-flags _ (new-locked (soundLines s)) (new-cancelled (soundLines s)) (new-memory (soundLines s))
 
@@ -194,7 +190,7 @@ module _ (s : List ℕ) (cs : List Call) where
   -- demand 3: after any calls the engine stands where the control stands that keeps no flags and decides by the rule alone. Its replies are the same (codes, orders, the
   -- words of the lines that acted), its history is the same, its variables are the same, and its flags are what the history says
   pub demand-3 : run s cs ≡ withFlags s (runByRule s cs)
-  demand-3 = ap (λ st. runFrom s cs (record { kept = st; written = []; told = [] })) (load-same s) ∙ run-same s cs (record { kept = variablesOf powerOn; written = []; told = [] })
+  demand-3 = ap (λ st. runFrom s cs (record { kept = st; written = []; told = [] })) (load-same s) ∙ run-same s cs (record { kept = restOf powerOn; written = []; told = [] })
 
   -- its four parts: the same replies, the same history, the same variables, and
   pub same-replies : run s cs .told ≡ runByRule s cs .told
@@ -203,12 +199,12 @@ module _ (s : List ℕ) (cs : List Call) where
   pub same-history : run s cs .written ≡ runByRule s cs .written
   same-history = ap (λ n. n .written) demand-3
 
-  pub same-variables : variablesOf (run s cs .kept) ≡ runByRule s cs .kept
+  pub same-variables : restOf (run s cs .kept) ≡ runByRule s cs .kept
   unfolding stateBy
-  same-variables = ap (λ n. variablesOf (n .kept)) demand-3
+  same-variables = ap (λ n. restOf (n .kept)) demand-3
 
   -- the flags that the engine stores are what its history says
-  pub state-says-the-history : run s cs .kept ≡ stateBy (soundLines s) (variablesOf (run s cs .kept)) (run s cs .written)
+  pub state-says-the-history : run s cs .kept ≡ stateBy (soundLines s) (restOf (run s cs .kept)) (run s cs .written)
   state-says-the-history = ap (λ n. n .kept) demand-3 ∙ rw (same-variables, same-history)
 
   -- so for a line of the set, of rank k: it is cancelled if the history says so; it is locked if the history says so and it is not cancelled; it has in memory what its

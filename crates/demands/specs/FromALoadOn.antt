@@ -14,12 +14,12 @@ use Rattle.engine.specs.declared.order.Order.{Order}
 use Rattle.engine.specs.declared.state.State.{State}
 use Rattle.engine.specs.Set.{noLine, emptySet, soundLines}
 use Rattle.engine.specs.State.{powerOn}
-use Rattle.engine.specs.Write.{Vars}
 use Rattle.engine.specs.Turn.{Turned, turnsFrom}
 use Rattle.engine.specs.Order.{orderSize}
 use Rattle.engine.specs.Beat.{begun, beatAnswer, beatBuffer}
 use Rattle.reader.specs.Load.{loadAnswer, loadSet}
 use Rattle.demands.specs.History.{wasTrue}
+use Rattle.demands.specs.Run.{Rest}
 use Rattle.demands.specs.Acts.{isActed, conditionNow, actedSince}
 use Rattle.demands.specs.Demand3.{withFlags, step-same, load-same}
 use Rattle.demands.specs.Deed.{bytesOf, Each, OfActed}
@@ -31,13 +31,13 @@ use Rattle.demands.specs.AskLaws.{load-power-on, refused-no-set, ranOver
 -- ---- demand 3, with loads
 
 -- the flags that the history since the last load gives
-abbrev pub withFlagsSince : Standing Vars → Standing State
+abbrev pub withFlagsSince : Standing Rest → Standing State
 withFlagsSince n = record { set = n .set; code = n .code; line = n .line; since = withFlags (n .set) (n .since) }
 
 load-flags : (t : List ℕ) → newlyLoaded t ≡ withFlagsSince (newlyLoadedByRule t)
 load-flags t = rw (load-power-on t) (ap (λ st. record { set = loadSet t; code = loadAnswer t .code; line = loadAnswer t .line; since = record { kept = st; written = []; told = [] } }) (load-same (loadSet t)))
 
-asks-same : (qs : List Ask) (n : Standing Vars) → askAll qs (withFlagsSince n) ≡ withFlagsSince (askAllByRule qs n)
+asks-same : (qs : List Ask) (n : Standing Rest) → askAll qs (withFlagsSince n) ≡ withFlagsSince (askAllByRule qs n)
 unfolding askAll askAllByRule
 asks-same [] n = refl
 asks-same (doLoad t ∷ qs) n = rw (load-flags t) (asks-same qs (newlyLoadedByRule t))

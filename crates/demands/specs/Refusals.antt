@@ -15,12 +15,13 @@ use Rattle.engine.specs.declared.calls.Called.{Called}
 use Rattle.engine.specs.declared.named_line.Found.{Found}
 use Rattle.engine.specs.Set.{soundLines}
 use Rattle.engine.specs.Sound.{isSound}
-use Rattle.engine.specs.Turn.{Entry, Turned}
+use Rattle.engine.specs.Turn.{Entry, locks, cancels, resets, Turned}
 use Rattle.engine.specs.Beat.{beatOf, answered, buffered, beatAnswer, beatBuffer}
 use Rattle.engine.specs.NamedLine.{found}
 use Rattle.engine.specs.Calls.{withLocked, withCancelled, called, lockedCall, lockCall, unlockCall, cancelCall, resetState, resetCall}
 use Rattle.soundness.specs.Call.{Call, doBeat, doLock, doUnlock, doCancel, doReset}
-use Rattle.demands.specs.Run.{Now, entriesOf, noted, step}
+use Rattle.demands.specs.History.{after}
+use Rattle.demands.specs.Run.{Now, entriesOf, noted, rankOf, step}
 
 -- a beat with a code other than 0: the state as given, no orders, no line acted, the buffer as given
 pub beat-refused : (s : List ℕ) (st : State) (m : Bool) (word : ℕ) (lent : List ℤ) (b : List ℕ) → let x = beatAnswer s st m word lent b in
@@ -62,10 +63,10 @@ reset-refused s st = go (isSound s st)
     go false h = refl
 
 -- in a run: a call that is answered with a code other than 0 changes no state and adds nothing to the history
-noted-refused : (c : ℕ) (e : Entry) (r : List Entry) → c ≢ 0 → noted c e r ≡ r
-noted-refused c e r h = go (eqb c 0) refl
+noted-refused : (c : ℕ) (es r : List Entry) → c ≢ 0 → noted c es r ≡ r
+noted-refused c es r h = go (eqb c 0) refl
   where
-    go : (a : Bool) → eqb c 0 ≡ a → (let x : List Entry = elim a [ true ↦ e ∷ r | false ↦ r ] in x ≡ r)
+    go : (a : Bool) → eqb c 0 ≡ a → (let x : List Entry = elim a [ true ↦ after es r | false ↦ r ] in x ≡ r)
     go true p = absurd (h (eqb-true c 0 p))
     go false p = refl
 
@@ -75,7 +76,7 @@ lastCode n = elim (n .told) [ [] ↦ 0 | x ∷ xs ↦ x .1 .code ]
 pub step-refused : (s : List ℕ) (c : Call) (n : Now State) → lastCode (step s c n) ≢ 0 → (step s c n .kept ≡ n .kept) × (step s c n .written ≡ n .written)
 unfolding step
 step-refused s (doBeat m word lent b) n h = let p = beat-refused s (n .kept) m word lent b h in (p .0, rw (p .4))
-step-refused s (doLock k) n h = (lock-refused s (n .kept) k h, noted-refused _ _ (n .written) h)
-step-refused s (doUnlock k) n h = (unlock-refused s (n .kept) k h, noted-refused _ _ (n .written) h)
-step-refused s (doCancel k) n h = (cancel-refused s (n .kept) k h, noted-refused _ _ (n .written) h)
-step-refused s doReset n h = (reset-refused s (n .kept) h, noted-refused _ _ (n .written) h)
+step-refused s (doLock k) n h = (lock-refused s (n .kept) k h, noted-refused _ (locks (rankOf s k) true ∷ []) (n .written) h)
+step-refused s (doUnlock k) n h = (unlock-refused s (n .kept) k h, noted-refused _ (locks (rankOf s k) false ∷ []) (n .written) h)
+step-refused s (doCancel k) n h = (cancel-refused s (n .kept) k h, noted-refused _ (cancels (rankOf s k) ∷ []) (n .written) h)
+step-refused s doReset n h = (reset-refused s (n .kept) h, noted-refused _ (resets ∷ []) (n .written) h)

@@ -1,11 +1,11 @@
--- The engine's run from a load on, and the run of a control that keeps no flags: it has the variables and the history, and decides by the rule alone.
+-- The engine's run from a load on, and the run of a control that keeps no flags: it has the rest of the state and the history, and decides by the rule alone.
 -- Definitions only; assumes nothing.
 use mathlib.Core.Bool.{Bool, true, false, cond, not, _&&_, _||_}
 use mathlib.Core.List.{List, [], _∷_, _++_}
 use Prim.Native.Nat.{ℕ, zero, suc, _+_, _/_}
 use lib.Dec.{eqb, ltb}
 use lib.IntN.{ℤ}
-use lib.ListN.{length, getD, drop}
+use lib.ListN.{length, getD}
 use Rattle.values.specs.Codes.{shortBuffer, wrongNumbers, unsound, unknownLine}
 use Rattle.tokens.specs.Token.{WHEN, FROM, EVERY, maxLines}
 use Rattle.tokens.specs.Descent.{Answer, good, stop, _>>=_}
@@ -18,13 +18,11 @@ use Rattle.engine.specs.declared.one_beat.Beaten.{Beaten}
 use Rattle.engine.specs.declared.calls.Called.{Called}
 use Rattle.engine.specs.Set.{noLine, rankIn, soundLines}
 use Rattle.engine.specs.State.{powerOn}
-use Rattle.engine.specs.Cells.{inputCount, beatCells}
 use Rattle.engine.specs.Sound.{isSound}
-use Rattle.engine.specs.Write.{Vars}
 use Rattle.engine.specs.Action.{World, fromValueOrAlarm}
 use Rattle.engine.specs.Turn.{Entry, beatIn, worked, locks, cancels, resets, Turned, doTurn}
 use Rattle.engine.specs.Order.{orderSize}
-use Rattle.engine.specs.Beat.{bufferSize, areInputs, beatOf, buffered, beatAnswer, beatBuffer}
+use Rattle.engine.specs.Beat.{bufferSize, areInputs, beatOf, buffered, beatAnswer, beatBuffer, begun, ended}
 use Rattle.engine.specs.Calls.{lockCall, unlockCall, cancelCall, resetState, resetCall}
 use Rattle.soundness.specs.Call.{Call, doBeat, doLock, doUnlock, doCancel, doReset}
 use Rattle.demands.specs.History.{History, after, isCancelled, isLocked, wasTrue, everTrue, isAutomatic, takesByRule, triesByRule, actsByRule}
@@ -53,8 +51,8 @@ entriesOf (good t) = t .entries
 entriesOf (stop c) = []
 
 -- what a host's call adds: a refused one nothing
-abbrev pub noted : ℕ → Entry → History → History
-noted c e r = elim (eqb c 0) [ true ↦ e ∷ r | false ↦ r ]
+abbrev pub noted : ℕ → List Entry → History → History
+noted c es r = elim (eqb c 0) [ true ↦ after es r | false ↦ r ]
 
 -- the rank of the line with the number n
 abbrev pub rankOf : List ℕ → ℕ → ℕ
@@ -62,9 +60,9 @@ rankOf s n = rankIn (soundLines s .numbers) n 0
 
 -- ---- the engine's run
 
--- a host's call that gave x and is written down as e
-abbrev pub hosted : Call → Called → Entry → Now State → Now State
-hosted c x e n = record { kept = x .state; written = noted (x .code) e (n .written); told = (c, coded (x .code)) ∷ n .told }
+-- a host's call that gave x and is written down as es
+abbrev pub hosted : Call → Called → List Entry → Now State → Now State
+hosted c x es n = record { kept = x .state; written = noted (x .code) es (n .written); told = (c, coded (x .code)) ∷ n .told }
 
 -- a beat that gave x, left the buffer b and wrote down es
 abbrev pub beaten : Call → Beaten → List ℕ → List Entry → Now State → Now State
@@ -78,10 +76,10 @@ beaten c x b es n = record {
 unfoldable pub step : List ℕ → Call → Now State → Now State
 step s (doBeat m word lent b) n =
     beaten (doBeat m word lent b) (beatAnswer s (n .kept) m word lent b) (beatBuffer s (n .kept) m word lent b) (entriesOf (beatOf s (n .kept) m word lent (length b))) n
-step s (doLock k) n = hosted (doLock k) (lockCall s (n .kept) k) (locks (rankOf s k) true) n
-step s (doUnlock k) n = hosted (doUnlock k) (unlockCall s (n .kept) k) (locks (rankOf s k) false) n
-step s (doCancel k) n = hosted (doCancel k) (cancelCall s (n .kept) k) (cancels (rankOf s k)) n
-step s doReset n = hosted doReset (resetCall s (n .kept)) resets n
+step s (doLock k) n = hosted (doLock k) (lockCall s (n .kept) k) (locks (rankOf s k) true ∷ []) n
+step s (doUnlock k) n = hosted (doUnlock k) (unlockCall s (n .kept) k) (locks (rankOf s k) false ∷ []) n
+step s (doCancel k) n = hosted (doCancel k) (cancelCall s (n .kept) k) (cancels (rankOf s k) ∷ []) n
+step s doReset n = hosted doReset (resetCall s (n .kept)) (resets ∷ []) n
 
 -- the calls, one after the other
 unfoldable pub runFrom : List ℕ → List Call → Now State → Now State
@@ -125,34 +123,33 @@ memoryBy ls r k = remembersBy (getD (ls .items) k noLine .keyword) k r && not (c
 
 -- ---- the control that keeps no flags
 
--- all that it keeps beside the history are the variables: R, the cells, which timers run
-abbrev pub variablesOf : State → Vars
-variablesOf st = record { r = st .r; cells = st .cells; runs = st .runs }
+-- the rest: all that it keeps beside the history, which is every field of a state but the flags (locked, cancelled, memory)
+pub record Rest : Type 0 where
+  pub r : List ℤ
+  pub cells : List ℤ
+  pub runs : List Bool
 
--- the state that the variables and the history make up
-unfoldable pub stateBy : Lines → Vars → History → State
-stateBy ls v r = record {
-  r = v .r;
-  cells = v .cells;
-  runs = v .runs;
-  locked = byRank (lockedBy ls r);
-  cancelled = byRank (cancelledBy ls r);
-  memory = byRank (memoryBy ls r);
-}
+abbrev pub restOf : State → Rest
+restOf st = record { r = st .r; cells = st .cells; runs = st .runs }
 
--- a beat begins with the variables alone
-unfoldable pub begunBy : Vars → ℕ → List ℤ → World
-begunBy v word lent = record {
-  vars = record { r = v .r; cells = beatCells word lent (v .runs) (v .cells); runs = v .runs };
-  locked = [];
-  memory = [];
-  acted = 0;
-  orders = [];
-}
+-- the state with these flags
+abbrev pub withRest : Rest → List Bool → List Bool → List Bool → State
+withRest v locked cancelled memory = record { r = v .r; cells = v .cells; runs = v .runs; locked = locked; cancelled = cancelled; memory = memory }
 
--- and leaves the variables alone
-unfoldable pub endedBy : World → Vars
-endedBy x = record { r = x .vars .r; cells = drop inputCount (x .vars .cells); runs = x .vars .runs }
+abbrev pub withoutFlags : Rest → State
+withoutFlags v = withRest v [] [] []
+
+-- the state that the rest and the history make up
+unfoldable pub stateBy : Lines → Rest → History → State
+stateBy ls v r = withRest v (byRank (lockedBy ls r)) (byRank (cancelledBy ls r)) (byRank (memoryBy ls r))
+
+-- a beat begins without flags
+unfoldable pub begunBy : Rest → ℕ → List ℤ → World
+begunBy v word lent = begun (withoutFlags v) word lent
+
+-- and leaves none
+unfoldable pub endedBy : Rest → World → Rest
+endedBy v x = restOf (ended (withoutFlags v) x)
 
 module _ (s : List ℕ) (ls : Lines) where
   -- the condition, worked if the rule says so; then the actions, if the rule says so (a LOCK in text asks the history which lines are cancelled)
@@ -177,8 +174,8 @@ module _ (s : List ℕ) (ls : Lines) where
       turnsByRule m (k + 1) (after (t .entries) r) (t .world) >>= λ u.
       good (record { world = u .world; entries = t .entries ++ u .entries })
 
--- a beat: 22 is asked of the set, the variables and what the history gives of locks, cancels and memory, then 20 and 21; its first entry is its mode
-unfoldable pub beatByRule : List ℕ → Vars → History → Bool → ℕ → List ℤ → ℕ → Answer Turned
+-- a beat: 22 is asked of the set, the rest and what the history gives of locks, cancels and memory, then 20 and 21; its first entry is its mode
+unfoldable pub beatByRule : List ℕ → Rest → History → Bool → ℕ → List ℤ → ℕ → Answer Turned
 beatByRule s v r m word lent size =
     elim (isSound s (stateBy (soundLines s) v r)) [
       | true ↦
@@ -196,7 +193,7 @@ beatByRule s v r m word lent size =
     ]
 
 -- the code of a call that names a line: 22, then 40 for a line that is not in the set or that the history says is cancelled
-unfoldable pub codeByRule : List ℕ → Vars → History → ℕ → ℕ
+unfoldable pub codeByRule : List ℕ → Rest → History → ℕ → ℕ
 codeByRule s v r n =
     elim (isSound s (stateBy (soundLines s) v r)) [
       | true ↦
@@ -207,25 +204,25 @@ codeByRule s v r n =
       | false ↦ unsound
     ]
 
--- a host's call with the code k changes no variables
-abbrev pub hostedByRule : Call → ℕ → Entry → Now Vars → Now Vars
-hostedByRule c k e n = record { kept = n .kept; written = noted k e (n .written); told = (c, coded k) ∷ n .told }
+-- a host's call with the code k leaves the rest as it was
+abbrev pub hostedByRule : Call → ℕ → List Entry → Now Rest → Now Rest
+hostedByRule c k es n = record { kept = n .kept; written = noted k es (n .written); told = (c, coded k) ∷ n .told }
 
 -- a failed beat leaves all as it was
-abbrev pub beatenByRule : Call → Answer Turned → List ℕ → Now Vars → Now Vars
+abbrev pub beatenByRule : Call → Answer Turned → List ℕ → Now Rest → Now Rest
 beatenByRule c (good t) b n = record {
-  kept = endedBy (t .world);
+  kept = endedBy (n .kept) (t .world);
   written = after (t .entries) (n .written);
   told = (c, record { code = 0; orders = length (t .world .orders) / orderSize; acted = t .world .acted; buffer = buffered b (good t) }) ∷ n .told;
 }
 beatenByRule c (stop k) b n = record { kept = n .kept; written = n .written; told = (c, record { code = k; orders = 0; acted = 0; buffer = b }) ∷ n .told }
 
--- what the engine's reset leaves of the variables
-abbrev pub cleared : Vars → Lines → History → Vars
-cleared v ls r = variablesOf (resetState (ls .items) (ls .count) (stateBy ls v r))
+-- what the engine's reset leaves of the rest
+abbrev pub cleared : Rest → Lines → History → Rest
+cleared v ls r = restOf (resetState (ls .items) (ls .count) (stateBy ls v r))
 
--- a reset: one entry, and the variables cleared
-unfoldable pub resetByRule : List ℕ → Now Vars → Now Vars
+-- a reset: one entry, and the rest cleared
+unfoldable pub resetByRule : List ℕ → Now Rest → Now Rest
 resetByRule s n =
     elim (isSound s (stateBy (soundLines s) (n .kept) (n .written))) [
       | true ↦ record { kept = cleared (n .kept) (soundLines s) (n .written); written = resets ∷ n .written; told = (doReset, coded 0) ∷ n .told }
@@ -233,18 +230,18 @@ resetByRule s n =
     ]
 
 -- one call by the rule
-unfoldable pub stepByRule : List ℕ → Call → Now Vars → Now Vars
+unfoldable pub stepByRule : List ℕ → Call → Now Rest → Now Rest
 stepByRule s (doBeat m word lent b) n = beatenByRule (doBeat m word lent b) (beatByRule s (n .kept) (n .written) m word lent (length b)) b n
-stepByRule s (doLock k) n = hostedByRule (doLock k) (codeByRule s (n .kept) (n .written) k) (locks (rankOf s k) true) n
-stepByRule s (doUnlock k) n = hostedByRule (doUnlock k) (codeByRule s (n .kept) (n .written) k) (locks (rankOf s k) false) n
-stepByRule s (doCancel k) n = hostedByRule (doCancel k) (codeByRule s (n .kept) (n .written) k) (cancels (rankOf s k)) n
+stepByRule s (doLock k) n = hostedByRule (doLock k) (codeByRule s (n .kept) (n .written) k) (locks (rankOf s k) true ∷ []) n
+stepByRule s (doUnlock k) n = hostedByRule (doUnlock k) (codeByRule s (n .kept) (n .written) k) (locks (rankOf s k) false ∷ []) n
+stepByRule s (doCancel k) n = hostedByRule (doCancel k) (codeByRule s (n .kept) (n .written) k) (cancels (rankOf s k) ∷ []) n
 stepByRule s doReset n = resetByRule s n
 
 -- the calls, one after the other
-unfoldable pub runByRuleFrom : List ℕ → List Call → Now Vars → Now Vars
+unfoldable pub runByRuleFrom : List ℕ → List Call → Now Rest → Now Rest
 runByRuleFrom s [] n = n
 runByRuleFrom s (c ∷ cs) n = runByRuleFrom s cs (stepByRule s c n)
 
 -- the run of these calls by the rule alone, from the load on
-abbrev pub runByRule : List ℕ → List Call → Now Vars
-runByRule s cs = runByRuleFrom s cs (record { kept = variablesOf powerOn; written = []; told = [] })
+abbrev pub runByRule : List ℕ → List Call → Now Rest
+runByRule s cs = runByRuleFrom s cs (record { kept = restOf powerOn; written = []; told = [] })

@@ -15,7 +15,6 @@ use Rattle.checking.specs.declared.line.Line.{Line}
 use Rattle.engine.specs.declared.order.Order.{Order}
 use Rattle.engine.specs.declared.state.State.{State}
 use Rattle.engine.specs.Set.{noLine, soundLines}
-use Rattle.engine.specs.Write.{Vars}
 use Rattle.engine.specs.Action.{World}
 use Rattle.engine.specs.Turn.{beatIn, Turned, takesTurn, turnOf, turnsFrom}
 use Rattle.engine.specs.Order.{orderSize}
@@ -24,7 +23,7 @@ use Rattle.soundness.specs.Call.{Call}
 use Rattle.soundness.specs.CallCodes.{ended-well}
 use Rattle.tokens.specs.AnswerLaws.{is-ok}
 use Rattle.demands.specs.History.{History, after, takesByRule}
-use Rattle.demands.specs.Run.{run, runByRule, stateBy, begunBy, turnsByRule}
+use Rattle.demands.specs.Run.{run, runByRule, Rest, stateBy, begunBy, turnsByRule}
 use Rattle.demands.specs.Demand3.{demand-3}
 use Rattle.demands.specs.Acts.{isActed, actsNow}
 use Rattle.demands.specs.Deed.{LeftAlone, DidAll, bytesOf, Each, Gave, OfActed}
@@ -121,11 +120,11 @@ module _ (s : List ℕ) (cs : List Call) (m : Bool) (word : ℕ) (lent : List �
 
 -- ---- of the orders
 
-module _ (s : List ℕ) (v : Vars) (r : History) (m : Bool) (word : ℕ) (lent : List ℤ) (size : ℕ) (t : Turned) where
+module _ (s : List ℕ) (v : Rest) (r : History) (m : Bool) (word : ℕ) (lent : List ℤ) (size : ℕ) (t : Turned) where
   turns-orders : (u w : Turned) → turnsByRule s (soundLines s) (soundLines s .count) 0 (beatIn m ∷ r) (begunBy v word lent) ≡ good w →
       u ≡ record { world = w .world; entries = beatIn m ∷ w .entries } → t .world .acted ≡ u .world .acted → t .world .orders ≡ u .world .orders →
       Gave (OfActed (soundLines s) (t .world .acted)) [] (t .world .orders)
-  unfolding begunBy
+  unfolding begunBy begun
   turns-orders u w e p a o =
       rw (a ∙ ap (λ y. y .world .acted) p, o ∙ ap (λ y. y .world .orders) p)
       (turns-gave s (soundLines s) (soundLines s .count) 0 (beatIn m ∷ r) (begunBy v word lent) w (omega arith) (omega arith) e)
