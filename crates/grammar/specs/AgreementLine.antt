@@ -25,9 +25,14 @@ use Rattle.grammar.specs.ClosedTokens.{line-fits}
 use Rattle.grammar.specs.TreeFaultLaws.{line-proper}
 use Rattle.grammar.specs.AgreementEnds.{Five, actions-five, condition-five}
 
-not-five : (n : ℕ) → Proper n → n ≡ notInGrammar → ⊥
-not-five n (inl h) e = omega arith
-not-five n (inr h) e = omega arith
+-- a fault of 6 to 10, or none, is neither 4 nor 5
+pub proper-4 : (n : ℕ) → Proper n → n ≡ tooDeep → ⊥
+proper-4 n (inl h) e = omega arith
+proper-4 n (inr h) e = omega arith
+
+pub proper-5 : (n : ℕ) → Proper n → n ≡ notInGrammar → ⊥
+proper-5 n (inl h) e = omega arith
+proper-5 n (inr h) e = omega arith
 
 module _ (s : List ℕ) where
   -- ---- right sides and actions that are read are written
@@ -220,7 +225,7 @@ module _ (s : List ℕ) where
   -- FAULT 5 IS THE GRAMMAR'S: with no more than eight brackets open, the check tells fault 5 exactly where no line of the grammar is written
   pub fault-five : length s ≤ setSize → (p : ℕ) → opensTooMany (drop p s) 0 ≡ false → (lineAt s p .fault ≡ notInGrammar) ↔ ((l : Line) (q : ℕ) → Stands s p (lineTokens l) q → ⊥)
   fault-five n p o = (
-    (λ e l q h. not-five (lineFault l) (line-proper l) (sym (line-fault n l p q o h) ∙ e)),
+    (λ e l q h. proper-5 (lineFault l) (line-proper l) (sym (line-fault n l p q o h) ∙ e)),
     (λ none. decide _ (eqb (lineAt s p .fault) notInGrammar)
         (λ t. eqb-true (lineAt s p .fault) notInGrammar t)
         (λ t. let (l, q, h) = line-written p o (eqb-false (lineAt s p .fault) notInGrammar t) in absurd (none l q h))),

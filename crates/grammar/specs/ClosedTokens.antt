@@ -14,6 +14,15 @@ use Rattle.grammar.specs.Tree.{Operand, number, variable, position, trut
 use Rattle.grammar.specs.Meaning.{Stands}
 use Rattle.grammar.specs.AgreementLaws.{bounds, stands-split, stands-place}
 
+-- no token of a row is 0, a LOCK or an UNLOCK
+abbrev pub Plain : List ℕ → Type 0
+Plain [] = Unit {0}
+Plain (t ∷ l) = (0 < t) × (LOCK ≤ t → UNLOCK < t) × Plain l
+
+plain-join : (l m : List ℕ) → Plain l → Plain m → Plain (l ++ m)
+plain-join [] m h g = g
+plain-join (t ∷ l) m h g = (h .0, h .1, plain-join l m (h .2) g)
+
 -- no token of a row is 0, and behind a LOCK or UNLOCK the row goes on
 abbrev pub Closed : List ℕ → Type 0
 Closed [] = Unit {0}
@@ -23,45 +32,50 @@ closed-join : (l m : List ℕ) → Closed l → Closed m → Closed (l ++ m)
 closed-join [] m h g = g
 closed-join (t ∷ l) m h g = (h .0, λ a b. let k = h .1 a b in let e = length-append l m in omega arith, closed-join l m (h .2) g)
 
+plain-closed : (l : List ℕ) → Plain l → Closed l
+plain-closed [] h = tt
+plain-closed (t ∷ l) h = (h .0, λ a b. let k = h .1 a in absurd (omega arith), plain-closed l (h .2))
+
+-- the tokens of expressions
 mutual
   unfolding operandTokens
 
-  closed-operand : (x : Operand) → Closed (operandTokens x)
-  closed-operand (number n) = omega arith
-  closed-operand (variable w v i) = let b = bounds IN FIFO4 w v in omega arith
-  closed-operand (position x v) = let b = bounds X W x v in omega arith
-  closed-operand (truth true) = omega arith
-  closed-operand (truth false) = omega arith
-  closed-operand (bracket e) = (omega arith, omega arith, closed-join (expressionTokens e) (CLOSE ∷ []) (closed-expression e) (omega arith))
-  closed-operand (minus a) = (omega arith, omega arith, closed-operand a)
-  closed-operand (not a) = (omega arith, omega arith, closed-operand a)
+  plain-operand : (x : Operand) → Plain (operandTokens x)
+  plain-operand (number n) = omega arith
+  plain-operand (variable w v i) = let b = bounds IN FIFO4 w v in omega arith
+  plain-operand (position x v) = let b = bounds X W x v in omega arith
+  plain-operand (truth true) = omega arith
+  plain-operand (truth false) = omega arith
+  plain-operand (bracket e) = (omega arith, omega arith, plain-join (expressionTokens e) (CLOSE ∷ []) (plain-expression e) (omega arith))
+  plain-operand (minus a) = (omega arith, omega arith, plain-operand a)
+  plain-operand (not a) = (omega arith, omega arith, plain-operand a)
 
-  closed-product : (x : Product) → Closed (productTokens x)
-  closed-product (product a r) = closed-join (operandTokens a) (factorsTokens r) (closed-operand a) (closed-factors r)
+  plain-product : (x : Product) → Plain (productTokens x)
+  plain-product (product a r) = plain-join (operandTokens a) (factorsTokens r) (plain-operand a) (plain-factors r)
 
-  closed-factors : (r : Factors) → Closed (factorsTokens r)
-  closed-factors noFactor = tt
-  closed-factors (factor o v a r) = let b = bounds TIMES OVER o v in (omega arith, omega arith, closed-join (operandTokens a) (factorsTokens r) (closed-operand a) (closed-factors r))
+  plain-factors : (r : Factors) → Plain (factorsTokens r)
+  plain-factors noFactor = tt
+  plain-factors (factor o v a r) = let b = bounds TIMES OVER o v in (omega arith, omega arith, plain-join (operandTokens a) (factorsTokens r) (plain-operand a) (plain-factors r))
 
-  closed-sum : (x : Sum) → Closed (sumTokens x)
-  closed-sum (sum a r) = closed-join (productTokens a) (termsTokens r) (closed-product a) (closed-terms r)
+  pub plain-sum : (x : Sum) → Plain (sumTokens x)
+  plain-sum (sum a r) = plain-join (productTokens a) (termsTokens r) (plain-product a) (plain-terms r)
 
-  closed-terms : (r : Terms) → Closed (termsTokens r)
-  closed-terms noTerm = tt
-  closed-terms (term o v a r) = let b = bounds PLUS MINUS o v in (omega arith, omega arith, closed-join (productTokens a) (termsTokens r) (closed-product a) (closed-terms r))
+  plain-terms : (r : Terms) → Plain (termsTokens r)
+  plain-terms noTerm = tt
+  plain-terms (term o v a r) = let b = bounds PLUS MINUS o v in (omega arith, omega arith, plain-join (productTokens a) (termsTokens r) (plain-product a) (plain-terms r))
 
-  closed-expression : (x : Expression) → Closed (expressionTokens x)
-  closed-expression (single a) = closed-sum a
-  closed-expression (compare o v a b) = let c = bounds SAME ATLEAST o v in closed-join (sumTokens a) (o ∷ sumTokens b) (closed-sum a) (omega arith, omega arith, closed-sum b)
-  closed-expression (row o v a r) = let b = bounds AND XOR o v in closed-join (sumTokens a) (sumsTokens o r) (closed-sum a) (closed-sums r o (omega arith) (omega arith))
+  pub plain-expression : (x : Expression) → Plain (expressionTokens x)
+  plain-expression (single a) = plain-sum a
+  plain-expression (compare o v a b) = let c = bounds SAME ATLEAST o v in plain-join (sumTokens a) (o ∷ sumTokens b) (plain-sum a) (omega arith, omega arith, plain-sum b)
+  plain-expression (row o v a r) = let b = bounds AND XOR o v in plain-join (sumTokens a) (sumsTokens o r) (plain-sum a) (plain-sums r o (omega arith) (omega arith))
 
-  closed-sums : (r : Sums) (o : ℕ) → 0 < o → o < LOCK → Closed (sumsTokens o r)
-  closed-sums (last a) o h g = (h, omega arith, closed-sum a)
-  closed-sums (next a r) o h g = (h, omega arith, closed-join (sumTokens a) (sumsTokens o r) (closed-sum a) (closed-sums r o h g))
+  plain-sums : (r : Sums) (o : ℕ) → 0 < o → o < LOCK → Plain (sumsTokens o r)
+  plain-sums (last a) o h g = (h, omega arith, plain-sum a)
+  plain-sums (next a r) o h g = (h, omega arith, plain-join (sumTokens a) (sumsTokens o r) (plain-sum a) (plain-sums r o h g))
 
 -- five tokens that are no LOCK or UNLOCK, and a right side behind them
 closed-right : (t u v w x : ℕ) (a : Sum) → (0 < t) × (t < LOCK) → (0 < u) × (u < LOCK) → (0 < v) × (LOCK ≤ v → UNLOCK < v) → (0 < w) × (w < LOCK) → (0 < x) × (x < LOCK) → Closed (t ∷ u ∷ v ∷ w ∷ x ∷ sumTokens a)
-closed-right t u v w x a h i j k m = (h .0, omega arith, (i .0, omega arith, (j .0, omega arith, (k .0, omega arith, (m .0, omega arith, closed-sum a)))))
+closed-right t u v w x a h i j k m = (h .0, omega arith, (i .0, omega arith, (j .0, omega arith, (k .0, omega arith, (m .0, omega arith, plain-closed (sumTokens a) (plain-sum a))))))
 
 pub closed-action : (a : Action) → Closed (actionTokens a)
 unfolding actionTokens
@@ -80,7 +94,7 @@ closed-actions (b ∷ r) a = closed-join (actionTokens a) (actionsTokens b r) (c
 pub closed-condition : (c : Condition) → Closed (conditionTokens c)
 unfolding conditionTokens
 closed-condition always = tt
-closed-condition (under w v e) = let b = bounds WHEN EVERY w v in (omega arith, omega arith, closed-expression e)
+closed-condition (under w v e) = let b = bounds WHEN EVERY w v in (omega arith, omega arith, plain-closed (expressionTokens e) (plain-expression e))
 
 -- the tokens of a line but its end
 abbrev pub front : Line → List ℕ

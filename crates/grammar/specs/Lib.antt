@@ -3,6 +3,7 @@
 pub mod Tree
 pub mod Meaning
 pub mod TreeFault
+pub mod TreeNames
 pub mod AgreementLaws
 pub mod Agreement
 pub mod AgreementRead
@@ -11,6 +12,8 @@ pub mod AgreementFault
 pub mod ClosedTokens
 pub mod AgreementEnds
 pub mod AgreementLine
+pub mod StandsLaws
+pub mod LineByTree
 pub mod LineTable
 pub mod NumbersTo
 pub mod NumbersToLaws

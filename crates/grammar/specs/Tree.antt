@@ -1,4 +1,5 @@
 -- The grammar of document 01, "Lines of text", as trees, brackets kept, and how a tree is written as tokens. Definitions only.
+use mathlib.Core.Path.{_≡_}
 use mathlib.Core.Bool.{Bool, true, false}
 use mathlib.Core.List.{List, [], _∷_, _++_}
 use Prim.Native.Nat.{ℕ, _+_}
@@ -122,3 +123,7 @@ conditionTokens (under w v e) = w ∷ expressionTokens e
 unfoldable pub lineTokens : Line → List ℕ
 lineTokens (line w v n c a r) =
     w ∷ EQUALS ∷ wholeToken n ∷ conditionTokens c ++ (DO ∷ actionsTokens a r ++ (END ∷ []))
+
+-- the line l is written as the tokens ts
+abbrev pub WrittenAs : Line → List ℕ → Type 0
+WrittenAs l ts = lineTokens l ≡ ts ++ (END ∷ [])

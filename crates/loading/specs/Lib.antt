@@ -6,6 +6,7 @@ pub mod PlaceLaws
 pub mod StandLaws
 pub mod PlacedLaws
 pub mod NumbersNamesLaws
+pub mod NamesByTreeLaws
 pub mod StoredLineLaws
 pub mod TakenLaws
 pub mod ByNumberLaws

@@ -3,79 +3,29 @@ use mathlib.Core.Path.{_≡_, refl, sym, ap, _∙_}
 use mathlib.Core.Bool.{Bool, true, false}
 use mathlib.Core.List.{List, [], _∷_}
 use Prim.Native.Nat.{ℕ, zero, suc, _+_, _-_, _≤_, _<_}
-use native.Mathlib.Decide.{decLt}
-use native.Mathlib.Numerals.{add-one}
 use native.Mathlib.Omega.{arith}
-use lib.Dec.{eqb, leb}
-use lib.ListN.{length, getD, drop, drop-of-length-le, List·getD-eq-default}
-use lib.Seq.{drop-cons}
+use lib.Dec.{eqb}
+use lib.ListN.{length, getD, drop}
 use borrow.Author.Tests.{eqb-true, eqb-false, ne-eqb, eq-eqb}
 use Rattle.values.specs.Codes.{tooDeep, notInGrammar}
 use Rattle.values.specs.Choice.{told-so, decide, chosen, refused, eitherBoth}
 use Rattle.checking.specs.declared.line.Line.{Line as Parts}
-use Rattle.tokens.specs.Token.{END, OPEN, CLOSE, LOCK, UNLOCK, whole, setSize, AllReal}
+use Rattle.tokens.specs.Token.{END, LOCK, UNLOCK, whole, setSize, AllReal}
 use Rattle.grammar.specs.Tree.{Line, line, lineTokens}
 use Rattle.grammar.specs.Meaning.{Stands}
-use Rattle.tokens.specs.SingleFault.{bracketsOpen, opensTooMany}
+use Rattle.tokens.specs.SingleFault.{opensTooMany}
 use Rattle.checking.specs.Fault.{lineAt}
 use Rattle.grammar.specs.TreeFault.{lineFault, partsFrom, toldFrom}
-use Rattle.grammar.specs.AgreementLaws.{bounds, stands-place}
-use Rattle.grammar.specs.ClosedTokens.{Closed, front, front-end, front-closed, same-row}
+use Rattle.grammar.specs.AgreementLaws.{bounds}
+use Rattle.grammar.specs.ClosedTokens.{Closed, front-closed}
 use Rattle.grammar.specs.AgreementLine.{line-written, line-told, line-found, fault-five}
+use Rattle.grammar.specs.StandsLaws.{stands-self, opens-stands, same-tokens, line-stood, line-standing}
 use Rattle.engine.specs.Set.{withEnd, isKnown, isLock, namesKnown}
-
--- ---- where tokens stand
-
--- tokens stand where each is found at its place
-pub stands-each : (s l : List ℕ) (p q : ℕ) → q ≡ p + length l → ((i j : ℕ) → j ≡ p + i → i < length l → getD s j 0 ≡ getD l i 0) → Stands s p l q
-stands-each s [] p q e h = omega arith
-stands-each s (t ∷ l) p q e h = (h 0 p (omega arith) (omega arith), stands-each s l (p + 1) q (omega arith) (λ i j f m. h (suc i) j (omega arith) (omega arith)))
-
--- a list stands at its own beginning
-pub stands-self : (l : List ℕ) → Stands l 0 l (length l)
-stands-self l = stands-each l l 0 (length l) (omega arith) (λ i j e m. let f : j ≡ i = omega arith in rw f)
-
--- what stands in one list stands in another that is the same there
-pub stands-same : (s z l : List ℕ) (p q : ℕ) → ((j : ℕ) → p ≤ j → j < q → getD z j 0 ≡ getD s j 0) → Stands s p l q → Stands z p l q
-stands-same s z [] p q h g = g
-stands-same s z (t ∷ l) p q h g =
-    let e = stands-place s (t ∷ l) p q g in
-    (h p (omega arith) (omega arith) ∙ g .0, stands-same s z l (p + 1) q (λ j a b. h j (omega arith) b) (g .1))
-
--- ---- up to the end of a line
-
--- what looks at a list up to its first 0 may look at a 0 past its end
-first-token : {X : Type 0} (f : List ℕ → X) (x : X) → f [] ≡ x → ((l : List ℕ) → f (END ∷ l) ≡ x) → (s : List ℕ) (p : ℕ) → f (drop p s) ≡ f (getD s p 0 ∷ drop (p + 1) s)
-first-token f x e h s p = by-place (decLt p (length s))
-  where
-    by-place : Dec (p < length s) → f (drop p s) ≡ f (getD s p 0 ∷ drop (p + 1) s)
-    by-place (yes l) = rw (add-one p) (ap f (drop-cons s p 0 l))
-    by-place (no l) = rw (drop-of-length-le s {i = p} (omega (arith, l)), List·getD-eq-default s 0 {n = p} (omega (arith, l))) (e ∙ sym (h (drop (p + 1) s)))
-
--- the brackets
-opens-on : (t : ℕ) (l m : List ℕ) (n : ℕ) → ((k : ℕ) → opensTooMany l k ≡ opensTooMany m k) → opensTooMany (t ∷ l) n ≡ opensTooMany (t ∷ m) n
-unfolding opensTooMany
-opens-on t l m n h =
-    eitherBoth (λ (x y : Bool). x ≡ y) (eqb t END) (λ _. refl) λ _.
-    eitherBoth (λ (x y : Bool). x ≡ y) (eqb t OPEN)
-    (λ _. eitherBoth (λ (x y : Bool). x ≡ y) (leb bracketsOpen n) (λ _. refl) (λ _. h (n + 1)))
-    (λ _. eitherBoth (λ (x y : Bool). x ≡ y) (eqb t CLOSE) (λ _. h (n - 1)) (λ _. h n))
-
-opens-stands : (s l : List ℕ) (p q n : ℕ) → Stands s p (withEnd l) q → opensTooMany (drop p s) n ≡ opensTooMany (withEnd l) n
-unfolding opensTooMany
-opens-stands s [] p q n h = first-token (λ m. opensTooMany m n) false refl (λ m. refl) s p ∙ rw (h .0)
-opens-stands s (t ∷ l) p q n h =
-    first-token (λ m. opensTooMany m n) false refl (λ m. refl) s p
-    ∙ rw (h .0) (opens-on t (drop (p + 1) s) (withEnd l) n (λ k. opens-stands s l (p + 1) q k (h .1)))
 
 -- ---- one line at two places
 
--- where a line of the grammar stands beside real tokens and their end, they are its tokens
-same-tokens : (s ts : List ℕ) (p q r : ℕ) (l : Line) → AllReal ts → Stands s p (withEnd ts) q → Stands s p (lineTokens l) r → front l ≡ ts
-same-tokens s ts p q r l a h g = same-row s (front l) ts p r q (front-closed l) a (rw (front-end l) at g) h
-
 moved : (s z ts : List ℕ) (p q i j r : ℕ) (l : Line) → AllReal ts → Stands s p (withEnd ts) q → Stands z i (withEnd ts) j → Stands s p (lineTokens l) r → Stands z i (lineTokens l) j
-moved s z ts p q i j r l a h g k = rw (front-end l) (rw (same-tokens s ts p q r l a h k) g)
+moved s z ts p q i j r l a h g k = line-standing z ts i j l g (line-stood s ts p q r l a h k)
 
 -- what the check tells of a tree, but for its place
 told-fault : (p i : ℕ) (l : Line) → (toldFrom p l .fault ≡ toldFrom i l .fault) × (toldFrom p l .number ≡ toldFrom i l .number)

@@ -8,7 +8,7 @@ use lib.Seq.{getD-set-same, getD-set-other}
 use Rattle.tokens.specs.Token.{END, setSize, maxLines, textSize}
 use Rattle.grammar.specs.Meaning.{Stands}
 use Rattle.engine.specs.Set.{emptySet, firstPlace, startPlace, startOf, lineCount, withoutMark, withEnd, withLine}
-use Rattle.loading.specs.PlaceLaws.{stands-same}
+use Rattle.grammar.specs.StandsLaws.{stands-same}
 use Rattle.values.specs.PutLaws.{put-length, put-before}
 use Rattle.loading.specs.StandLaws.{put-stands, empty-length}
 use Rattle.reader.specs.Row.{Row, total, placed, setOf}

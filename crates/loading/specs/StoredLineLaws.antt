@@ -19,7 +19,8 @@ use Rattle.grammar.specs.AgreementLine.{line-found, line-fault, line-parts, not
 use Rattle.engine.specs.Set.{emptySet, withoutMark, withEnd, isKnown, namesKnown}
 use Rattle.values.specs.PutLaws.{put-length}
 use Rattle.reader.specs.Load.{alone}
-use Rattle.loading.specs.PlaceLaws.{stands-self, line-same, faultless-closed, names-same}
+use Rattle.grammar.specs.StandsLaws.{stands-self}
+use Rattle.loading.specs.PlaceLaws.{line-same, faultless-closed, names-same}
 use Rattle.loading.specs.StandLaws.{empty-length, alone-stands}
 use Rattle.loading.specs.Unmarked.{unmarked, unmarkedTree}
 use Rattle.loading.specs.UnmarkedLaws.{unmarked-keeps, without-marks, unmarked-tokens, unmarked-fault}
