@@ -7,8 +7,8 @@ use Prim.Native.Nat.{ℕ, zero, suc, _+_, _<_}
 use lib.Dec.{eqb, ltb}
 use lib.ListN.{getD, set}
 use borrow.Author.Tests.{ltb-true}
-use Rattle.values.specs.Choice.{either}
-use Rattle.tokens.specs.Token.{END, M, SETAL, LOCK, isVariable, isDrive, whole, maxLines}
+use Rattle.values.specs.Choice.{either, ifNot}
+use Rattle.tokens.specs.Token.{END, M, SETAL, LOCK, isVariable, isDrive, whole, maxLines, isAxis, isCall}
 use Rattle.tokens.specs.Descent.{Answer, good, stop, _>>=_, indexAt}
 use Rattle.tokens.specs.ChooseLaws.{through, choose}
 use Rattle.working.specs.Working.{rightValue}
@@ -53,7 +53,7 @@ module _ (s numbers : List ℕ) (cancelled : List Bool) (number : ℕ) where
 
     drive-dress : (w p : ℕ) → driveOf s number (dress l m x) w p ≡ (driveOf s number x w p >>= dressDid l m)
     unfolding driveOf
-    drive-dress w p = choose (dressDid l m) (ltb 255 (indexAt s w p)) _ _ _ _ refl (through (dressDid l m) (fromValueOrAlarm (rightValue s (x .vars .r) (x .vars .cells) (p + 5))) _ _ (λ a. through (dressDid l m) (driveOrder number w (indexAt s w p) (a .0)) _ _ (λ o. refl)))
+    drive-dress w p = choose (dressDid l m) (isAxis (getD s (p + 2) 0)) _ _ _ _ (through (dressDid l m) (fromValueOrAlarm (rightValue s (x .vars .r) (x .vars .cells) (p + 5))) _ _ (λ a. through (dressDid l m) (driveOrder number w (indexAt s w p) (a .0)) _ _ (λ o. refl))) refl
 
     lock-dress : (b : Bool) (k p : ℕ) → lockOf cancelled (dress l m x) b k p ≡ (lockOf cancelled x b k p >>= dressDid l m)
     unfolding lockOf
@@ -61,7 +61,7 @@ module _ (s numbers : List ℕ) (cancelled : List Bool) (number : ℕ) where
 
     command-dress : (w p : ℕ) → commandOf s numbers cancelled number (dress l m x) w p ≡ (commandOf s numbers cancelled number x w p >>= dressDid l m)
     unfolding commandOf
-    command-dress w p = choose (dressDid l m) (eqb w M) _ _ _ _ refl (choose (dressDid l m) (eqb w SETAL) _ _ _ _ refl (lock-dress (eqb w LOCK) (rankIn numbers (whole (getD s (p + 2) 0)) 0) (p + 4)))
+    command-dress w p = choose (dressDid l m) (eqb w M) _ _ _ _ refl (choose (dressDid l m) (eqb w SETAL) _ _ _ _ refl (choose (dressDid l m) (isCall w) _ _ _ _ (lock-dress (eqb w LOCK) (rankIn numbers (whole (getD s (p + 2) 0)) 0) (p + 4)) refl))
 
     action-dress : (p : ℕ) → actionOf s numbers cancelled number (dress l m x) p ≡ (actionOf s numbers cancelled number x p >>= dressDid l m)
     unfolding actionOf
@@ -106,14 +106,15 @@ module _ (s numbers : List ℕ) (cancelled : List Bool) (number : ℕ) where
       (λ e. either (Ok (Fair x)) (isVariable (getD s p 0))
       (λ e. bind-ok (Fair x) (takenAt s (x .vars) (p + 5)) _ (λ a q. bind-ok (Fair x) (writeTo (a .vars) (getD s p 0) (indexAt s (getD s p 0) p) (a .value)) _ (λ v q. (tt, refl))))
       (λ e. either (Ok (Fair x)) (isDrive (getD s p 0))
-      (λ e. either (Ok (Fair x)) (ltb 255 (indexAt s (getD s p 0) p)) (λ e. tt)
+      (λ e. ifNot (Ok (Fair x)) (isAxis (getD s (p + 2) 0)) (λ e. tt)
       (λ e. bind-ok (Fair x) (fromValueOrAlarm (rightValue s (x .vars .r) (x .vars .cells) (p + 5))) _
       (λ a q. bind-ok (Fair x) (driveOrder number (getD s p 0) (indexAt s (getD s p 0) p) (a .0)) _ (λ o q. (tt, refl)))))
       (λ e. either (Ok (Fair x)) (eqb (getD s p 0) M) (λ e. (tt, refl))
       (λ e. either (Ok (Fair x)) (eqb (getD s p 0) SETAL) (λ e. (tt, refl))
+      (λ e. ifNot (Ok (Fair x)) (isCall (getD s p 0)) (λ e. tt)
       (λ e. either (Ok (Fair x)) (ltb k maxLines)
       (λ e. either (Ok (Fair x)) (getD cancelled k false) (λ c. (tt, refl)) (λ c. ((ltb-true k maxLines e, c, tt), refl)))
-      (λ e. tt))))))
+      (λ e. tt)))))))
 
   pub actions-fair : (j : ℕ) (x : World) (p : ℕ) → Ok (Fair x) (actionsOf s numbers cancelled number j x p)
   unfolding actionsOf

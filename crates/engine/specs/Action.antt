@@ -10,7 +10,7 @@ use Rattle.values.specs.Value.{lessThan}
 use Rattle.engine.specs.Order.{orderBytes}
 use Rattle.engine.specs.declared.order.Order.{Order}
 use Rattle.engine.specs.declared.order.Kind.the-variants as K
-use Rattle.tokens.specs.Token.{END, M, SETAL, LOCK, isVariable, isDrive, whole, maxLines}
+use Rattle.tokens.specs.Token.{END, M, SETAL, LOCK, isVariable, isDrive, isCall, isAxis, whole, maxLines}
 use Rattle.tokens.specs.Descent.{token, Answer, good, stop, _>>=_, indexAt}
 use Rattle.checking.specs.Fault.{isRemoval}
 use Rattle.working.specs.Working.{rightValue}
@@ -93,19 +93,19 @@ assignmentOf s x w p =
     writeTo (a .vars) w (indexAt s w p) (a .value) >>= λ v.
     did (a .next) (withVars x v)
 
--- POS[axis]=, FA[axis]=, MOV[axis]= and a sum; an axis that no byte holds is in no sound set
+-- POS[axis]=, FA[axis]=, MOV[axis]= and a sum; an index that is no axis is in no sound set
 unfoldable pub driveOf : List ℕ → ℕ → World → ℕ → ℕ → Answer Did
 driveOf s number x w p =
-    elim (ltb 255 (indexAt s w p)) [
-      | true ↦ stop unsound
-      | false ↦
+    elim (isAxis (token s (p + 2))) [
+      | true ↦
           fromValueOrAlarm (rightValue s (x .vars .r) (x .vars .cells) (p + 5)) >>= λ a.
           driveOrder number w (indexAt s w p) (a .0) >>= λ o.
           did (a .1) (ordered x o)
+      | false ↦ stop unsound
     ]
 
 module _ (s numbers : List ℕ) (cancelled : List Bool) (number : ℕ) where
-  -- M= and a number; SETAL, LOCK, UNLOCK and a number in brackets
+  -- M= and a number; SETAL, LOCK, UNLOCK and a number in brackets; no other word is a command
   unfoldable pub commandOf : World → ℕ → ℕ → Answer Did
   commandOf x w p =
       elim (eqb w M) [
@@ -113,7 +113,7 @@ module _ (s numbers : List ℕ) (cancelled : List Bool) (number : ℕ) where
         | false ↦
             elim (eqb w SETAL) [
               | true ↦ did (p + 4) (ordered x (orderOf number K.Setal 0 (pos (whole (token s (p + 2))))))
-              | false ↦ lockOf cancelled x (eqb w LOCK) (rankIn numbers (whole (token s (p + 2))) 0) (p + 4)
+              | false ↦ elim (isCall w) [ true ↦ lockOf cancelled x (eqb w LOCK) (rankIn numbers (whole (token s (p + 2))) 0) (p + 4) | false ↦ stop unsound ]
             ]
       ]
 

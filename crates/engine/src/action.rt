@@ -29,6 +29,8 @@ use tokens::token::M;
 use tokens::token::SETAL;
 use tokens::token::SIZE;
 use tokens::token::index_at;
+use tokens::token::is_axis;
+use tokens::token::is_call;
 use tokens::token::is_drive;
 use tokens::token::is_variable;
 use tokens::token::token_at;
@@ -199,7 +201,7 @@ fn add_order(out: &mut [u8; ORDERS], flags: Flags, o: Order, next: usize) -> Don
     did_all(next, f)
 }
 
-// POS[axis]=, FA[axis]=, MOV[axis]= and a sum; an axis that no byte holds is in no sound set.
+// POS[axis]=, FA[axis]=, MOV[axis]= and a sum; an index that is no axis is in no sound set.
 fn drive(
     set: &[u32; SIZE],
     r: &[i32; RS],
@@ -213,10 +215,10 @@ fn drive(
     requires { ⌜ (p < setSize) × (flags .count < maxOrders) ⌝ }
     ensures { λ x. ⌜ IsDone x (now (r .entry)) (now (cells .entry)) (now (out .exit)) (driveOf (now (set .entry)) number (worldOf (now (r .entry)) (now (cells .entry)) (now (out .entry)) flags) w p) × Within 1 x flags ⌝ }
 {
-    let axis = index_at(set, w, p);
-    if 255 < axis {
+    if !is_axis(token_at(set, p + 2)) {
         return not_done(UNSOUND, flags);
     }
+    let axis = index_at(set, w, p);
     let t = work(set, r, cells, p + 5);
     let good = t.good;
     if !good {
@@ -246,7 +248,7 @@ fn set_lock(cancelled: &[bool; LINES], flags: Flags, on: bool, k: usize, next: u
     did_all(next, f)
 }
 
-// M= and a number; SETAL, LOCK, UNLOCK and a number in brackets.
+// M= and a number; SETAL, LOCK, UNLOCK and a number in brackets; no other word is a command.
 fn command(
     set: &[u32; SIZE],
     numbers: &[u8; LINES],
@@ -286,6 +288,9 @@ fn command(
             },
             p + 4,
         );
+    }
+    if !is_call(w) {
+        return not_done(UNSOUND, flags);
     }
     set_lock(cancelled, flags, w == LOCK, rank_in(numbers, n), p + 4)
 }

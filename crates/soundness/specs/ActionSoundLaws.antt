@@ -114,14 +114,13 @@ drive-any number w axis v =
     (worked-holds (λ u. Unit {0}) (feedOf v) (λ u g. tt) (λ k g z. let q = taken-alarm (lessThan (pos 0) v) v notAllowed k g in omega arith)) (λ u t. tt)
 
 -- a drive that has its index names an axis, so its target fits a byte
-drive-axis : (s : List ℕ) (w p : ℕ) → isIndexed s w p ≡ true → isDrive w ≡ true → indexAt s w p ≤ 255
-unfolding isIndexed isIndex indexAt indexOf
+drive-axis : (s : List ℕ) (w p : ℕ) → isIndexed s w p ≡ true → isDrive w ≡ true → isAxis (token s (p + 2)) ≡ true
+unfolding isIndexed isIndex
 drive-axis s w p i d =
     let a : hasAxis w ≡ true = le-leb IM w (omega (arith, leb-true POS w (both (leb POS w) (leb w MOV) d .0))) in
     let t = getD s (p + 2) 0 in
     let e = both (eqb (getD s (p + 3) 0) RIGHT) (isIndex w t) (both (eqb (getD s (p + 1) 0) LEFT) (eqb (getD s (p + 3) 0) RIGHT && isIndex w t) i .1) .1 in
-    let x : isAxis t ≡ true = rw (isIndex, a) at e in
-    rw (indexOf, a) (omega (arith, leb-true t W (both (leb X t) (leb t W) x .1)))
+    rw (isIndex, a) at e
 
 module _ (s : List ℕ) (sound : soundLines s .sound ≡ true) (cancelled : List Bool) (number : ℕ) where
   abbrev Fine : World → Type 0
@@ -145,10 +144,10 @@ module _ (s : List ℕ) (sound : soundLines s .sound ≡ true) (cancelled : List
       holds-then VarsSound (λ (d : Did). (d .next ≡ q) × DidFine d) (writeTo (a .vars) w (indexAt s w p) (a .value)) _
       (write-keeps (a .vars) w (indexAt s w p) (a .value) (t .1) (t .0) f) (λ v d. (n, record { vars = d; flags = h .flags }))
 
-  drive-runs : (x : World) (w p : ℕ) → Fine x → indexAt s w p ≤ 255 → Beside (driveOf s number x w p) (faultFor false (sumAt s sight setSize (p + 5)))
+  drive-runs : (x : World) (w p : ℕ) → Fine x → isAxis (token s (p + 2)) ≡ true → Beside (driveOf s number x w p) (faultFor false (sumAt s sight setSize (p + 5)))
   unfolding driveOf
-  drive-runs x w p h fits =
-      either (λ z. Beside z (faultFor false (sumAt s sight setSize (p + 5)))) (ltb 255 (indexAt s w p)) (λ e. absurd (omega (arith, ltb-true 255 (indexAt s w p) e))) λ e.
+  drive-runs x w p h axis =
+      ifNot (λ z. Beside z (faultFor false (sumAt s sight setSize (p + 5)))) (isAxis (token s (p + 2))) (λ e. clash (cc)) λ e.
       runs-map ValueFine (λ a. a .1) DidFine (λ d. d .next) (fromValueOrAlarm (rightValue s (x .vars .r) (x .vars .cells) (p + 5))) _
       (faultFor false (sumAt s sight setSize (p + 5))) (right-runs s (x .vars) (p + 5) (h .vars)) λ a q n r.
       holds-then (λ o. Unit {0}) (λ (d : Did). (d .next ≡ q) × DidFine d) (driveOrder number w (indexAt s w p) (a .0)) _
@@ -181,7 +180,8 @@ module _ (s : List ℕ) (sound : soundLines s .sound ≡ true) (cancelled : List
       ifNot (Beside (commandOf s numbers cancelled number x w p)) (isWhole (token s (p + 2))) (λ e. tt) λ e.
       eitherBoth Beside (eqb w M) (λ m. either (Beside _) (eqb (token s (p + 1)) EQUALS) (λ e f. (refl, record { vars = h .vars; flags = h .flags })) (λ e. tt)) λ m.
       ifNot (Beside _) (isCall w && (eqb (token s (p + 1)) OPEN && eqb (token s (p + 3)) CLOSE)) (λ e. tt) λ c.
-      either (λ z. Beside z (read (callFault w n) (p + 4))) (eqb w SETAL) (λ e f. (refl, record { vars = h .vars; flags = h .flags })) λ e f.
+      either (λ z. Beside z (read (callFault w n) (p + 4))) (eqb w SETAL) (λ e f. (refl, record { vars = h .vars; flags = h .flags })) λ e.
+      ifNot (λ z. Beside z (read (callFault w n) (p + 4))) (isCall w) (λ i. let on : isCall w ≡ true = both (isCall w) _ c .0 in clash (cc)) λ i f.
       lock-runs x (eqb w LOCK) n (p + 4) h (call-number w n e f) (known (call-lock w (both (isCall w) _ c .0) e))
 
   -- a word below those of the commands is none

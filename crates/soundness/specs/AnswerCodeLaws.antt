@@ -8,7 +8,7 @@ use lib.Dec.{eqb, ltb}
 use lib.IntN.{ℤ, pos, natAbs}
 use lib.ListN.{length, getD}
 use Rattle.values.specs.Codes.{unsound, outOfRange, zeroDivisor, fifoEmpty, fifoFull, notAllowed}
-use Rattle.values.specs.Choice.{either, either-cond}
+use Rattle.values.specs.Choice.{either, either-cond, ifNot}
 use Rattle.values.specs.Value.{unit, inRange, lessThan, equalTo, valued, sumOf, differenceOf, productOf, quotientOf, negationOf, outputOf, feedOf}
 use Rattle.values.specs.Fifo.{places, fits, asFifoValue, appendAnswer, removeAnswer, emptyAnswer, sumFirst, oldestOf, newestOf, totalOf, countOf}
 use Rattle.values.specs.declared.arithmetic.Worked.{Worked}
@@ -17,7 +17,7 @@ use Rattle.values.specs.declared.fifo.FifoValue.{FifoValue}
 use Rattle.values.specs.declared.fifo.FifoValue.the-variants as S
 use Rattle.values.specs.declared.fifo.Moved.{Moved}
 use Rattle.values.specs.declared.fifo.Moved.the-variants as M
-use Rattle.tokens.specs.Token.{END, MARKER, PARAM, OUT, TIMER, R, M, POS, FA, SETAL, TRUE, FALSE, OPEN, CLOSE, MINUS, PLUS, NOT, TIMES, OVER, isNumber, isVariable, isFifo, isDrive, isFactor, isTerm, isCompare, whole, numberCarried, setSize, maxLines, maxActions}
+use Rattle.tokens.specs.Token.{END, MARKER, PARAM, OUT, TIMER, R, M, POS, FA, SETAL, TRUE, FALSE, OPEN, CLOSE, MINUS, PLUS, NOT, TIMES, OVER, isNumber, isVariable, isFifo, isDrive, isFactor, isTerm, isCompare, whole, numberCarried, setSize, maxLines, maxActions, isAxis, isCall}
 use Rattle.tokens.specs.Descent.{token, Answer, good, stop, _>>=_, Read, read, ends, then, upTo, Meaning, isRow, isIndexed, indexAt, joined, more, readProduct, readSum, readRest, readExpression, readClose, readVariable, readTruth, operandFrom, readOperand, sumAt, expressionAt}
 use Rattle.tokens.specs.Index.{isInside}
 use Rattle.checking.specs.Fault.{isRemoval}
@@ -286,11 +286,12 @@ module _ (s numbers : List ℕ) (cancelled : List Bool) where
       (λ e. stops-then TurnCode (takenAt s (x .vars) (p + 5)) _ (taken-by s (x .vars) (p + 5)) λ a.
       stops-then TurnCode (writeTo (a .vars) w (indexAt s w p) (a .value)) _ (write-by (a .vars) w (indexAt s w p) (a .value)) (λ v. tt)) λ e.
       either P (isDrive w)
-      (λ e. either P (ltb 255 (indexAt s w p)) (λ e. is-22) λ e.
+      (λ e. ifNot P (isAxis (token s (p + 2))) (λ e. is-22) λ e.
       stops-then TurnCode (fromValueOrAlarm (rightValue s (x .vars .r) (x .vars .cells) (p + 5))) _ (right-by s (x .vars .r) (x .vars .cells) (p + 5)) λ a.
       stops-then TurnCode (driveOrder number w (indexAt s w p) (a .0)) _ (drive-by number w (indexAt s w p) (a .0)) (λ o. tt)) λ e.
       either P (eqb w M) (λ e. tt) λ e.
       either P (eqb w SETAL) (λ e. tt) λ e.
+      ifNot P (isCall w) (λ e. is-22) λ e.
       either P (ltb k maxLines) (λ e. either P (getD cancelled k false) (λ e. tt) (λ e. tt)) (λ e. is-22)
 
   actions-by : (number j : ℕ) (x : World) (p : ℕ) → StopsBy TurnCode (actionsOf s numbers cancelled number j x p)

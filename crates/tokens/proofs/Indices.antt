@@ -4,7 +4,7 @@ use mathlib.Core.Bool.{true, false}
 use Prim.Native.Nat.{ℕ, _≤_}
 use native.Mathlib.Omega.{arith}
 use borrow.Author.Tests.{ne-eqb}
-use Rattle.tokens.specs.Token.{INA, MARKER, PARAM, R, TIMER, FIFO1, FIFO4, IM, between, isFifo}
+use Rattle.tokens.specs.Token.{IN, INA, OUT, MARKER, PARAM, R, TIMER, FIFO1, FIFO4, IM, between, isFifo}
 use Rattle.tokens.specs.Index.{firstIndex, lastIndex, isInside}
 use Rattle.tokens.proofs.Between.{inside, outside}
 
@@ -12,9 +12,9 @@ no-marker : (w : ℕ) → (w ≡ MARKER → ⊥) → (w ≡ PARAM → ⊥) → b
 no-marker w m p = outside MARKER PARAM w (λ l h. omega arith)
 
 -- the last index of every other word
-pub last-other : (w : ℕ) → (w ≡ R → ⊥) → (w ≡ MARKER → ⊥) → (w ≡ PARAM → ⊥) → (w ≡ TIMER → ⊥) → isFifo w ≡ false → (w ≡ INA → ⊥) → (w ≡ IM → ⊥) → lastIndex w ≡ 16
-last-other w r m p t f a x =
-    simp (ne-eqb w R r, no-marker w m p, ne-eqb w TIMER t, f, ne-eqb w INA a, ne-eqb w IM x)
+pub last-other : (w : ℕ) → (w ≡ R → ⊥) → (w ≡ MARKER → ⊥) → (w ≡ PARAM → ⊥) → (w ≡ TIMER → ⊥) → isFifo w ≡ false → (w ≡ INA → ⊥) → (w ≡ IM → ⊥) → (w ≡ IN → ⊥) → (w ≡ OUT → ⊥) → lastIndex w ≡ 0
+last-other w r m p t f a x i o =
+    simp (ne-eqb w R r, no-marker w m p, ne-eqb w TIMER t, f, ne-eqb w INA a, ne-eqb w IM x, ne-eqb w IN i, ne-eqb w OUT o)
 
 pub last-fifo : (w : ℕ) → isFifo w ≡ true → lastIndex w ≡ 4
 last-fifo w f =

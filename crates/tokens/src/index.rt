@@ -1,7 +1,9 @@
-// The indices that each variable has. The same table stands in specs/Index.
+// The indices that each variable has; a word that is no variable has none. The same table stands in specs/Index.
 ghost use mathlib.Core.Path.{_≡_};
 ghost use Rattle.tokens.specs.Index.{firstIndex, lastIndex, isInside};
+use crate::token::FIFO4;
 use crate::token::IM;
+use crate::token::IN;
 use crate::token::INA;
 use crate::token::MARKER;
 use crate::token::OUT;
@@ -13,10 +15,10 @@ use crate::token::is_fifo;
 pub fn first_index(w: u32) -> u32
     ensures { λ r. ⌜ r ≡ firstIndex w ⌝ }
 {
-    if w <= OUT {
+    if w < MARKER {
         return 1;
     }
-    if w == IM { 1 } else { 0 }
+    if FIFO4 < w { 1 } else { 0 }
 }
 
 fn last_index(w: u32) -> u32
@@ -40,7 +42,13 @@ fn last_index(w: u32) -> u32
     if w == INA {
         return 8;
     }
-    if w == IM { 6 } else { 16 }
+    if w == IM {
+        return 6;
+    }
+    if w == IN {
+        return 16;
+    }
+    if w == OUT { 16 } else { 0 }
 }
 
 // Whether the variable w has an index i.

@@ -141,7 +141,7 @@ pub fn is_fifo(t: u32) -> bool
     is_between(FIFO1, FIFO4, t)
 }
 
-fn is_axis(t: u32) -> bool
+pub fn is_axis(t: u32) -> bool
     ensures { λ r. ⌜ r ≡ isAxis t ⌝ }
 {
     is_between(X, W, t)

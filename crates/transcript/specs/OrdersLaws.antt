@@ -6,11 +6,11 @@ use native.Mathlib.Omega.{arith}
 use lib.Dec.{eqb, ltb}
 use lib.IntN.{ℤ}
 use lib.ListN.{length, getD, length-append}
-use Rattle.values.specs.Choice.{either}
+use Rattle.values.specs.Choice.{either, ifNot}
 use Rattle.engine.specs.Order.{maxOrders}
 use Rattle.engine.specs.OrderLaws.{eight-bytes}
 use Rattle.engine.specs.declared.order.Order.{Order}
-use Rattle.tokens.specs.Token.{END, M, SETAL, LOCK, isVariable, isDrive, whole, maxLines}
+use Rattle.tokens.specs.Token.{END, M, SETAL, LOCK, isVariable, isDrive, whole, maxLines, isAxis, isCall}
 use Rattle.tokens.specs.Descent.{Answer, good, stop, indexAt}
 use Rattle.working.specs.Operators.{isYes}
 use Rattle.working.specs.Working.{rightValue, conditionValue}
@@ -61,7 +61,7 @@ assignment-adds s x w p =
 drive-adds : (s : List ℕ) (number : ℕ) (x : World) (w p : ℕ) → DidAdd x 8 (driveOf s number x w p)
 unfolding driveOf
 drive-adds s number x w p =
-    either (DidAdd x 8) (ltb 255 (indexAt s w p)) (λ e. tt) λ e.
+    ifNot (DidAdd x 8) (isAxis (getD s (p + 2) 0)) (λ e. tt) λ e.
     bind-ok (λ (d : Did). Adds x 8 (d .world)) (fromValueOrAlarm (rightValue s (x .vars .r) (x .vars .cells) (p + 5))) _ λ a _.
     bind-ok (λ (d : Did). Adds x 8 (d .world)) (driveOrder number w (indexAt s w p) (a .0)) _ λ o _.
     order-adds x o
@@ -72,6 +72,7 @@ module _ (s numbers : List ℕ) (cancelled : List Bool) (number : ℕ) where
   command-adds x w p =
       either (DidAdd x 8) (eqb w M) (λ e. order-adds x _) λ e.
       either (DidAdd x 8) (eqb w SETAL) (λ g. order-adds x _) λ g.
+      ifNot (DidAdd x 8) (isCall w) (λ e. tt) λ e.
       lock-adds cancelled x (eqb w LOCK) (rankIn numbers (whole (getD s (p + 2) 0)) 0) (p + 4)
 
   action-adds : (x : World) (p : ℕ) → DidAdd x 8 (actionOf s numbers cancelled number x p)

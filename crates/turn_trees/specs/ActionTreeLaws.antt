@@ -9,7 +9,7 @@ use lib.IntN.{ℤ, pos}
 use lib.ListN.{length, getD}
 use borrow.Author.Tests.{eqb-false, le-leb, lt-ltb, le-ltb, eq-eqb, ne-eqb}
 use Rattle.values.specs.Choice.{holds, chosen, refused}
-use Rattle.tokens.specs.Token.{END, EQUALS, LEFT, RIGHT, IN, IM, POS, MOV, M, SETAL, LOCK, UNLOCK, FIFO4, X, W, isVariable, isDrive, isCall, whole, wholeToken, axisOf, setSize, maxLines}
+use Rattle.tokens.specs.Token.{END, EQUALS, LEFT, RIGHT, IN, IM, POS, MOV, M, SETAL, LOCK, UNLOCK, FIFO4, X, W, isVariable, isDrive, isCall, whole, wholeToken, axisOf, setSize, maxLines, isAxis}
 use Rattle.tokens.specs.Descent.{token, Answer, good, stop, _>>=_, isIndex, indexOf, indexAt}
 use Rattle.tokens.specs.ChooseLaws.{through, choose, choose-by}
 use Rattle.checking.specs.Fault.{isRemoval}
@@ -144,9 +144,10 @@ module _ (s : List ℕ) where
         let off : isVariable (token s p) ≡ false = rw c (beyond IN IM w (omega arith)) in
         let on : isDrive (token s p) ≡ true = rw c (holds (isDrive w) v) in
         let i : indexAt s w p ≡ axisOf m = j ∙ y .1 in
-        let few : ltb 255 (indexAt s w p) ≡ false = rw i (le-ltb 255 (axisOf m) (omega arith)) in
+        let two : p + 1 + 1 ≡ p + 2 = omega arith in
+        let t : isAxis (token s (p + 2)) ≡ true = rw (rw two at (h .1 .1 .0)) (holds (isAxis m) u) in
         refused _ _ _ (ne-eqb (token s p) END (λ z. omega arith)) ∙ refused _ _ _ off ∙ chosen _ _ _ on
-        ∙ rw c (refused _ _ _ few ∙ rw (right-tree (x .vars .r) (x .vars .cells) a (p + 5) q (omega arith) d e, i) (go (sumMeaning (valueOver (x .vars .r) (x .vars .cells)) a)))
+        ∙ rw c (chosen _ _ _ t ∙ rw (right-tree (x .vars .r) (x .vars .cells) a (p + 5) q (omega arith) d e, i) (go (sumMeaning (valueOver (x .vars .r) (x .vars .cells)) a)))
       where
         go : (r : Answer ℤ) → (upToPlace r q >>= λ b. driveOrder n w (axisOf m) (b .0) >>= λ o. did (b .1) (ordered x o))
             ≡ (r >>= (λ y. driveOrder n w (axisOf m) y >>= λ o. doneIn (ordered x o)) >>= doneUpTo q)
@@ -170,7 +171,7 @@ module _ (s : List ℕ) where
         let no : isDrive (token s p) ≡ false = rw c (beyond POS MOV w (omega arith)) in
         refused _ _ _ (ne-eqb (token s p) END (λ z. omega arith)) ∙ refused _ _ _ off ∙ refused _ _ _ no ∙ refused _ _ _ (ne-eqb (token s p) M (λ z. omega arith))
         ∙ choose-by (doneUpTo q) (eqb (token s p) SETAL) (eqb w SETAL) _ _ _ _ (rw c) (λ z. rw (t, four))
-        (λ z. let k = g (lock-word w v z) in rw (c, t, four, ← (k .1)) (lock-tree x (eqb w LOCK) (rankIn numbers m 0) q (k .0)))
+        (λ z. let k = g (lock-word w v z) in let on : isCall (token s p) ≡ true = rw c (holds (isCall w) v) in chosen _ _ _ on ∙ rw (c, t, four, ← (k .1)) (lock-tree x (eqb w LOCK) (rankIn numbers m 0) q (k .0)))
 
     -- ---- actions
 

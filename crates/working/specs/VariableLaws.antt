@@ -5,7 +5,7 @@ use Prim.Native.Nat.{ℕ, _+_, _<_, _≤_}
 use native.Mathlib.Omega.{arith}
 use lib.Dec.{eqb}
 use borrow.Author.Tests.{eqb-true, eqb-false, ne-eqb}
-use Rattle.tokens.specs.Token.{INA, OUT, MARKER, PARAM, R, TIMER, IM, isFifo}
+use Rattle.tokens.specs.Token.{IN, INA, OUT, MARKER, PARAM, R, TIMER, IM, isFifo}
 use Rattle.tokens.specs.Index.{lastIndex, isInside}
 use Rattle.tokens.proofs.Indices.{last-other, last-inside}
 use Rattle.working.specs.Variables.{cellStart, cellOf, cellCount}
@@ -25,7 +25,8 @@ cell-ends w r f =
     by-word w OUT (omega arith) λ o.
     by-word w INA (omega arith) λ a.
     by-word w IM (omega arith) λ x.
-    rw (last-other w r m p t f a x) (simp (ne-eqb w MARKER m, ne-eqb w PARAM p, ne-eqb w TIMER t, ne-eqb w OUT o, ne-eqb w INA a, ne-eqb w IM x) (omega arith))
+    by-word w IN (omega arith) λ i.
+    rw (last-other w r m p t f a x i o) (simp (ne-eqb w MARKER m, ne-eqb w PARAM p, ne-eqb w TIMER t, ne-eqb w OUT o, ne-eqb w INA a, ne-eqb w IM x) (omega arith))
 
 most : (b : Bool) {x y : ℕ} → x ≤ 110 → y ≤ 110 → cond b x y ≤ 110
 most true h k = h

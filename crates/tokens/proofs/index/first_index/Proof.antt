@@ -1,5 +1,7 @@
 -- `index::first_index` meets its contract: each return by the tests that led to it.
-use borrow.Author.Tests.{le-leb, lt-leb, ne-eqb}
+use native.Mathlib.Omega.{arith}
+use Rattle.tokens.specs.Token.{MARKER, FIFO4}
+use Rattle.tokens.proofs.Between.{is-inside, outside}
 use Rattle.tokens.proofs.index.first_index.Statement.{statement}
 use Rattle.tokens.proofs.index.first_index.Tie as tie
 
@@ -7,6 +9,6 @@ pub first-index-spec : {M : Type 1} → statement M
 first-index-spec =
     tie.close
     (tie.spec
-    (λ c. simp (le-leb _ _ (c .if1 .taken)))
-    (λ c. rw (c .if2 .taken))
-    (λ c. simp (lt-leb _ _ (c .before .if1 .left), ne-eqb _ _ (c .if2 .left))))
+    (λ c. simp (outside MARKER FIFO4 (c .before .args .w) (λ l h. omega (arith, c .if1 .taken))))
+    (λ c. simp (outside MARKER FIFO4 (c .before .before .args .w) (λ l h. omega (arith, c .if2 .taken))))
+    (λ c. simp (is-inside MARKER FIFO4 (c .before .before .args .w) (c .before .if1 .left) (c .if2 .left))))

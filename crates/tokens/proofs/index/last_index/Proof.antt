@@ -17,7 +17,10 @@ last-index-spec =
     (λ c. sym (last-fifo (c .before .before .before .before .before .before .args .w) (sym (c .before .is-fifo .ensures) ∙ c .if5 .taken)))
     (λ c. rw (c .if6 .taken))
     (λ c. rw (c .if7 .taken))
+    (λ c. rw (c .if8 .taken))
+    (λ c. rw (c .if9 .taken))
     (λ c.
-    let d = c .before .before .before in
+    let b = c .before .before in
+    let d = b .before .before .before in
     let e = d .before .before in
-    sym (last-other (e .before .before .before .args .w) (e .before .before .if1 .left) (e .before .if2 .left) (e .if3 .left) (d .before .if4 .left) (sym (d .is-fifo .ensures) ∙ c .before .before .if5 .left) (c .before .if6 .left) (c .if7 .left))))
+    sym (last-other (e .before .before .before .args .w) (e .before .before .if1 .left) (e .before .if2 .left) (e .if3 .left) (d .before .if4 .left) (sym (d .is-fifo .ensures) ∙ b .before .before .if5 .left) (b .before .if6 .left) (b .if7 .left) (c .before .if8 .left) (c .if9 .left))))
