@@ -35,7 +35,7 @@ actsNow s l k r x = takesByRule l k r && actsByRule (l .keyword) k r (triesByRul
 
 -- has the line of rank k acted since the last start, the load or a reset that was taken: looking back over the calls and their replies
 abbrev pub actedIn : ℕ → Call → Reply → Bool → Bool
-actedIn k (doBeat m word lent b) x before = isActed (x .acted) k || before
+actedIn k (doBeat g) x before = isActed (x .acted) k || before
 actedIn k (doLock n) x before = before
 actedIn k (doUnlock n) x before = before
 actedIn k (doCancel n) x before = before

@@ -1,6 +1,6 @@
 -- A set and some runs of it, computed over the engine's definitions: the code and the word of the lines that acted, call by call. Assumes nothing.
 use mathlib.Core.Path.{_≡_, refl}
-use mathlib.Core.Bool.{true, false}
+use mathlib.Core.Bool.{Bool, true, false}
 use mathlib.Core.List.{List, [], _∷_, map}
 use Prim.Native.Nat.{ℕ}
 use lib.IntN.{pos}
@@ -19,14 +19,14 @@ use Rattle.working.specs.Working.{valueOver, conditionValue, rightValue}
 use Rattle.engine.specs.Set.{linesFrom, linesRead, rankIn, namesKnown, allKnown, namedLines, soundLines}
 use Rattle.engine.specs.State.{powerOn}
 use Rattle.engine.specs.Timers.{grownCells}
-use Rattle.engine.specs.Cells.{inputCells, beatCells}
+use Rattle.engine.specs.Cells.{numberCount, inputCells, beatCells}
 use Rattle.engine.specs.Sound.{allRanged, isCell, areCells, allZero, isFifoSound, areFifos, isFlag, areFlags, stateSound, isSound}
 use Rattle.engine.specs.Write.{writeCell, writeInside, writeTo}
 use Rattle.engine.specs.Action.{lockOf, takenAt, assignmentOf, commandOf, actionOf}
 use Rattle.engine.specs.Actions.{actionsOf}
 use Rattle.engine.specs.Keyword.{tries, acts, remembers}
 use Rattle.engine.specs.Turn.{takesTurn, doTurn, tryTurn, turnOf, turnsFrom}
-use Rattle.engine.specs.Beat.{bufferSize, areInputs, begun, ended, beatOf, beatAnswer, beatBuffer}
+use Rattle.engine.specs.Beat.{bufferSize, areInputs, beatAnswer, beatBuffer, beatBegun, beatEnded, wholeBeat}
 use Rattle.engine.specs.NamedLine.{foundAt, found}
 use Rattle.engine.specs.Calls.{called, lockedCall, lockCall, unlockCall, cancelCall, resetCancelled, zeroed, resetState, resetCall}
 use Rattle.soundness.specs.Call.{Call, doBeat, doLock, doUnlock, doCancel, doReset}
@@ -48,9 +48,13 @@ lines =
     IDS ∷ EQUALS ∷ n 4 ∷ WHENEVER ∷ IN ∷ LEFT ∷ n 2 ∷ RIGHT ∷ SAME ∷ n 1 ∷ DO ∷ LOCK ∷ OPEN ∷ n 1 ∷ CLOSE ∷ END ∷
     []
 
--- a beat in AUTOMATIC with this input word
+-- a beat in this mode with this input word and this order buffer, each number 0
+abbrev pub beatWith : Bool → ℕ → List ℕ → Call
+beatWith automatic word buffer = doBeat (record { automatic = automatic; word = word; lent = replicate numberCount (pos 0); buffer = buffer })
+
+-- in AUTOMATIC with this input word
 abbrev pub beat : ℕ → Call
-beat word = doBeat true word (replicate 14 (pos 0)) (replicate bufferSize 0)
+beat word = beatWith true word (replicate bufferSize 0)
 
 -- the code and the word of the lines that acted, newest first
 abbrev pub words : List Call → List (ℕ × ℕ)
@@ -66,6 +70,6 @@ pub runs :
     × (words (beat 1 ∷ doLock 1 ∷ beat 0 ∷ beat 1 ∷ doUnlock 1 ∷ beat 1 ∷ doLock 9 ∷ []) ≡ (unknownLine, 0) ∷ (0, 4) ∷ (0, 0) ∷ (0, 4) ∷ (0, 4) ∷ (0, 0) ∷ (0, 7) ∷ [])
     × (words (beat 1 ∷ beat 0 ∷ doReset ∷ beat 0 ∷ beat 1 ∷ doLock 1 ∷ doCancel 3 ∷ beat 1 ∷ doReset ∷ beat 1 ∷ []) ≡ (0, 0) ∷ (0, 0) ∷ (0, 0) ∷ (0, 0) ∷ (unknownLine, 0) ∷ (0, 4) ∷ (0, 0) ∷ (0, 0) ∷ (0, 4) ∷ (0, 7) ∷ [])
     × (words (beat 3 ∷ beat 0 ∷ doUnlock 1 ∷ beat 1 ∷ beat 0 ∷ beat 1 ∷ []) ≡ (0, 5) ∷ (0, 4) ∷ (0, 4) ∷ (0, 0) ∷ (0, 4) ∷ (0, 15) ∷ [])
-    × (words (doBeat false 1 (replicate 14 (pos 0)) (replicate bufferSize 0) ∷ doBeat true 1 (replicate 14 (pos 0)) [] ∷ beat 1 ∷ []) ≡ (0, 7) ∷ (shortBuffer, 0) ∷ (0, 4) ∷ [])
-unfolding inRange valued lessThan equalTo wholeUnits outputOf grownTimer isIndex indexOf isIndexed indexAt joined more readProduct readSum readRest readExpression readVariable operandFrom readOperand sumAt expressionAt isInside cellOf variableValue lower opensTooMany wantingFault numberFault readFault joinSights sight isWritable writeFault codeFault idFault callFault countFault numberOf isRemoval assignedAt assignmentAt commandAt actionAt actionsAt lineParts bodyAt restAt lineAt joinTruths joinValues valueOver conditionValue rightValue linesFrom linesRead rankIn namesKnown allKnown namedLines soundLines powerOn grownCells inputCells beatCells allRanged isCell areCells allZero isFifoSound areFifos isFlag areFlags stateSound isSound writeCell writeInside writeTo lockOf takenAt assignmentOf commandOf actionOf actionsOf tries acts remembers takesTurn doTurn tryTurn turnOf turnsFrom areInputs begun ended beatOf beatAnswer beatBuffer foundAt found called lockedCall lockCall unlockCall cancelCall resetCancelled zeroed resetState resetCall step runFrom
+    × (words (beatWith false 1 (replicate bufferSize 0) ∷ beatWith true 1 [] ∷ beat 1 ∷ []) ≡ (0, 7) ∷ (shortBuffer, 0) ∷ (0, 4) ∷ [])
+unfolding inRange valued lessThan equalTo wholeUnits outputOf grownTimer isIndex indexOf isIndexed indexAt joined more readProduct readSum readRest readExpression readVariable operandFrom readOperand sumAt expressionAt isInside cellOf variableValue lower opensTooMany wantingFault numberFault readFault joinSights sight isWritable writeFault codeFault idFault callFault countFault numberOf isRemoval assignedAt assignmentAt commandAt actionAt actionsAt lineParts bodyAt restAt lineAt joinTruths joinValues valueOver conditionValue rightValue linesFrom linesRead rankIn namesKnown allKnown namedLines soundLines powerOn grownCells inputCells beatCells allRanged isCell areCells allZero isFifoSound areFifos isFlag areFlags stateSound isSound writeCell writeInside writeTo lockOf takenAt assignmentOf commandOf actionOf actionsOf tries acts remembers takesTurn doTurn tryTurn turnOf turnsFrom areInputs beatBegun beatEnded wholeBeat beatAnswer beatBuffer foundAt found called lockedCall lockCall unlockCall cancelCall resetCancelled zeroed resetState resetCall step runFrom
 runs = (refl, refl, refl, refl, refl)

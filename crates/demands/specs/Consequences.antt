@@ -7,7 +7,6 @@ use Prim.Native.Nat.{ℕ, zero, suc, _+_, _<_, _≤_, _^_}
 use native.Mathlib.Omega.{arith}
 use native.Mathlib.Nat.{zero-div}
 use lib.Dec.{eqb, ltb}
-use lib.IntN.{ℤ}
 use lib.ListN.{length, getD}
 use Rattle.values.specs.Codes.{shortBuffer, wrongNumbers, unsound}
 use Rattle.values.specs.Numbers.{clash}
@@ -26,7 +25,7 @@ use Rattle.engine.specs.Sound.{isSound}
 use Rattle.engine.specs.Action.{World, Note, Did, fromValueOrAlarm}
 use Rattle.engine.specs.Actions.{actionsOf}
 use Rattle.engine.specs.Turn.{Entry, beatIn, worked, locks, cancels, resets, Turned, counted, takesTurn, doTurn, turnOf, turnsFrom}
-use Rattle.engine.specs.Beat.{bufferSize, areInputs, begun, beatOf, answered, beatAnswer}
+use Rattle.engine.specs.Beat.{bufferSize, areInputs, Given, beatBegun, wholeBeat, turnedAnswer, beatAnswer}
 use Rattle.engine.specs.NamedLine.{found}
 use Rattle.engine.specs.Calls.{withLocked, called, lockedCall, lockCall, unlockCall}
 use Rattle.engine.specs.SetCountLaws.{sound-count}
@@ -42,18 +41,18 @@ use Rattle.demands.specs.Demand3.{beat-same, demand-3}
 
 -- ---- a beat that ended well, by the rule
 
-module _ (s : List ℕ) (v : Rest) (r : History) (m : Bool) (word : ℕ) (lent : List ℤ) (size : ℕ) where
+module _ (s : List ℕ) (v : Rest) (r : History) (g : Given) where
   -- it is its mode and the turns of all the lines
-  pub beat-turns : (t : Turned) → beatByRule s v r m word lent size ≡ good t →
-      (u : Turned) × (turnsByRule s (soundLines s) (soundLines s .count) 0 (beatIn m ∷ r) (begunBy v word lent) ≡ good u) × (t ≡ record { world = u .world; entries = beatIn m ∷ u .entries })
+  pub beat-turns : (t : Turned) → beatByRule s v r g ≡ good t →
+      (u : Turned) × (turnsByRule s (soundLines s) (soundLines s .count) 0 (beatIn (g .automatic) ∷ r) (begunBy v g) ≡ good u) × (t ≡ record { world = u .world; entries = beatIn (g .automatic) ∷ u .entries })
   unfolding beatByRule
-  beat-turns t = go (isSound s (stateBy (soundLines s) v r)) (ltb size bufferSize) (areInputs lent) (turnsByRule s (soundLines s) (soundLines s .count) 0 (beatIn m ∷ r) (begunBy v word lent))
+  beat-turns t = go (isSound s (stateBy (soundLines s) v r)) (ltb (length (g .buffer)) bufferSize) (areInputs (g .lent)) (turnsByRule s (soundLines s) (soundLines s .count) 0 (beatIn (g .automatic) ∷ r) (begunBy v g))
     where
       go : (a b c : Bool) (d : Answer Turned) →
           (let x : Answer Turned = elim a [
-            | true ↦ elim b [ true ↦ stop shortBuffer | false ↦ elim c [ true ↦ d >>= λ t. good (record { world = t .world; entries = beatIn m ∷ t .entries }) | false ↦ stop wrongNumbers ] ]
+            | true ↦ elim b [ true ↦ stop shortBuffer | false ↦ elim c [ true ↦ d >>= λ t. good (record { world = t .world; entries = beatIn (g .automatic) ∷ t .entries }) | false ↦ stop wrongNumbers ] ]
             | false ↦ stop unsound
-          ] in x ≡ good t) → (u : Turned) × (d ≡ good u) × (t ≡ record { world = u .world; entries = beatIn m ∷ u .entries })
+          ] in x ≡ good t) → (u : Turned) × (d ≡ good u) × (t ≡ record { world = u .world; entries = beatIn (g .automatic) ∷ u .entries })
       go true true c d e = clash (cc)
       go true false true (good u) e = (u, refl, cc)
       go true false true (stop k) e = clash (cc)
@@ -61,12 +60,12 @@ module _ (s : List ℕ) (v : Rest) (r : History) (m : Bool) (word : ℕ) (lent :
       go false b c d e = clash (cc)
 
   -- what it did for the line of rank k
-  beat-done : (t : Turned) (k : ℕ) → k < soundLines s .count → beatByRule s v r m word lent size ≡ good t →
-      (u : Turned) × Done s (soundLines s) k (beatIn m ∷ r) (begunBy v word lent) u × (t ≡ record { world = u .world; entries = beatIn m ∷ u .entries })
-  unfolding begunBy begun
+  beat-done : (t : Turned) (k : ℕ) → k < soundLines s .count → beatByRule s v r g ≡ good t →
+      (u : Turned) × Done s (soundLines s) k (beatIn (g .automatic) ∷ r) (begunBy v g) u × (t ≡ record { world = u .world; entries = beatIn (g .automatic) ∷ u .entries })
+  unfolding begunBy beatBegun
   beat-done t k h e =
       let u = beat-turns t e in
-      (u .0, done s (soundLines s) (soundLines s .count) k (beatIn m ∷ r) (begunBy v word lent) (u .0) h refl (u .1), u .2)
+      (u .0, done s (soundLines s) (soundLines s .count) k (beatIn (g .automatic) ∷ r) (begunBy v g) (u .0) h refl (u .1), u .2)
 
 -- ---- the engine's beat
 
@@ -74,21 +73,21 @@ module _ (s : List ℕ) (v : Rest) (r : History) (m : Bool) (word : ℕ) (lent :
 -- and its own (`own`, `taken`); it took a turn just where the rule, over the history so far, says so (`takes`), and acted just where the rule, over the history so far and in
 -- the world in which its turn came, says so (`acted`), which is when its turn added its bit (`added`); until then nothing was said of its condition in
 -- this beat (`ever-before`, `was-before`); and after the beat the history says of it what it gave in that world, if it was worked, and else what it said before (`ever`, `was`)
-pub record Came (s : List ℕ) (st : State) (r : History) (m : Bool) (word : ℕ) (lent : List ℤ) (k : ℕ) (t : Turned) : Type 0 where
+pub record Came (s : List ℕ) (st : State) (r : History) (g : Given) (k : ℕ) (t : Turned) : Type 0 where
   pub before : Turned
-  pub come : turnsFrom s (soundLines s .numbers) (st .cancelled) m (soundLines s .items) k 0 (begun st word lent) ≡ good before
+  pub come : turnsFrom s (soundLines s .numbers) (st .cancelled) (g .automatic) (soundLines s .items) k 0 (beatBegun st g) ≡ good before
   pub own : Turned
-  pub taken : turnOf s (soundLines s .numbers) (st .cancelled) m (getD (soundLines s .items) k noLine) k (before .world) ≡ good own
-  pub takes : takesTurn s (soundLines s .numbers) (st .cancelled) m (getD (soundLines s .items) k noLine) k (before .world)
-      ≡ takesByRule (getD (soundLines s .items) k noLine) k (after (before .entries) (beatIn m ∷ r))
-  pub acted : isActed (t .world .acted) k ≡ actsNow s (getD (soundLines s .items) k noLine) k (after (before .entries) (beatIn m ∷ r)) (before .world)
+  pub taken : turnOf s (soundLines s .numbers) (st .cancelled) (g .automatic) (getD (soundLines s .items) k noLine) k (before .world) ≡ good own
+  pub takes : takesTurn s (soundLines s .numbers) (st .cancelled) (g .automatic) (getD (soundLines s .items) k noLine) k (before .world)
+      ≡ takesByRule (getD (soundLines s .items) k noLine) k (after (before .entries) (beatIn (g .automatic) ∷ r))
+  pub acted : isActed (t .world .acted) k ≡ actsNow s (getD (soundLines s .items) k noLine) k (after (before .entries) (beatIn (g .automatic) ∷ r)) (before .world)
   pub added : own .world .acted ≡ before .world .acted + cond (isActed (t .world .acted) k) (2 ^ k) 0
-  pub ever-before : everTrue k (after (before .entries) (beatIn m ∷ r)) ≡ everTrue k r
-  pub was-before : wasTrue k (after (before .entries) (beatIn m ∷ r)) ≡ wasTrue k r
+  pub ever-before : everTrue k (after (before .entries) (beatIn (g .automatic) ∷ r)) ≡ everTrue k r
+  pub was-before : wasTrue k (after (before .entries) (beatIn (g .automatic) ∷ r)) ≡ wasTrue k r
   pub ever : everTrue k (after (t .entries) r) ≡
-      triesNow (getD (soundLines s .items) k noLine) k (after (before .entries) (beatIn m ∷ r)) && conditionNow s (getD (soundLines s .items) k noLine) (before .world) || everTrue k r
+      triesNow (getD (soundLines s .items) k noLine) k (after (before .entries) (beatIn (g .automatic) ∷ r)) && conditionNow s (getD (soundLines s .items) k noLine) (before .world) || everTrue k r
   pub was : wasTrue k (after (t .entries) r) ≡
-      cond (triesNow (getD (soundLines s .items) k noLine) k (after (before .entries) (beatIn m ∷ r))) (conditionNow s (getD (soundLines s .items) k noLine) (before .world)) (wasTrue k r)
+      cond (triesNow (getD (soundLines s .items) k noLine) k (after (before .entries) (beatIn (g .automatic) ∷ r))) (conditionNow s (getD (soundLines s .items) k noLine) (before .world)) (wasTrue k r)
 
 -- a turn of the engine where the history gives the locks and the memory, and says these cancels and this mode
 module _ (s : List ℕ) (k : ℕ) (h : k < soundLines s .count) (r : History) (x : World) (cancelled : List Bool) (m : Bool) (p : byRank (cancelledBy (soundLines s) r) ≡ cancelled) (q : isAutomatic r ≡ m) where
@@ -102,35 +101,35 @@ module _ (s : List ℕ) (k : ℕ) (h : k < soundLines s .count) (r : History) (x
       turnOf s (soundLines s .numbers) cancelled m line k (flagged (soundLines s) r x) ≡ good (record { world = flagged (soundLines s) (after (t .entries) r) (t .world); entries = t .entries })
   turn-said t e = rw (← p, ← q) (turn-same (soundLines s) s k r x (omega (arith, sound-count s)) h ∙ rw e)
 
-module _ (s : List ℕ) (v : Rest) (r : History) (m : Bool) (word : ℕ) (lent : List ℤ) (size : ℕ) (t : Turned) where
+module _ (s : List ℕ) (v : Rest) (r : History) (g : Given) (t : Turned) where
   -- the beat of the engine is the beat by the rule, in flags
-  pub unflagged : beatOf s (stateBy (soundLines s) v r) m word lent size ≡ good t →
-      (u : Turned) × (beatByRule s v r m word lent size ≡ good u) × (t .world .acted ≡ u .world .acted) × (t .entries ≡ u .entries) × (t .world .orders ≡ u .world .orders)
-  unflagged e = go (beatByRule s v r m word lent size) refl (sym (beat-same s v r m word lent size) ∙ e)
+  pub unflagged : wholeBeat s (stateBy (soundLines s) v r) g ≡ good t →
+      (u : Turned) × (beatByRule s v r g ≡ good u) × (t .world .acted ≡ u .world .acted) × (t .entries ≡ u .entries) × (t .world .orders ≡ u .world .orders)
+  unflagged e = go (beatByRule s v r g) refl (sym (beat-same s v r g) ∙ e)
     where
-      go : (a : Answer Turned) → beatByRule s v r m word lent size ≡ a → (a >>= flaggedTurn (soundLines s) r) ≡ good t →
-          (u : Turned) × (beatByRule s v r m word lent size ≡ good u) × (t .world .acted ≡ u .world .acted) × (t .entries ≡ u .entries) × (t .world .orders ≡ u .world .orders)
+      go : (a : Answer Turned) → beatByRule s v r g ≡ a → (a >>= flaggedTurn (soundLines s) r) ≡ good t →
+          (u : Turned) × (beatByRule s v r g ≡ good u) × (t .world .acted ≡ u .world .acted) × (t .entries ≡ u .entries) × (t .world .orders ≡ u .world .orders)
       go (good u) p q =
           let h : t ≡ record { world = flagged (soundLines s) (after (u .entries) r) (u .world); entries = u .entries } = cc in
           (u, p, ap (λ y. y .world .acted) h, ap (λ y. y .entries) h, ap (λ y. y .world .orders) h)
       go (stop c) p q = clash (cc)
 
-  came : (k : ℕ) → k < soundLines s .count → beatOf s (stateBy (soundLines s) v r) m word lent size ≡ good t → Came s (stateBy (soundLines s) v r) r m word lent k t
-  unfolding stateBy begun begunBy
-  came k h e = let w = unflagged e in let d = beat-done s v r m word lent size (w .0) k h (w .1) in go (w .0) (w .2) (w .3) (d .0) (d .1) (d .2)
+  came : (k : ℕ) → k < soundLines s .count → wholeBeat s (stateBy (soundLines s) v r) g ≡ good t → Came s (stateBy (soundLines s) v r) r g k t
+  unfolding stateBy beatBegun begunBy
+  came k h e = let w = unflagged e in let d = beat-done s v r g (w .0) k h (w .1) in go (w .0) (w .2) (w .3) (d .0) (d .1) (d .2)
     where
-      go : (w : Turned) → t .world .acted ≡ w .world .acted → t .entries ≡ w .entries → (u : Turned) → Done s (soundLines s) k (beatIn m ∷ r) (begunBy v word lent) u →
-          w ≡ record { world = u .world; entries = beatIn m ∷ u .entries } → Came s (stateBy (soundLines s) v r) r m word lent k t
+      go : (w : Turned) → t .world .acted ≡ w .world .acted → t .entries ≡ w .entries → (u : Turned) → Done s (soundLines s) k (beatIn (g .automatic) ∷ r) (begunBy v g) u →
+          w ≡ record { world = u .world; entries = beatIn (g .automatic) ∷ u .entries } → Came s (stateBy (soundLines s) v r) r g k t
       go w p a u d q =
-          let r′ : History = after (d .before .entries) (beatIn m ∷ r) in
-          let quiet = is-ok (Quiet (soundLines s) (beatIn m ∷ r)) _ (d .before) (d .come) (turns-quiet (soundLines s) s k 0 (beatIn m ∷ r) (begunBy v word lent)) in
+          let r′ : History = after (d .before .entries) (beatIn (g .automatic) ∷ r) in
+          let quiet = is-ok (Quiet (soundLines s) (beatIn (g .automatic) ∷ r)) _ (d .before) (d .come) (turns-quiet (soundLines s) s k 0 (beatIn (g .automatic) ∷ r) (begunBy v g)) in
           let bit = ap (λ n. isActed n k) (p ∙ ap (λ y. y .world .acted) q) ∙ d .acted in
           record {
             before = record { world = flagged (soundLines s) r′ (d .before .world); entries = d .before .entries };
-            come = turns-same (soundLines s) s k 0 (beatIn m ∷ r) (begunBy v word lent) (sound-count s) (omega arith) ∙ rw (d .come);
+            come = turns-same (soundLines s) s k 0 (beatIn (g .automatic) ∷ r) (begunBy v g) (sound-count s) (omega arith) ∙ rw (d .come);
             own = record { world = flagged (soundLines s) (after (d .own .entries) r′) (d .own .world); entries = d .own .entries };
-            taken = turn-said s k h r′ (d .before .world) _ m (quiet .0) (quiet .1) (d .own) (d .taken);
-            takes = takes-said s k h r′ (d .before .world) _ m (quiet .0) (quiet .1);
+            taken = turn-said s k h r′ (d .before .world) _ (g .automatic) (quiet .0) (quiet .1) (d .own) (d .taken);
+            takes = takes-said s k h r′ (d .before .world) _ (g .automatic) (quiet .0) (quiet .1);
             acted = bit;
             added = d .word ∙ ap (λ b. d .before .world .acted + cond b (2 ^ k) 0) (sym bit);
             ever-before = d .ever-before;
@@ -143,7 +142,7 @@ module _ (s : List ℕ) (v : Rest) (r : History) (m : Bool) (word : ℕ) (lent :
 pub no-bit : (k : ℕ) → isActed 0 k ≡ false
 no-bit k = rw (zero-div (2 ^ k))
 
-acted-good : (st : State) (k : ℕ) (a : Answer Turned) → isActed (answered st a .acted) k ≡ true → (t : Turned) × (a ≡ good t) × (isActed (t .world .acted) k ≡ true)
+acted-good : (st : State) (k : ℕ) (a : Answer Turned) → isActed (turnedAnswer st a .acted) k ≡ true → (t : Turned) × (a ≡ good t) × (isActed (t .world .acted) k ≡ true)
 acted-good st k (good t) e = (t, refl, e)
 acted-good st k (stop c) e = let z : false ≡ true = sym (no-bit k) ∙ e in clash (cc)
 
@@ -184,16 +183,16 @@ module _ (s : List ℕ) (k : ℕ) (h : k < soundLines s .count) (w : getD (sound
       go false = refl
 
   -- a beat that ended well
-  once-good : (m : Bool) (word : ℕ) (lent : List ℤ) (n : Now Rest) (t u : Turned) → Done s (soundLines s) k (beatIn m ∷ n .written) (begunBy (n .kept) word lent) u →
-      t ≡ record { world = u .world; entries = beatIn m ∷ u .entries } → Once n → isActed (t .world .acted) k || actedSince k (n .told) ≡ true → everTrue k (after (t .entries) (n .written)) ≡ true
-  once-good m word lent n t u d q f g =
-      ap (λ y. everTrue k (after (y .entries) (n .written))) q ∙ d .ever ∙ go (isActed (t .world .acted) k) (ap (λ y. isActed (y .world .acted) k) q ∙ d .acted) g
+  once-good : (g : Given) (n : Now Rest) (t u : Turned) → Done s (soundLines s) k (beatIn (g .automatic) ∷ n .written) (begunBy (n .kept) g) u →
+      t ≡ record { world = u .world; entries = beatIn (g .automatic) ∷ u .entries } → Once n → isActed (t .world .acted) k || actedSince k (n .told) ≡ true → everTrue k (after (t .entries) (n .written)) ≡ true
+  once-good g n t u d q f i =
+      ap (λ y. everTrue k (after (y .entries) (n .written))) q ∙ d .ever ∙ go (isActed (t .world .acted) k) (ap (λ y. isActed (y .world .acted) k) q ∙ d .acted) i
     where
       line : Line
       line = getD (soundLines s .items) k noLine
 
       r : History
-      r = after (d .before .entries) (beatIn m ∷ n .written)
+      r = after (d .before .entries) (beatIn (g .automatic) ∷ n .written)
 
       c : Bool
       c = conditionNow s line (d .before .world)
@@ -204,13 +203,13 @@ module _ (s : List ℕ) (k : ℕ) (h : k < soundLines s .count) (w : getD (sound
           rw (fresh (takesByRule line k r) (triesByRule (line .keyword) k r) c (everTrue k r) z .0)
       go false p e = or-right (triesNow line k r && c) (everTrue k (n .written)) (f e)
 
-  once-beat : (m : Bool) (word : ℕ) (lent : List ℤ) (b : List ℕ) (n : Now Rest) → Once n → Once (stepByRule s (doBeat m word lent b) n)
+  once-beat : (g : Given) (n : Now Rest) → Once n → Once (stepByRule s (doBeat g) n)
   unfolding stepByRule
-  once-beat m word lent b n f = go (beatByRule s (n .kept) (n .written) m word lent (length b)) refl
+  once-beat g n f = go (beatByRule s (n .kept) (n .written) g) refl
     where
-      go : (a : Answer Turned) → beatByRule s (n .kept) (n .written) m word lent (length b) ≡ a → Once (beatenByRule (doBeat m word lent b) a b n)
-      go (good t) e g = let d = beat-done s (n .kept) (n .written) m word lent (length b) t k h e in once-good m word lent n t (d .0) (d .1) (d .2) f g
-      go (stop c) e g = f (or-either (isActed 0 k) (actedSince k (n .told)) g (no-bit k))
+      go : (a : Answer Turned) → beatByRule s (n .kept) (n .written) g ≡ a → Once (beatenByRule g a n)
+      go (good t) e i = let d = beat-done s (n .kept) (n .written) g t k h e in once-good g n t (d .0) (d .1) (d .2) f i
+      go (stop c) e i = f (or-either (isActed 0 k) (actedSince k (n .told)) i (no-bit k))
 
   once-reset : (n : Now Rest) → Once n → Once (resetByRule s n)
   unfolding resetByRule
@@ -225,7 +224,7 @@ module _ (s : List ℕ) (k : ℕ) (h : k < soundLines s .count) (w : getD (sound
 
   once-step : (c : Call) (n : Now Rest) → Once n → Once (stepByRule s c n)
   unfolding stepByRule
-  once-step (doBeat m word lent b) n f = once-beat m word lent b n f
+  once-step (doBeat g) n f = once-beat g n f
   once-step (doLock i) n f = λ g. noted-ever (codeByRule s (n .kept) (n .written) i) (locks (rankOf s i) true ∷ []) (n .written) refl ∙ f g
   once-step (doUnlock i) n f = λ g. noted-ever (codeByRule s (n .kept) (n .written) i) (locks (rankOf s i) false ∷ []) (n .written) refl ∙ f g
   once-step (doCancel i) n f = λ g. noted-ever (codeByRule s (n .kept) (n .written) i) (cancels (rankOf s i) ∷ []) (n .written) refl ∙ f g
@@ -242,9 +241,9 @@ module _ (s : List ℕ) (k : ℕ) (h : k < soundLines s .count) (w : getD (sound
 
 -- ---- tests
 
-begun-none : (v : Rest) (word : ℕ) (lent : List ℤ) → begunBy v word lent .acted ≡ 0
-unfolding begunBy begun
-begun-none v word lent = refl
+begun-none : (v : Rest) (g : Given) → begunBy v g .acted ≡ 0
+unfolding begunBy beatBegun
+begun-none v g = refl
 
 not-yet : (a m : Bool) → (a ≡ true → m ≡ true) → m ≡ false → a ≡ false
 not-yet true m f p = sym (f refl) ∙ p
@@ -264,43 +263,43 @@ module _ (s : List ℕ) (k : ℕ) (l : Line) (r : History) (x : World) where
 
 -- ---- the consequences, for any set, any calls from the load on, and a beat after them
 
-module _ (s : List ℕ) (cs : List Call) (m : Bool) (word : ℕ) (lent : List ℤ) (k : ℕ) where
+module _ (s : List ℕ) (cs : List Call) (g : Given) (k : ℕ) where
   -- in every beat the control acts on just the lines that the rule gives: of a line of the set, of rank k
-  pub acts-just : (size : ℕ) (t : Turned) → k < soundLines s .count → beatOf s (run s cs .kept) m word lent size ≡ good t → Came s (run s cs .kept) (run s cs .written) m word lent k t
-  acts-just size t h = rw (demand-3 s cs) (λ e. came s (runByRule s cs .kept) (runByRule s cs .written) m word lent size t k h e)
+  pub acts-just : (t : Turned) → k < soundLines s .count → wholeBeat s (run s cs .kept) g ≡ good t → Came s (run s cs .kept) (run s cs .written) g k t
+  acts-just t h = rw (demand-3 s cs) (λ e. came s (runByRule s cs .kept) (runByRule s cs .written) g t k h e)
 
   -- and on no other rank
-  pub acts-no-other : (size : ℕ) (t : Turned) → soundLines s .count ≤ k → beatOf s (run s cs .kept) m word lent size ≡ good t → isActed (t .world .acted) k ≡ false
-  acts-no-other size t h = rw (demand-3 s cs) go
+  pub acts-no-other : (t : Turned) → soundLines s .count ≤ k → wholeBeat s (run s cs .kept) g ≡ good t → isActed (t .world .acted) k ≡ false
+  acts-no-other t h = rw (demand-3 s cs) go
     where
-      go : beatOf s (stateBy (soundLines s) (runByRule s cs .kept) (runByRule s cs .written)) m word lent size ≡ good t → isActed (t .world .acted) k ≡ false
+      go : wholeBeat s (stateBy (soundLines s) (runByRule s cs .kept) (runByRule s cs .written)) g ≡ good t → isActed (t .world .acted) k ≡ false
       go e =
-          let u = unflagged s (runByRule s cs .kept) (runByRule s cs .written) m word lent size t e in
-          let b = beat-turns s (runByRule s cs .kept) (runByRule s cs .written) m word lent size (u .0) (u .1) in
+          let u = unflagged s (runByRule s cs .kept) (runByRule s cs .written) g t e in
+          let b = beat-turns s (runByRule s cs .kept) (runByRule s cs .written) g (u .0) (u .1) in
           ap (λ n. isActed n k) (u .2 ∙ ap (λ y. y .world .acted) (b .2))
-          ∙ no-other s (soundLines s) (soundLines s .count) k (beatIn m ∷ runByRule s cs .written) (begunBy (runByRule s cs .kept) word lent) (b .0) h (begun-none (runByRule s cs .kept) word lent) (b .1)
+          ∙ no-other s (soundLines s) (soundLines s .count) k (beatIn (g .automatic) ∷ runByRule s cs .written) (begunBy (runByRule s cs .kept) g) (b .0) h (begun-none (runByRule s cs .kept) g) (b .1)
 
   -- between two starts a WHEN line acts at most once: where it acts in a beat, it has not acted since the last start
-  pub once : (b : List ℕ) → k < soundLines s .count → getD (soundLines s .items) k noLine .keyword ≡ WHEN →
-      isActed (beatAnswer s (run s cs .kept) m word lent b .acted) k ≡ true → actedSince k (run s cs .told) ≡ false
+  pub once : k < soundLines s .count → getD (soundLines s .items) k noLine .keyword ≡ WHEN →
+      isActed (beatAnswer s (run s cs .kept) g .acted) k ≡ true → actedSince k (run s cs .told) ≡ false
   unfolding beatAnswer
-  once b h w e =
-      let g = acted-good (run s cs .kept) k (beatOf s (run s cs .kept) m word lent (length b)) e in
-      let d = acts-just (length b) (g .0) h (g .1) in
+  once h w e =
+      let a = acted-good (run s cs .kept) k (wholeBeat s (run s cs .kept) g) e in
+      let d = acts-just (a .0) h (a .1) in
       let line : Line = getD (soundLines s .items) k noLine in
       not-yet (actedSince k (run s cs .told)) (everTrue k (run s cs .written)) (once-so-far s k h w cs)
-      (sym (d .ever-before) ∙ when-fresh s k line (after (d .before .entries) (beatIn m ∷ run s cs .written)) (d .before .world) w (sym (d .acted) ∙ g .2))
+      (sym (d .ever-before) ∙ when-fresh s k line (after (d .before .entries) (beatIn (g .automatic) ∷ run s cs .written)) (d .before .world) w (sym (d .acted) ∙ a .2))
 
   -- an EVERY line acts only where its condition is true, in the world in which its turn comes, and at its turn before, since the last start, it was false or there was none
-  pub edge : (b : List ℕ) → k < soundLines s .count → getD (soundLines s .items) k noLine .keyword ≡ EVERY →
-      isActed (beatAnswer s (run s cs .kept) m word lent b .acted) k ≡ true →
-      (before : Turned) × (turnsFrom s (soundLines s .numbers) (run s cs .kept .cancelled) m (soundLines s .items) k 0 (begun (run s cs .kept) word lent) ≡ good before)
+  pub edge : k < soundLines s .count → getD (soundLines s .items) k noLine .keyword ≡ EVERY →
+      isActed (beatAnswer s (run s cs .kept) g .acted) k ≡ true →
+      (before : Turned) × (turnsFrom s (soundLines s .numbers) (run s cs .kept .cancelled) (g .automatic) (soundLines s .items) k 0 (beatBegun (run s cs .kept) g) ≡ good before)
       × (conditionNow s (getD (soundLines s .items) k noLine) (before .world) ≡ true) × (wasTrue k (run s cs .written) ≡ false)
   unfolding beatAnswer
-  edge b h w e =
-      let g = acted-good (run s cs .kept) k (beatOf s (run s cs .kept) m word lent (length b)) e in
-      let d = acts-just (length b) (g .0) h (g .1) in
-      let f = every-edge s k (getD (soundLines s .items) k noLine) (after (d .before .entries) (beatIn m ∷ run s cs .written)) (d .before .world) w (sym (d .acted) ∙ g .2) in
+  edge h w e =
+      let a = acted-good (run s cs .kept) k (wholeBeat s (run s cs .kept) g) e in
+      let d = acts-just (a .0) h (a .1) in
+      let f = every-edge s k (getD (soundLines s .items) k noLine) (after (d .before .entries) (beatIn (g .automatic) ∷ run s cs .written)) (d .before .world) w (sym (d .acted) ∙ a .2) in
       (d .before, d .come, f .0, sym (d .was-before) ∙ f .1)
 
 -- ---- locking and unlocking change no memory

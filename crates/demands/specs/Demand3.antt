@@ -5,7 +5,6 @@ use mathlib.Core.List.{List, [], _∷_}
 use Prim.Native.Nat.{ℕ, _<_}
 use native.Mathlib.Omega.{arith}
 use lib.Dec.{ltb}
-use lib.IntN.{ℤ}
 use lib.ListN.{length, getD}
 use borrow.Author.Tests.{lt-ltb, ltb-true}
 use Rattle.values.specs.Codes.{unsound, unknownLine}
@@ -20,7 +19,7 @@ use Rattle.engine.specs.Set.{noLine, soundLines}
 use Rattle.engine.specs.State.{powerOn}
 use Rattle.engine.specs.Sound.{isSound}
 use Rattle.engine.specs.Turn.{Entry, beatIn, locks, cancels, resets, Turned}
-use Rattle.engine.specs.Beat.{bufferSize, areInputs, begun, ended, beatOf, answered, buffered, beatAnswer, beatBuffer}
+use Rattle.engine.specs.Beat.{bufferSize, areInputs, Given, beatBegun, beatEnded, wholeBeat, turnedAnswer, buffered, beatAnswer, beatBuffer}
 use Rattle.engine.specs.NamedLine.{foundAt, found}
 use Rattle.engine.specs.Calls.{withLocked, withCancelled, called, lockedCall, lockCall, unlockCall, cancelCall, resetState, resetCall}
 use Rattle.engine.specs.SetCountLaws.{sound-count}
@@ -34,34 +33,34 @@ use Rattle.demands.specs.TurnRuleLaws.{flaggedTurn, turns-same, turns-qu
 
 -- ---- a beat
 
-module _ (s : List ℕ) (v : Rest) (r : History) (m : Bool) (word : ℕ) (lent : List ℤ) (size : ℕ) where
+module _ (s : List ℕ) (v : Rest) (r : History) (g : Given) where
   begins : Turned → Answer Turned
-  begins t = good (record { world = t .world; entries = beatIn m ∷ t .entries })
+  begins t = good (record { world = t .world; entries = beatIn (g .automatic) ∷ t .entries })
 
-  beat-begun : (a : Answer Turned) → (a >>= flaggedTurn (soundLines s) (beatIn m ∷ r) >>= begins) ≡ (a >>= begins >>= flaggedTurn (soundLines s) r)
+  beat-begun : (a : Answer Turned) → (a >>= flaggedTurn (soundLines s) (beatIn (g .automatic) ∷ r) >>= begins) ≡ (a >>= begins >>= flaggedTurn (soundLines s) r)
   unfolding begins
   beat-begun (good t) = refl
   beat-begun (stop c) = refl
 
   -- the engine's beat, with the flags that the history gives, is the beat by the rule
-  pub beat-same : beatOf s (stateBy (soundLines s) v r) m word lent size ≡ (beatByRule s v r m word lent size >>= flaggedTurn (soundLines s) r)
-  unfolding beatOf beatByRule stateBy begun begunBy begins
+  pub beat-same : wholeBeat s (stateBy (soundLines s) v r) g ≡ (beatByRule s v r g >>= flaggedTurn (soundLines s) r)
+  unfolding wholeBeat beatByRule stateBy beatBegun begunBy begins
   beat-same =
       choose (flaggedTurn (soundLines s) r) (isSound s (stateBy (soundLines s) v r)) _ _ _ _
-      (choose (flaggedTurn (soundLines s) r) (ltb size bufferSize) _ _ _ _ refl
-      (choose (flaggedTurn (soundLines s) r) (areInputs lent) _ _ _ _
-      (ap (λ a. a >>= begins) (turns-same (soundLines s) s (soundLines s .count) 0 (beatIn m ∷ r) (begunBy v word lent) (sound-count s) (omega arith))
-      ∙ beat-begun (turnsByRule s (soundLines s) (soundLines s .count) 0 (beatIn m ∷ r) (begunBy v word lent))) refl)) refl
+      (choose (flaggedTurn (soundLines s) r) (ltb (length (g .buffer)) bufferSize) _ _ _ _ refl
+      (choose (flaggedTurn (soundLines s) r) (areInputs (g .lent)) _ _ _ _
+      (ap (λ a. a >>= begins) (turns-same (soundLines s) s (soundLines s .count) 0 (beatIn (g .automatic) ∷ r) (begunBy v g) (sound-count s) (omega arith))
+      ∙ beat-begun (turnsByRule s (soundLines s) (soundLines s .count) 0 (beatIn (g .automatic) ∷ r) (begunBy v g))) refl)) refl
 
-  beat-quiet : Ok (λ t. byRank (cancelledBy (soundLines s) (after (t .entries) r)) ≡ byRank (cancelledBy (soundLines s) r)) (beatByRule s v r m word lent size)
+  beat-quiet : Ok (λ t. byRank (cancelledBy (soundLines s) (after (t .entries) r)) ≡ byRank (cancelledBy (soundLines s) r)) (beatByRule s v r g)
   unfolding beatByRule
   beat-quiet =
       let P : Turned → Type 0 = λ t. byRank (cancelledBy (soundLines s) (after (t .entries) r)) ≡ byRank (cancelledBy (soundLines s) r) in
-      let a : Answer Turned = turnsByRule s (soundLines s) (soundLines s .count) 0 (beatIn m ∷ r) (begunBy v word lent) in
+      let a : Answer Turned = turnsByRule s (soundLines s) (soundLines s .count) 0 (beatIn (g .automatic) ∷ r) (begunBy v g) in
       either (Ok P) (isSound s (stateBy (soundLines s) v r))
-      (λ e. either (Ok P) (ltb size bufferSize) (λ e. tt)
-      (λ e. either (Ok P) (areInputs lent)
-      (λ e. bind-ok P a _ (λ t q. is-ok _ a t q (turns-quiet (soundLines s) s (soundLines s .count) 0 (beatIn m ∷ r) (begunBy v word lent)) .0))
+      (λ e. either (Ok P) (ltb (length (g .buffer)) bufferSize) (λ e. tt)
+      (λ e. either (Ok P) (areInputs (g .lent))
+      (λ e. bind-ok P a _ (λ t q. is-ok _ a t q (turns-quiet (soundLines s) s (soundLines s .count) 0 (beatIn (g .automatic) ∷ r) (begunBy v g)) .0))
       (λ e. tt))) (λ e. tt)
 
 -- ---- states by their flags
@@ -75,17 +74,17 @@ abbrev pub withFlags : List ℕ → Now Rest → Now State
 withFlags s n = record { kept = stateBy (soundLines s) (n .kept) (n .written); written = n .written; told = n .told }
 
 module _ (s : List ℕ) (n : Now Rest) where
-  step-beat : (m : Bool) (word : ℕ) (lent : List ℤ) (b : List ℕ) → step s (doBeat m word lent b) (withFlags s n) ≡ withFlags s (stepByRule s (doBeat m word lent b) n)
-  unfolding step stepByRule beatAnswer beatBuffer stateBy ended endedBy
-  step-beat m word lent b =
-      rw (beat-same s (n .kept) (n .written) m word lent (length b))
-      (go (beatByRule s (n .kept) (n .written) m word lent (length b)) (beat-quiet s (n .kept) (n .written) m word lent (length b)))
+  step-beat : (g : Given) → step s (doBeat g) (withFlags s n) ≡ withFlags s (stepByRule s (doBeat g) n)
+  unfolding step stepByRule beatAnswer beatBuffer stateBy beatEnded endedBy
+  step-beat g =
+      rw (beat-same s (n .kept) (n .written) g)
+      (go (beatByRule s (n .kept) (n .written) g) (beat-quiet s (n .kept) (n .written) g))
     where
       st : State
       st = stateBy (soundLines s) (n .kept) (n .written)
 
       go : (a : Answer Turned) → Ok (λ t. byRank (cancelledBy (soundLines s) (after (t .entries) (n .written))) ≡ byRank (cancelledBy (soundLines s) (n .written))) a →
-          (let f : Answer Turned = a >>= flaggedTurn (soundLines s) (n .written) in beaten (doBeat m word lent b) (answered st f) (buffered b f) (entriesOf f) (withFlags s n)) ≡ withFlags s (beatenByRule (doBeat m word lent b) a b n)
+          (let f : Answer Turned = a >>= flaggedTurn (soundLines s) (n .written) in beaten g (turnedAnswer st f) (buffered (g .buffer) f) (entriesOf f) (withFlags s n)) ≡ withFlags s (beatenByRule g a n)
       go (good t) q = rw q
       go (stop c) q = refl
 
@@ -169,7 +168,7 @@ module _ (s : List ℕ) (n : Now Rest) where
   -- each call, with the flags that the history gives, is the call by the rule
   pub step-same : (c : Call) → step s c (withFlags s n) ≡ withFlags s (stepByRule s c n)
   unfolding step stepByRule lockCall unlockCall
-  step-same (doBeat m word lent b) = step-beat m word lent b
+  step-same (doBeat g) = step-beat g
   step-same (doLock number) = step-lock (doLock number) true number
   step-same (doUnlock number) = step-lock (doUnlock number) false number
   step-same (doCancel number) = step-cancel number

@@ -3,21 +3,20 @@ use mathlib.Core.Path.{_≡_}
 use mathlib.Core.Bool.{Bool}
 use mathlib.Core.List.{List}
 use Prim.Native.Nat.{ℕ}
-use lib.IntN.{ℤ}
 use Rattle.values.specs.Unique.{unique}
 use Rattle.engine.specs.declared.state.State.{State}
 use Rattle.engine.specs.declared.one_beat.Beaten.{Beaten}
 use Rattle.engine.specs.declared.calls.Called.{Called}
-use Rattle.engine.specs.Beat.{beatAnswer, beatBuffer}
+use Rattle.engine.specs.Beat.{Given, beatAnswer, beatBuffer}
 use Rattle.engine.specs.Calls.{lockCall, unlockCall, cancelCall, resetCall}
 use Rattle.engine.specs.Sound.{isSound}
 
 module _ (s : List ℕ) (st : State) where
   -- a beat, with the order buffer at exit
-  pub beat-unique : (automatic : Bool) (word : ℕ) (lent : List ℤ) (b : List ℕ) (x y : Beaten) (c d : List ℕ) →
-      x ≡ beatAnswer s st automatic word lent b → c ≡ beatBuffer s st automatic word lent b →
-      y ≡ beatAnswer s st automatic word lent b → d ≡ beatBuffer s st automatic word lent b → (x ≡ y) × (c ≡ d)
-  beat-unique automatic word lent b x y c d p q r t = (unique p r, unique q t)
+  pub beat-unique : (g : Given) (x y : Beaten) (c d : List ℕ) →
+      x ≡ beatAnswer s st g → c ≡ beatBuffer s st g →
+      y ≡ beatAnswer s st g → d ≡ beatBuffer s st g → (x ≡ y) × (c ≡ d)
+  beat-unique g x y c d p q r t = (unique p r, unique q t)
 
   pub lock-unique : (n : ℕ) (x y : Called) → x ≡ lockCall s st n → y ≡ lockCall s st n → x ≡ y
   lock-unique n x y p q = unique p q

@@ -3,10 +3,9 @@
 -- Outside is what Asks says: a host that hands in another set or state than it was given last.
 use mathlib.Core.Path.{_≡_, refl, ap, _∙_}
 use mathlib.Core.Logic.{_≢_}
-use mathlib.Core.Bool.{Bool, true, false}
+use mathlib.Core.Bool.{true, false}
 use mathlib.Core.List.{List, [], _∷_, _++_}
 use Prim.Native.Nat.{ℕ, _*_, _<_, _≤_}
-use lib.IntN.{ℤ}
 use lib.ListN.{length, getD, drop}
 use Rattle.tokens.specs.Token.{WHEN, EVERY}
 use Rattle.tokens.specs.Descent.{good}
@@ -16,7 +15,7 @@ use Rattle.engine.specs.Set.{noLine, emptySet, soundLines}
 use Rattle.engine.specs.State.{powerOn}
 use Rattle.engine.specs.Turn.{Turned, turnsFrom}
 use Rattle.engine.specs.Order.{orderSize}
-use Rattle.engine.specs.Beat.{begun, beatAnswer, beatBuffer}
+use Rattle.engine.specs.Beat.{beatAnswer, beatBuffer, Given, beatBegun}
 use Rattle.reader.specs.Load.{loadAnswer, loadSet}
 use Rattle.demands.specs.History.{wasTrue}
 use Rattle.demands.specs.Run.{Rest}
@@ -72,29 +71,29 @@ module _ (t u : List ℕ) (qs : List Ask) where
 
 -- ---- what follows, of a beat after a load and any asks
 
-module _ (t : List ℕ) (qs : List Ask) (m : Bool) (word : ℕ) (lent : List ℤ) (b : List ℕ) where
+module _ (t : List ℕ) (qs : List Ask) (g : Given) where
   -- for every line of the set, in a beat that answers 0: it takes a turn and acts by the rule; where it did not act it left all alone, and where it acted it did all its actions
-  pub acts-from-a-load : let n = standing t qs in (k : ℕ) → k < soundLines (n .set) .count → beatAnswer (n .set) (n .since .kept) m word lent b .code ≡ 0 →
-      AtItsTurn (n .set) (n .since .kept) (n .since .written) m word lent k (beatAnswer (n .set) (n .since .kept) m word lent b .acted)
-  acts-from-a-load = rw (since-the-load t qs) (at-its-turn (loadSet (lastText t qs)) (callsSince [] qs) m word lent b)
+  pub acts-from-a-load : let n = standing t qs in (k : ℕ) → k < soundLines (n .set) .count → beatAnswer (n .set) (n .since .kept) g .code ≡ 0 →
+      AtItsTurn (n .set) (n .since .kept) (n .since .written) g k (beatAnswer (n .set) (n .since .kept) g .acted)
+  acts-from-a-load = rw (since-the-load t qs) (at-its-turn (loadSet (lastText t qs)) (callsSince [] qs) g)
 
   -- and no other rank has a bit
-  pub no-other-from-a-load : let n = standing t qs in (k : ℕ) → soundLines (n .set) .count ≤ k → isActed (beatAnswer (n .set) (n .since .kept) m word lent b .acted) k ≡ false
-  no-other-from-a-load = rw (since-the-load t qs) (no-other-bit (loadSet (lastText t qs)) (callsSince [] qs) m word lent b)
+  pub no-other-from-a-load : let n = standing t qs in (k : ℕ) → soundLines (n .set) .count ≤ k → isActed (beatAnswer (n .set) (n .since .kept) g .acted) k ≡ false
+  no-other-from-a-load = rw (since-the-load t qs) (no-other-bit (loadSet (lastText t qs)) (callsSince [] qs) g)
 
   -- each order in the buffer carries the number of a line that acted
-  pub orders-from-a-load : let n = standing t qs in let x = beatAnswer (n .set) (n .since .kept) m word lent b in
-      (os : List Order) × (x .orders ≡ length os) × (beatBuffer (n .set) (n .since .kept) m word lent b ≡ bytesOf os ++ drop (orderSize * length os) b) × Each (OfActed (soundLines (n .set)) (x .acted)) os
-  orders-from-a-load = rw (since-the-load t qs) (orders-of-acting-lines (loadSet (lastText t qs)) (callsSince [] qs) m word lent b)
+  pub orders-from-a-load : let n = standing t qs in let x = beatAnswer (n .set) (n .since .kept) g in
+      (os : List Order) × (x .orders ≡ length os) × (beatBuffer (n .set) (n .since .kept) g ≡ bytesOf os ++ drop (orderSize * length os) (g .buffer)) × Each (OfActed (soundLines (n .set)) (x .acted)) os
+  orders-from-a-load = rw (since-the-load t qs) (orders-of-acting-lines (loadSet (lastText t qs)) (callsSince [] qs) g)
 
   -- between two starts, a load or a reset, a WHEN line acts at most once
   pub once-from-a-load : let n = standing t qs in (k : ℕ) → k < soundLines (n .set) .count → getD (soundLines (n .set) .items) k noLine .keyword ≡ WHEN →
-      isActed (beatAnswer (n .set) (n .since .kept) m word lent b .acted) k ≡ true → actedSince k (n .since .told) ≡ false
-  once-from-a-load = rw (since-the-load t qs) (λ k. once (loadSet (lastText t qs)) (callsSince [] qs) m word lent k b)
+      isActed (beatAnswer (n .set) (n .since .kept) g .acted) k ≡ true → actedSince k (n .since .told) ≡ false
+  once-from-a-load = rw (since-the-load t qs) (once (loadSet (lastText t qs)) (callsSince [] qs) g)
 
   -- an EVERY line acts only where its condition is true, and at its turn before, since the last start, it was false or there was none
   pub edge-from-a-load : let n = standing t qs in (k : ℕ) → k < soundLines (n .set) .count → getD (soundLines (n .set) .items) k noLine .keyword ≡ EVERY →
-      isActed (beatAnswer (n .set) (n .since .kept) m word lent b .acted) k ≡ true →
-      (before : Turned) × (turnsFrom (n .set) (soundLines (n .set) .numbers) (n .since .kept .cancelled) m (soundLines (n .set) .items) k 0 (begun (n .since .kept) word lent) ≡ good before)
+      isActed (beatAnswer (n .set) (n .since .kept) g .acted) k ≡ true →
+      (before : Turned) × (turnsFrom (n .set) (soundLines (n .set) .numbers) (n .since .kept .cancelled) (g .automatic) (soundLines (n .set) .items) k 0 (beatBegun (n .since .kept) g) ≡ good before)
       × (conditionNow (n .set) (getD (soundLines (n .set) .items) k noLine) (before .world) ≡ true) × (wasTrue k (n .since .written) ≡ false)
-  edge-from-a-load = rw (since-the-load t qs) (λ k. edge (loadSet (lastText t qs)) (callsSince [] qs) m word lent k b)
+  edge-from-a-load = rw (since-the-load t qs) (edge (loadSet (lastText t qs)) (callsSince [] qs) g)

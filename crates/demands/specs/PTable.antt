@@ -32,7 +32,7 @@ use Rattle.engine.specs.Action.{alarmOf, lockOf, takenAt, assignmentOf, driveOf
 use Rattle.engine.specs.Actions.{actionsOf}
 use Rattle.engine.specs.Keyword.{tries, acts, remembers}
 use Rattle.engine.specs.Turn.{takesTurn, doTurn, tryTurn, turnOf, turnsFrom}
-use Rattle.engine.specs.Beat.{bufferSize, areInputs, begun, ended, beatOf, beatAnswer, beatBuffer}
+use Rattle.engine.specs.Beat.{bufferSize, areInputs, beatBegun, beatEnded, wholeBeat, beatAnswer, beatBuffer}
 use Rattle.engine.specs.NamedLine.{foundAt, found}
 use Rattle.engine.specs.Calls.{called, lockedCall, lockCall, unlockCall, cancelCall, resetCancelled, zeroed, resetState, resetCall}
 use Rattle.text.specs.Byte.{bytes, run}
@@ -54,15 +54,15 @@ use Rattle.demands.specs.Asks.{newlyLoaded}
 abbrev pub AnOrder : Type 0
 AnOrder = ℕ × ℕ × ℕ × ℤ
 
--- what a call gives: its code, the number of orders, the word of the lines that acted, the first bytes of the order buffer
-abbrev pub Given : Type 0
-Given = ℕ × ℕ × ℕ × List ℕ
+-- what is shown of a call: its code, the number of orders, the word of the lines that acted, the first bytes of the order buffer
+abbrev pub Shown : Type 0
+Shown = ℕ × ℕ × ℕ × List ℕ
 
 -- a set text, the calls after its load, what each of them gives, and what $R[1] is afterwards
 pub record Case : Type 0 where
   pub text : String
   pub calls : List Call
-  pub gives : List Given
+  pub gives : List Shown
   pub r1 : ℤ
 
 -- kind, line number, target, 0, the value
@@ -81,28 +81,28 @@ abbrev pub compared : ℕ
 compared = 64
 
 -- a beat gives this code, this word and these orders; the bytes behind the last order stay
-abbrev pub gives : ℕ → ℕ → List AnOrder → Given
+abbrev pub gives : ℕ → ℕ → List AnOrder → Shown
 gives code acted os = (code, length os, acted, take compared (inBytes os ++ replicate compared lentByte))
 
 -- a host's call gives this code
-abbrev pub answers : ℕ → Given
+abbrev pub answers : ℕ → Shown
 answers code = (code, 0, 0, [])
 
 -- a beat in AUTOMATIC with this input word
 abbrev pub on : ℕ → Call
-on word = doBeat true word (replicate 14 (pos 0)) (replicate bufferSize lentByte)
+on word = doBeat (record { automatic = true; word = word; lent = replicate 14 (pos 0); buffer = replicate bufferSize lentByte })
 
 -- what the control gave: the load's code and line, each call's reply, and $R[1] afterwards
-abbrev pub shown : Loaded → Now State → ℕ × ℕ × List Given × ℤ
+abbrev pub shown : Loaded → Now State → ℕ × ℕ × List Shown × ℤ
 shown l n =
     (l .code, l .line, map (λ (x : Call × Reply). (x .1 .code, x .1 .orders, x .1 .acted, take compared (x .1 .buffer))) (reverse (n .told)), getD (n .kept .r) 1 (pos 0))
 
 -- so from the load of the text on, with the set and the state that it returns
-abbrev pub given : Case → ℕ × ℕ × List Given × ℤ
-given c = shown (loadAnswer (bytes (c .text))) (runFrom (loadSet (bytes (c .text))) (c .calls) (newlyLoaded (bytes (c .text)) .since))
+abbrev pub outcomeOf : Case → ℕ × ℕ × List Shown × ℤ
+outcomeOf c = shown (loadAnswer (bytes (c .text))) (runFrom (loadSet (bytes (c .text))) (c .calls) (newlyLoaded (bytes (c .text)) .since))
 
 -- what document 01 says: the text is taken, with code 0 and line 0, and then what the case has
-abbrev pub expected : Case → ℕ × ℕ × List Given × ℤ
+abbrev pub expected : Case → ℕ × ℕ × List Shown × ℤ
 expected c = (0, 0, c .gives, c .r1)
 
 -- ---- the cases
@@ -160,6 +160,6 @@ cases =
     ∷ []
 
 -- THE TABLE: each case gives what document 01 says
-pub table : map given cases ≡ map expected cases
-unfolding joinLogic countAt fifoValue fifoAt fits appendAnswer appended shifted removeAnswer removed oldestOf newestOf sumFirst sumAll totalOf countOf cleared emptyAnswer emptied millisOf writtenTimer sumOf differenceOf productOf quotientOf negationOf feedOf signOf inRange valued lessThan equalTo wholeUnits outputOf grownTimer twosComplement fourBytes orderBytes isIndex indexOf isIndexed indexAt joined more readProduct readSum readRest readExpression readVariable operandFrom readOperand readClose readTruth sumAt expressionAt isInside cellOf variableValue lower opensTooMany wantingFault numberFault readFault joinSights sight isWritable writeFault codeFault idFault callFault countFault numberOf isRemoval assignedAt assignmentAt commandAt actionAt actionsAt lineParts bodyAt restAt lineAt joinTruths joinValues valueOver conditionValue rightValue linesFrom linesRead rankIn namesKnown allKnown namedLines soundLines emptySet powerOn grownCells inputCells beatCells allRanged isCell areCells allZero isFifoSound isFlag areFlags stateSound isSound changeAnswer changed changeFifo writeFifo writeCell writeInside writeTo alarmOf driveOrder driveOf lockOf takenAt assignmentOf commandOf actionOf actionsOf tries acts remembers takesTurn doTurn tryTurn turnOf turnsFrom areInputs begun ended beatOf beatAnswer beatBuffer foundAt found called lockedCall lockCall unlockCall cancelCall resetCancelled zeroed resetState resetCall run wordToken written isFit numberToken wordFirst behindPoint numberWith numberFirst signFirst firstToken tokensFrom tokensOf split withoutReturn withoutComment bodies isBlank numbered tokenLines numbersOf leastFrom leastAbove rising withoutMark placed setOf tokensFault faultBelow rowsFrom firstUnknown named outcome loadAnswer loadSet step runFrom cases areFifos withLine
+pub table : map outcomeOf cases ≡ map expected cases
+unfolding joinLogic countAt fifoValue fifoAt fits appendAnswer appended shifted removeAnswer removed oldestOf newestOf sumFirst sumAll totalOf countOf cleared emptyAnswer emptied millisOf writtenTimer sumOf differenceOf productOf quotientOf negationOf feedOf signOf inRange valued lessThan equalTo wholeUnits outputOf grownTimer twosComplement fourBytes orderBytes isIndex indexOf isIndexed indexAt joined more readProduct readSum readRest readExpression readVariable operandFrom readOperand readClose readTruth sumAt expressionAt isInside cellOf variableValue lower opensTooMany wantingFault numberFault readFault joinSights sight isWritable writeFault codeFault idFault callFault countFault numberOf isRemoval assignedAt assignmentAt commandAt actionAt actionsAt lineParts bodyAt restAt lineAt joinTruths joinValues valueOver conditionValue rightValue linesFrom linesRead rankIn namesKnown allKnown namedLines soundLines emptySet powerOn grownCells inputCells beatCells allRanged isCell areCells allZero isFifoSound isFlag areFlags stateSound isSound changeAnswer changed changeFifo writeFifo writeCell writeInside writeTo alarmOf driveOrder driveOf lockOf takenAt assignmentOf commandOf actionOf actionsOf tries acts remembers takesTurn doTurn tryTurn turnOf turnsFrom areInputs beatBegun beatEnded wholeBeat beatAnswer beatBuffer foundAt found called lockedCall lockCall unlockCall cancelCall resetCancelled zeroed resetState resetCall run wordToken written isFit numberToken wordFirst behindPoint numberWith numberFirst signFirst firstToken tokensFrom tokensOf split withoutReturn withoutComment bodies isBlank numbered tokenLines numbersOf leastFrom leastAbove rising withoutMark placed setOf tokensFault faultBelow rowsFrom firstUnknown named outcome loadAnswer loadSet step runFrom cases areFifos withLine
 table = refl

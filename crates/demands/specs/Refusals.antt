@@ -5,8 +5,6 @@ use mathlib.Core.Bool.{Bool, true, false}
 use mathlib.Core.List.{List, [], _∷_}
 use Prim.Native.Nat.{ℕ}
 use lib.Dec.{eqb}
-use lib.IntN.{ℤ}
-use lib.ListN.{length}
 use borrow.Author.Tests.{eqb-true}
 use Rattle.values.specs.Codes.{unsound}
 use Rattle.tokens.specs.Descent.{Answer, good, stop}
@@ -16,7 +14,7 @@ use Rattle.engine.specs.declared.named_line.Found.{Found}
 use Rattle.engine.specs.Set.{soundLines}
 use Rattle.engine.specs.Sound.{isSound}
 use Rattle.engine.specs.Turn.{Entry, locks, cancels, resets, Turned}
-use Rattle.engine.specs.Beat.{beatOf, answered, buffered, beatAnswer, beatBuffer}
+use Rattle.engine.specs.Beat.{Given, wholeBeat, turnedAnswer, buffered, beatAnswer, beatBuffer}
 use Rattle.engine.specs.NamedLine.{found}
 use Rattle.engine.specs.Calls.{withLocked, withCancelled, called, lockedCall, lockCall, unlockCall, cancelCall, resetState, resetCall}
 use Rattle.soundness.specs.Call.{Call, doBeat, doLock, doUnlock, doCancel, doReset}
@@ -24,12 +22,12 @@ use Rattle.demands.specs.History.{after}
 use Rattle.demands.specs.Run.{Now, entriesOf, noted, rankOf, step}
 
 -- a beat with a code other than 0: the state as given, no orders, no line acted, the buffer as given
-pub beat-refused : (s : List ℕ) (st : State) (m : Bool) (word : ℕ) (lent : List ℤ) (b : List ℕ) → let x = beatAnswer s st m word lent b in
-    x .code ≢ 0 → (x .state ≡ st) × (x .orders ≡ 0) × (x .acted ≡ 0) × (beatBuffer s st m word lent b ≡ b) × (entriesOf (beatOf s st m word lent (length b)) ≡ [])
+pub beat-refused : (s : List ℕ) (st : State) (g : Given) → let x = beatAnswer s st g in
+    x .code ≢ 0 → (x .state ≡ st) × (x .orders ≡ 0) × (x .acted ≡ 0) × (beatBuffer s st g ≡ g .buffer) × (entriesOf (wholeBeat s st g) ≡ [])
 unfolding beatAnswer beatBuffer
-beat-refused s st m word lent b = go (beatOf s st m word lent (length b))
+beat-refused s st g = go (wholeBeat s st g)
   where
-    go : (a : Answer Turned) → answered st a .code ≢ 0 → (answered st a .state ≡ st) × (answered st a .orders ≡ 0) × (answered st a .acted ≡ 0) × (buffered b a ≡ b) × (entriesOf a ≡ [])
+    go : (a : Answer Turned) → turnedAnswer st a .code ≢ 0 → (turnedAnswer st a .state ≡ st) × (turnedAnswer st a .orders ≡ 0) × (turnedAnswer st a .acted ≡ 0) × (buffered (g .buffer) a ≡ g .buffer) × (entriesOf a ≡ [])
     go (good t) h = absurd (h refl)
     go (stop c) h = (refl, refl, refl, refl, refl)
 
@@ -62,7 +60,7 @@ reset-refused s st = go (isSound s st)
     go true h = absurd (h refl)
     go false h = refl
 
--- in a run: a call that is answered with a code other than 0 changes no state and adds nothing to the history
+-- in a run: a call that is turnedAnswer with a code other than 0 changes no state and adds nothing to the history
 noted-refused : (c : ℕ) (es r : List Entry) → c ≢ 0 → noted c es r ≡ r
 noted-refused c es r h = go (eqb c 0) refl
   where
@@ -75,7 +73,7 @@ lastCode n = elim (n .told) [ [] ↦ 0 | x ∷ xs ↦ x .1 .code ]
 
 pub step-refused : (s : List ℕ) (c : Call) (n : Now State) → lastCode (step s c n) ≢ 0 → (step s c n .kept ≡ n .kept) × (step s c n .written ≡ n .written)
 unfolding step
-step-refused s (doBeat m word lent b) n h = let p = beat-refused s (n .kept) m word lent b h in (p .0, rw (p .4))
+step-refused s (doBeat g) n h = let p = beat-refused s (n .kept) g h in (p .0, rw (p .4))
 step-refused s (doLock k) n h = (lock-refused s (n .kept) k h, noted-refused _ (locks (rankOf s k) true ∷ []) (n .written) h)
 step-refused s (doUnlock k) n h = (unlock-refused s (n .kept) k h, noted-refused _ (locks (rankOf s k) false ∷ []) (n .written) h)
 step-refused s (doCancel k) n h = (cancel-refused s (n .kept) k h, noted-refused _ (cancels (rankOf s k) ∷ []) (n .written) h)

@@ -22,7 +22,7 @@ use Rattle.engine.specs.Sound.{isSound}
 use Rattle.engine.specs.Action.{World, fromValueOrAlarm}
 use Rattle.engine.specs.Turn.{Entry, beatIn, worked, locks, cancels, resets, Turned, doTurn}
 use Rattle.engine.specs.Order.{orderSize}
-use Rattle.engine.specs.Beat.{bufferSize, areInputs, beatOf, buffered, beatAnswer, beatBuffer, begun, ended}
+use Rattle.engine.specs.Beat.{bufferSize, areInputs, buffered, beatAnswer, beatBuffer, Given, beatBegun, beatEnded, wholeBeat}
 use Rattle.engine.specs.Calls.{lockCall, unlockCall, cancelCall, resetState, resetCall}
 use Rattle.soundness.specs.Call.{Call, doBeat, doLock, doUnlock, doCancel, doReset}
 use Rattle.demands.specs.History.{History, after, isCancelled, isLocked, wasTrue, everTrue, isAutomatic, takesByRule, triesByRule, actsByRule}
@@ -64,18 +64,17 @@ rankOf s n = rankIn (soundLines s .numbers) n 0
 abbrev pub hosted : Call → Called → List Entry → Now State → Now State
 hosted c x es n = record { kept = x .state; written = noted (x .code) es (n .written); told = (c, coded (x .code)) ∷ n .told }
 
--- a beat that gave x, left the buffer b and wrote down es
-abbrev pub beaten : Call → Beaten → List ℕ → List Entry → Now State → Now State
-beaten c x b es n = record {
+-- a beat that was given g, gave x, left the buffer b and wrote down es
+abbrev pub beaten : Given → Beaten → List ℕ → List Entry → Now State → Now State
+beaten g x b es n = record {
   kept = x .state;
   written = after es (n .written);
-  told = (c, record { code = x .code; orders = x .orders; acted = x .acted; buffer = b }) ∷ n .told;
+  told = (doBeat g, record { code = x .code; orders = x .orders; acted = x .acted; buffer = b }) ∷ n .told;
 }
 
 -- one call of the engine, as its definitions have it
 unfoldable pub step : List ℕ → Call → Now State → Now State
-step s (doBeat m word lent b) n =
-    beaten (doBeat m word lent b) (beatAnswer s (n .kept) m word lent b) (beatBuffer s (n .kept) m word lent b) (entriesOf (beatOf s (n .kept) m word lent (length b))) n
+step s (doBeat g) n = beaten g (beatAnswer s (n .kept) g) (beatBuffer s (n .kept) g) (entriesOf (wholeBeat s (n .kept) g)) n
 step s (doLock k) n = hosted (doLock k) (lockCall s (n .kept) k) (locks (rankOf s k) true ∷ []) n
 step s (doUnlock k) n = hosted (doUnlock k) (unlockCall s (n .kept) k) (locks (rankOf s k) false ∷ []) n
 step s (doCancel k) n = hosted (doCancel k) (cancelCall s (n .kept) k) (cancels (rankOf s k) ∷ []) n
@@ -144,12 +143,12 @@ unfoldable pub stateBy : Lines → Rest → History → State
 stateBy ls v r = withRest v (byRank (lockedBy ls r)) (byRank (cancelledBy ls r)) (byRank (memoryBy ls r))
 
 -- a beat begins without flags
-unfoldable pub begunBy : Rest → ℕ → List ℤ → World
-begunBy v word lent = begun (withoutFlags v) word lent
+unfoldable pub begunBy : Rest → Given → World
+begunBy v g = beatBegun (withoutFlags v) g
 
 -- and leaves none
 unfoldable pub endedBy : Rest → World → Rest
-endedBy v x = restOf (ended (withoutFlags v) x)
+endedBy v x = restOf (beatEnded (withoutFlags v) x)
 
 module _ (s : List ℕ) (ls : Lines) where
   -- the condition, worked if the rule says so; then the actions, if the rule says so (a LOCK in text asks the history which lines are cancelled)
@@ -175,17 +174,17 @@ module _ (s : List ℕ) (ls : Lines) where
       good (record { world = u .world; entries = t .entries ++ u .entries })
 
 -- a beat: 22 is asked of the set, the rest and what the history gives of locks, cancels and memory, then 20 and 21; its first entry is its mode
-unfoldable pub beatByRule : List ℕ → Rest → History → Bool → ℕ → List ℤ → ℕ → Answer Turned
-beatByRule s v r m word lent size =
+unfoldable pub beatByRule : List ℕ → Rest → History → Given → Answer Turned
+beatByRule s v r g =
     elim (isSound s (stateBy (soundLines s) v r)) [
       | true ↦
-          elim (ltb size bufferSize) [
+          elim (ltb (length (g .buffer)) bufferSize) [
             | true ↦ stop shortBuffer
             | false ↦
-                elim (areInputs lent) [
+                elim (areInputs (g .lent)) [
                   | true ↦
-                      turnsByRule s (soundLines s) (soundLines s .count) 0 (beatIn m ∷ r) (begunBy v word lent) >>= λ t.
-                      good (record { world = t .world; entries = beatIn m ∷ t .entries })
+                      turnsByRule s (soundLines s) (soundLines s .count) 0 (beatIn (g .automatic) ∷ r) (begunBy v g) >>= λ t.
+                      good (record { world = t .world; entries = beatIn (g .automatic) ∷ t .entries })
                   | false ↦ stop wrongNumbers
                 ]
           ]
@@ -209,13 +208,13 @@ abbrev pub hostedByRule : Call → ℕ → List Entry → Now Rest → Now Rest
 hostedByRule c k es n = record { kept = n .kept; written = noted k es (n .written); told = (c, coded k) ∷ n .told }
 
 -- a failed beat leaves all as it was
-abbrev pub beatenByRule : Call → Answer Turned → List ℕ → Now Rest → Now Rest
-beatenByRule c (good t) b n = record {
+abbrev pub beatenByRule : Given → Answer Turned → Now Rest → Now Rest
+beatenByRule g (good t) n = record {
   kept = endedBy (n .kept) (t .world);
   written = after (t .entries) (n .written);
-  told = (c, record { code = 0; orders = length (t .world .orders) / orderSize; acted = t .world .acted; buffer = buffered b (good t) }) ∷ n .told;
+  told = (doBeat g, record { code = 0; orders = length (t .world .orders) / orderSize; acted = t .world .acted; buffer = buffered (g .buffer) (good t) }) ∷ n .told;
 }
-beatenByRule c (stop k) b n = record { kept = n .kept; written = n .written; told = (c, record { code = k; orders = 0; acted = 0; buffer = b }) ∷ n .told }
+beatenByRule g (stop k) n = record { kept = n .kept; written = n .written; told = (doBeat g, record { code = k; orders = 0; acted = 0; buffer = g .buffer }) ∷ n .told }
 
 -- what the engine's reset leaves of the rest
 abbrev pub cleared : Rest → Lines → History → Rest
@@ -231,7 +230,7 @@ resetByRule s n =
 
 -- one call by the rule
 unfoldable pub stepByRule : List ℕ → Call → Now Rest → Now Rest
-stepByRule s (doBeat m word lent b) n = beatenByRule (doBeat m word lent b) (beatByRule s (n .kept) (n .written) m word lent (length b)) b n
+stepByRule s (doBeat g) n = beatenByRule g (beatByRule s (n .kept) (n .written) g) n
 stepByRule s (doLock k) n = hostedByRule (doLock k) (codeByRule s (n .kept) (n .written) k) (locks (rankOf s k) true ∷ []) n
 stepByRule s (doUnlock k) n = hostedByRule (doUnlock k) (codeByRule s (n .kept) (n .written) k) (locks (rankOf s k) false ∷ []) n
 stepByRule s (doCancel k) n = hostedByRule (doCancel k) (codeByRule s (n .kept) (n .written) k) (cancels (rankOf s k) ∷ []) n

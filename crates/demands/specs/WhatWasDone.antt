@@ -8,7 +8,6 @@ use mathlib.Core.List.{List, [], _∷_, _++_}
 use Prim.Native.Nat.{ℕ, _+_, _*_, _^_, _<_, _≤_}
 use native.Mathlib.Omega.{arith}
 use native.Mathlib.Nat.{one-le-pow}
-use lib.IntN.{ℤ}
 use lib.ListN.{length, getD, drop}
 use Rattle.tokens.specs.Descent.{Answer, good, stop}
 use Rattle.checking.specs.declared.line.Line.{Line}
@@ -18,7 +17,7 @@ use Rattle.engine.specs.Set.{noLine, soundLines}
 use Rattle.engine.specs.Action.{World}
 use Rattle.engine.specs.Turn.{beatIn, Turned, takesTurn, turnOf, turnsFrom}
 use Rattle.engine.specs.Order.{orderSize}
-use Rattle.engine.specs.Beat.{begun, beatOf, answered, buffered, beatAnswer, beatBuffer}
+use Rattle.engine.specs.Beat.{buffered, beatAnswer, beatBuffer, Given, beatBegun, wholeBeat, turnedAnswer}
 use Rattle.soundness.specs.Call.{Call}
 use Rattle.soundness.specs.CallCodes.{ended-well}
 use Rattle.tokens.specs.AnswerLaws.{is-ok}
@@ -36,14 +35,14 @@ use Rattle.demands.specs.Consequences.{beat-turns, unflagged, no-bit, ac
 -- a beat in the state st, after the history r, whose answer has this word of the lines that acted; for the line of rank k: the turns of the lines before it came to `before`
 -- (`come`), its own to `own` (`taken`); it took a turn just where the rule says so (`takes`), and acted just where the rule says so (`acts`); where it did not act its turn left
 -- all alone (`left`), and where it acted it did all its actions (`did`)
-pub record AtItsTurn (s : List ℕ) (st : State) (r : History) (m : Bool) (word : ℕ) (lent : List ℤ) (k acted : ℕ) : Type 0 where
+pub record AtItsTurn (s : List ℕ) (st : State) (r : History) (g : Given) (k acted : ℕ) : Type 0 where
   pub before : Turned
-  pub come : turnsFrom s (soundLines s .numbers) (st .cancelled) m (soundLines s .items) k 0 (begun st word lent) ≡ good before
+  pub come : turnsFrom s (soundLines s .numbers) (st .cancelled) (g .automatic) (soundLines s .items) k 0 (beatBegun st g) ≡ good before
   pub own : Turned
-  pub taken : turnOf s (soundLines s .numbers) (st .cancelled) m (getD (soundLines s .items) k noLine) k (before .world) ≡ good own
-  pub takes : takesTurn s (soundLines s .numbers) (st .cancelled) m (getD (soundLines s .items) k noLine) k (before .world)
-      ≡ takesByRule (getD (soundLines s .items) k noLine) k (after (before .entries) (beatIn m ∷ r))
-  pub acts : isActed acted k ≡ actsNow s (getD (soundLines s .items) k noLine) k (after (before .entries) (beatIn m ∷ r)) (before .world)
+  pub taken : turnOf s (soundLines s .numbers) (st .cancelled) (g .automatic) (getD (soundLines s .items) k noLine) k (before .world) ≡ good own
+  pub takes : takesTurn s (soundLines s .numbers) (st .cancelled) (g .automatic) (getD (soundLines s .items) k noLine) k (before .world)
+      ≡ takesByRule (getD (soundLines s .items) k noLine) k (after (before .entries) (beatIn (g .automatic) ∷ r))
+  pub acts : isActed acted k ≡ actsNow s (getD (soundLines s .items) k noLine) k (after (before .entries) (beatIn (g .automatic) ∷ r)) (before .world)
   pub left : isActed acted k ≡ false → LeftAlone k (before .world) (own .world)
   pub did : isActed acted k ≡ true → DidAll s (soundLines s .numbers) (st .cancelled) (getD (soundLines s .items) k noLine) k (before .world) (own .world)
 
@@ -66,14 +65,14 @@ module _ (s : List ℕ) (cancelled : List Bool) (m : Bool) (l : Line) (k : ℕ) 
       go (inl h) = absurd (omega (arith, h .acted, one-le-pow k 2 (omega arith)))
       go (inr h) = h .0
 
-module _ (s : List ℕ) (cs : List Call) (m : Bool) (word : ℕ) (lent : List ℤ) (b : List ℕ) where
+module _ (s : List ℕ) (cs : List Call) (g : Given) where
   -- IN EVERY BEAT THAT ANSWERS 0, for every line of the set
-  pub at-its-turn : (k : ℕ) → k < soundLines s .count → beatAnswer s (run s cs .kept) m word lent b .code ≡ 0 →
-      AtItsTurn s (run s cs .kept) (run s cs .written) m word lent k (beatAnswer s (run s cs .kept) m word lent b .acted)
+  pub at-its-turn : (k : ℕ) → k < soundLines s .count → beatAnswer s (run s cs .kept) g .code ≡ 0 →
+      AtItsTurn s (run s cs .kept) (run s cs .written) g k (beatAnswer s (run s cs .kept) g .acted)
   unfolding beatAnswer
   at-its-turn k h z =
-      let w = ended-well s (run s cs .kept) m word lent b z in
-      let c = acts-just s cs m word lent k (length b) (w .0) h (w .1) in
+      let w = ended-well s (run s cs .kept) g z in
+      let c = acts-just s cs g k (w .0) h (w .1) in
       let line = getD (soundLines s .items) k noLine in
       let added : (a : Bool) → isActed (w .0 .world .acted) k ≡ a → c .own .world .acted ≡ c .before .world .acted + cond a (2 ^ k) 0 = λ a e. c .added ∙ rw e in
       rw (w .1)
@@ -84,72 +83,72 @@ module _ (s : List ℕ) (cs : List Call) (m : Bool) (word : ℕ) (lent : List �
         taken = c .taken;
         takes = c .takes;
         acts = c .acted;
-        left = λ e. was-left s (run s cs .kept .cancelled) m line k (c .before .world) (c .own) (c .taken) (added false e);
-        did = λ e. was-done s (run s cs .kept .cancelled) m line k (c .before .world) (c .own) (c .taken) (added true e);
+        left = λ e. was-left s (run s cs .kept .cancelled) (g .automatic) line k (c .before .world) (c .own) (c .taken) (added false e);
+        did = λ e. was-done s (run s cs .kept .cancelled) (g .automatic) line k (c .before .world) (c .own) (c .taken) (added true e);
       })
 
   -- A LINE TAKES A TURN BY THE RULE ALONE, over the history so far
-  pub takes-turns-by-rule : (k : ℕ) → k < soundLines s .count → beatAnswer s (run s cs .kept) m word lent b .code ≡ 0 →
+  pub takes-turns-by-rule : (k : ℕ) → k < soundLines s .count → beatAnswer s (run s cs .kept) g .code ≡ 0 →
       let st = run s cs .kept in let l = getD (soundLines s .items) k noLine in
-      (before : Turned) × (turnsFrom s (soundLines s .numbers) (st .cancelled) m (soundLines s .items) k 0 (begun st word lent) ≡ good before)
-      × (takesTurn s (soundLines s .numbers) (st .cancelled) m l k (before .world) ≡ takesByRule l k (after (before .entries) (beatIn m ∷ run s cs .written)))
+      (before : Turned) × (turnsFrom s (soundLines s .numbers) (st .cancelled) (g .automatic) (soundLines s .items) k 0 (beatBegun st g) ≡ good before)
+      × (takesTurn s (soundLines s .numbers) (st .cancelled) (g .automatic) l k (before .world) ≡ takesByRule l k (after (before .entries) (beatIn (g .automatic) ∷ run s cs .written)))
   takes-turns-by-rule k h z = let t = at-its-turn k h z in (t .before, t .come, t .takes)
 
   -- A LINE WHOSE BIT IS CLEAR LEFT ALL AS IT WAS, but for what it remembers itself
-  pub left-alone : (k : ℕ) → k < soundLines s .count → beatAnswer s (run s cs .kept) m word lent b .code ≡ 0 → isActed (beatAnswer s (run s cs .kept) m word lent b .acted) k ≡ false →
+  pub left-alone : (k : ℕ) → k < soundLines s .count → beatAnswer s (run s cs .kept) g .code ≡ 0 → isActed (beatAnswer s (run s cs .kept) g .acted) k ≡ false →
       let st = run s cs .kept in let l = getD (soundLines s .items) k noLine in
-      (before own : Turned) × (turnsFrom s (soundLines s .numbers) (st .cancelled) m (soundLines s .items) k 0 (begun st word lent) ≡ good before)
-      × (turnOf s (soundLines s .numbers) (st .cancelled) m l k (before .world) ≡ good own) × LeftAlone k (before .world) (own .world)
+      (before own : Turned) × (turnsFrom s (soundLines s .numbers) (st .cancelled) (g .automatic) (soundLines s .items) k 0 (beatBegun st g) ≡ good before)
+      × (turnOf s (soundLines s .numbers) (st .cancelled) (g .automatic) l k (before .world) ≡ good own) × LeftAlone k (before .world) (own .world)
   left-alone k h z e = let t = at-its-turn k h z in (t .before, t .own, t .come, t .taken, t .left e)
 
   -- A LINE WHOSE BIT IS SET DID ITS ACTIONS, all of them
-  pub did-all : (k : ℕ) → k < soundLines s .count → beatAnswer s (run s cs .kept) m word lent b .code ≡ 0 → isActed (beatAnswer s (run s cs .kept) m word lent b .acted) k ≡ true →
+  pub did-all : (k : ℕ) → k < soundLines s .count → beatAnswer s (run s cs .kept) g .code ≡ 0 → isActed (beatAnswer s (run s cs .kept) g .acted) k ≡ true →
       let st = run s cs .kept in let l = getD (soundLines s .items) k noLine in
-      (before own : Turned) × (turnsFrom s (soundLines s .numbers) (st .cancelled) m (soundLines s .items) k 0 (begun st word lent) ≡ good before)
-      × (turnOf s (soundLines s .numbers) (st .cancelled) m l k (before .world) ≡ good own) × DidAll s (soundLines s .numbers) (st .cancelled) l k (before .world) (own .world)
+      (before own : Turned) × (turnsFrom s (soundLines s .numbers) (st .cancelled) (g .automatic) (soundLines s .items) k 0 (beatBegun st g) ≡ good before)
+      × (turnOf s (soundLines s .numbers) (st .cancelled) (g .automatic) l k (before .world) ≡ good own) × DidAll s (soundLines s .numbers) (st .cancelled) l k (before .world) (own .world)
   did-all k h z e = let t = at-its-turn k h z in (t .before, t .own, t .come, t .taken, t .did e)
 
   -- AND NO OTHER RANK HAS A BIT
-  pub no-other-bit : (k : ℕ) → soundLines s .count ≤ k → isActed (beatAnswer s (run s cs .kept) m word lent b .acted) k ≡ false
+  pub no-other-bit : (k : ℕ) → soundLines s .count ≤ k → isActed (beatAnswer s (run s cs .kept) g .acted) k ≡ false
   unfolding beatAnswer
-  no-other-bit k h = go (beatOf s (run s cs .kept) m word lent (length b)) (λ t. acts-no-other s cs m word lent k (length b) t h)
+  no-other-bit k h = go (wholeBeat s (run s cs .kept) g) (λ t. acts-no-other s cs g k t h)
     where
-      go : (a : Answer Turned) → ((t : Turned) → a ≡ good t → isActed (t .world .acted) k ≡ false) → isActed (answered (run s cs .kept) a .acted) k ≡ false
+      go : (a : Answer Turned) → ((t : Turned) → a ≡ good t → isActed (t .world .acted) k ≡ false) → isActed (turnedAnswer (run s cs .kept) a .acted) k ≡ false
       go (good t) f = f t refl
       go (stop c) f = no-bit k
 
 -- ---- of the orders
 
-module _ (s : List ℕ) (v : Rest) (r : History) (m : Bool) (word : ℕ) (lent : List ℤ) (size : ℕ) (t : Turned) where
-  turns-orders : (u w : Turned) → turnsByRule s (soundLines s) (soundLines s .count) 0 (beatIn m ∷ r) (begunBy v word lent) ≡ good w →
-      u ≡ record { world = w .world; entries = beatIn m ∷ w .entries } → t .world .acted ≡ u .world .acted → t .world .orders ≡ u .world .orders →
+module _ (s : List ℕ) (v : Rest) (r : History) (g : Given) (t : Turned) where
+  turns-orders : (u w : Turned) → turnsByRule s (soundLines s) (soundLines s .count) 0 (beatIn (g .automatic) ∷ r) (begunBy v g) ≡ good w →
+      u ≡ record { world = w .world; entries = beatIn (g .automatic) ∷ w .entries } → t .world .acted ≡ u .world .acted → t .world .orders ≡ u .world .orders →
       Gave (OfActed (soundLines s) (t .world .acted)) [] (t .world .orders)
-  unfolding begunBy begun
+  unfolding begunBy beatBegun
   turns-orders u w e p a o =
       rw (a ∙ ap (λ y. y .world .acted) p, o ∙ ap (λ y. y .world .orders) p)
-      (turns-gave s (soundLines s) (soundLines s .count) 0 (beatIn m ∷ r) (begunBy v word lent) w (omega arith) (omega arith) e)
+      (turns-gave s (soundLines s) (soundLines s .count) 0 (beatIn (g .automatic) ∷ r) (begunBy v g) w (omega arith) (omega arith) e)
 
-  beat-orders : beatOf s (stateBy (soundLines s) v r) m word lent size ≡ good t → Gave (OfActed (soundLines s) (t .world .acted)) [] (t .world .orders)
+  beat-orders : wholeBeat s (stateBy (soundLines s) v r) g ≡ good t → Gave (OfActed (soundLines s) (t .world .acted)) [] (t .world .orders)
   beat-orders e =
-      let u = unflagged s v r m word lent size t e in
-      let w = beat-turns s v r m word lent size (u .0) (u .1) in
+      let u = unflagged s v r g t e in
+      let w = beat-turns s v r g (u .0) (u .1) in
       turns-orders (u .0) (w .0) (w .1) (w .2) (u .2) (u .4)
 
-module _ (s : List ℕ) (cs : List Call) (m : Bool) (word : ℕ) (lent : List ℤ) (b : List ℕ) where
+module _ (s : List ℕ) (cs : List Call) (g : Given) where
   -- EACH ORDER IN THE BUFFER CARRIES THE NUMBER OF A LINE WHOSE BIT IS SET: the buffer begins with the bytes of some orders, as many as the answer says, and the bytes behind them stay
   pub orders-of-acting-lines :
-      let x = beatAnswer s (run s cs .kept) m word lent b in
-      (os : List Order) × (x .orders ≡ length os) × (beatBuffer s (run s cs .kept) m word lent b ≡ bytesOf os ++ drop (orderSize * length os) b) × Each (OfActed (soundLines s) (x .acted)) os
+      let x = beatAnswer s (run s cs .kept) g in
+      (os : List Order) × (x .orders ≡ length os) × (beatBuffer s (run s cs .kept) g ≡ bytesOf os ++ drop (orderSize * length os) (g .buffer)) × Each (OfActed (soundLines s) (x .acted)) os
   unfolding beatAnswer beatBuffer
-  orders-of-acting-lines = go (beatOf s (run s cs .kept) m word lent (length b)) orders
+  orders-of-acting-lines = go (wholeBeat s (run s cs .kept) g) orders
     where
-      orders : (t : Turned) → beatOf s (run s cs .kept) m word lent (length b) ≡ good t → Gave (OfActed (soundLines s) (t .world .acted)) [] (t .world .orders)
-      orders t = rw (demand-3 s cs) (beat-orders s (runByRule s cs .kept) (runByRule s cs .written) m word lent (length b) t)
+      orders : (t : Turned) → wholeBeat s (run s cs .kept) g ≡ good t → Gave (OfActed (soundLines s) (t .world .acted)) [] (t .world .orders)
+      orders t = rw (demand-3 s cs) (beat-orders s (runByRule s cs .kept) (runByRule s cs .written) g t)
 
       go : (a : Answer Turned) → ((t : Turned) → a ≡ good t → Gave (OfActed (soundLines s) (t .world .acted)) [] (t .world .orders)) →
-          let x = answered (run s cs .kept) a in
-          (os : List Order) × (x .orders ≡ length os) × (buffered b a ≡ bytesOf os ++ drop (orderSize * length os) b) × Each (OfActed (soundLines s) (x .acted)) os
+          let x = turnedAnswer (run s cs .kept) a in
+          (os : List Order) × (x .orders ≡ length os) × (buffered (g .buffer) a ≡ bytesOf os ++ drop (orderSize * length os) (g .buffer)) × Each (OfActed (soundLines s) (x .acted)) os
       go (good t) f =
-          let g = f t refl in let n : length (t .world .orders) ≡ orderSize * length (g .given) = ap length (g .bytes) ∙ bytes-length (g .given) in
-          (g .given, rw n (omega arith), ap (λ xs. xs ++ drop (length (t .world .orders)) b) (g .bytes) ∙ ap (λ k. bytesOf (g .given) ++ drop k b) n, g .such)
+          let o = f t refl in let n : length (t .world .orders) ≡ orderSize * length (o .given) = ap length (o .bytes) ∙ bytes-length (o .given) in
+          (o .given, rw n (omega arith), ap (λ xs. xs ++ drop (length (t .world .orders)) (g .buffer)) (o .bytes) ∙ ap (λ k. bytesOf (o .given) ++ drop k (g .buffer)) n, o .such)
       go (stop c) f = ([], refl, refl, tt)

@@ -7,6 +7,7 @@ use lib.IntN.{ℤ}
 use lib.ListN.{length, drop}
 use Rattle.values.specs.Codes.{shortBuffer, wrongNumbers, unsound}
 use Rattle.tokens.specs.Descent.{Answer, good, stop, _>>=_}
+use Rattle.engine.specs.declared.set.Lines.{Lines}
 use Rattle.engine.specs.declared.state.State.{State}
 use Rattle.engine.specs.declared.one_beat.Beaten.{Beaten}
 use Rattle.engine.specs.Set.{soundLines}
@@ -24,10 +25,17 @@ bufferSize = maxOrders * orderSize
 unfoldable pub areInputs : List ℤ → Bool
 areInputs lent = eqb (length lent) numberCount && allRanged lent
 
+-- what a beat is given: whether it is in AUTOMATIC, the input word, the 14 numbers, the order buffer
+pub record Given : Type 0 where
+  pub automatic : Bool
+  pub word : ℕ
+  pub lent : List ℤ
+  pub buffer : List ℕ
+
 -- the beat as it begins
-unfoldable pub begun : State → ℕ → List ℤ → World
-begun st word lent = record {
-  vars = record { r = st .r; cells = beatCells word lent (st .runs) (st .cells); runs = st .runs };
+unfoldable pub beatBegun : State → Given → World
+beatBegun st g = record {
+  vars = record { r = st .r; cells = beatCells (g .word) (g .lent) (st .runs) (st .cells); runs = st .runs };
   locked = st .locked;
   memory = st .memory;
   acted = 0;
@@ -35,8 +43,8 @@ begun st word lent = record {
 }
 
 -- the state as it ends
-unfoldable pub ended : State → World → State
-ended st x = record {
+unfoldable pub beatEnded : State → World → State
+beatEnded st x = record {
   r = x .vars .r;
   cells = drop inputCount (x .vars .cells);
   runs = x .vars .runs;
@@ -45,18 +53,20 @@ ended st x = record {
   memory = x .memory;
 }
 
+-- its turns, over these lines
+abbrev pub allTurns : List ℕ → Lines → State → Given → Answer Turned
+allTurns s ls st g = turnsFrom s (ls .numbers) (st .cancelled) (g .automatic) (ls .items) (ls .count) 0 (beatBegun st g)
+
 -- the beat: what it came to and what is written down of it, or the code of a refusal or an alarm
-unfoldable pub beatOf : List ℕ → State → Bool → ℕ → List ℤ → ℕ → Answer Turned
-beatOf s st automatic word lent size =
+unfoldable pub wholeBeat : List ℕ → State → Given → Answer Turned
+wholeBeat s st g =
     elim (isSound s st) [
       | true ↦
-          elim (ltb size bufferSize) [
+          elim (ltb (length (g .buffer)) bufferSize) [
             | true ↦ stop shortBuffer
             | false ↦
-                elim (areInputs lent) [
-                  | true ↦
-                      turnsFrom s (soundLines s .numbers) (st .cancelled) automatic (soundLines s .items) (soundLines s .count) 0 (begun st word lent) >>= λ t.
-                      good (record { world = t .world; entries = beatIn automatic ∷ t .entries })
+                elim (areInputs (g .lent)) [
+                  | true ↦ allTurns s (soundLines s) st g >>= λ t. good (record { world = t .world; entries = beatIn (g .automatic) ∷ t .entries })
                   | false ↦ stop wrongNumbers
                 ]
           ]
@@ -64,17 +74,17 @@ beatOf s st automatic word lent size =
     ]
 
 -- what the call answers
-abbrev pub answered : State → Answer Turned → Beaten
-answered st (good t) = record { code = 0; orders = length (t .world .orders) / orderSize; acted = t .world .acted; state = ended st (t .world) }
-answered st (stop k) = record { code = k; orders = 0; acted = 0; state = st }
+abbrev pub turnedAnswer : State → Answer Turned → Beaten
+turnedAnswer st (good t) = record { code = 0; orders = length (t .world .orders) / orderSize; acted = t .world .acted; state = beatEnded st (t .world) }
+turnedAnswer st (stop k) = record { code = k; orders = 0; acted = 0; state = st }
 
 -- the order buffer afterwards
 abbrev pub buffered : List ℕ → Answer Turned → List ℕ
 buffered b (good t) = t .world .orders ++ drop (length (t .world .orders)) b
 buffered b (stop k) = b
 
-unfoldable pub beatAnswer : List ℕ → State → Bool → ℕ → List ℤ → List ℕ → Beaten
-beatAnswer s st automatic word lent b = answered st (beatOf s st automatic word lent (length b))
+unfoldable pub beatAnswer : List ℕ → State → Given → Beaten
+beatAnswer s st g = turnedAnswer st (wholeBeat s st g)
 
-unfoldable pub beatBuffer : List ℕ → State → Bool → ℕ → List ℤ → List ℕ → List ℕ
-beatBuffer s st automatic word lent b = buffered b (beatOf s st automatic word lent (length b))
+unfoldable pub beatBuffer : List ℕ → State → Given → List ℕ
+beatBuffer s st g = buffered (g .buffer) (wholeBeat s st g)

@@ -4,8 +4,7 @@ ghost use mathlib.Core.List.{_++_};
 ghost use Prim.Native.Nat.{_≤_};
 ghost use lib.ListN.{length, take, drop};
 ghost use Rattle.engine.specs.Cells.{numberCount};
-ghost use Rattle.engine.specs.Turn.{turnsFrom};
-ghost use Rattle.engine.specs.Beat.{areInputs, begun, answered, buffered, beatAnswer, beatBuffer, bufferSize};
+ghost use Rattle.engine.specs.Beat.{areInputs, allTurns, turnedAnswer, buffered, beatAnswer, beatBuffer, bufferSize};
 ghost use Rattle.engine.specs.Order.{maxOrders};
 ghost use Rattle.tokens.specs.Token.{maxLines};
 use crate::action::Flags;
@@ -111,8 +110,8 @@ fn all_turns(
     orders: &mut [u8],
 ) -> Beaten
     requires { ⌜ (lines .count ≤ maxLines) × ((length (now lent) ≡ numberCount) × (bufferSize ≤ length (now orders))) ⌝ }
-    ensures { λ x. ⌜ x ≡ answered state (turnsFrom (now (set .entry)) (lines .numbers) (state .cancelled) automatic (lines .items) (lines .count) 0 (begun state inputs (now (lent .entry)))) ⌝ }
-    ensures { λ x. ⌜ now (orders .exit) ≡ buffered (now (orders .entry)) (turnsFrom (now (set .entry)) (lines .numbers) (state .cancelled) automatic (lines .items) (lines .count) 0 (begun state inputs (now (lent .entry)))) ⌝ }
+    ensures { λ x. ⌜ x ≡ turnedAnswer state (allTurns (now (set .entry)) lines state (record { automatic = automatic; word = inputs; lent = now (lent .entry); buffer = now (orders .entry) })) ⌝ }
+    ensures { λ x. ⌜ now (orders .exit) ≡ buffered (now (orders .entry)) (allTurns (now (set .entry)) lines state (record { automatic = automatic; word = inputs; lent = now (lent .entry); buffer = now (orders .entry) })) ⌝ }
 {
     let mut r = state.r;
     let runs = state.runs;
@@ -141,8 +140,8 @@ pub fn beat(
     lent: &[i32],
     orders: &mut [u8],
 ) -> Beaten
-    ensures { λ x. ⌜ x ≡ beatAnswer (now (set .entry)) state automatic inputs (now (lent .entry)) (now (orders .entry)) ⌝ }
-    ensures { λ x. ⌜ now (orders .exit) ≡ beatBuffer (now (set .entry)) state automatic inputs (now (lent .entry)) (now (orders .entry)) ⌝ }
+    ensures { λ x. ⌜ x ≡ beatAnswer (now (set .entry)) state (record { automatic = automatic; word = inputs; lent = now (lent .entry); buffer = now (orders .entry) }) ⌝ }
+    ensures { λ x. ⌜ now (orders .exit) ≡ beatBuffer (now (set .entry)) state (record { automatic = automatic; word = inputs; lent = now (lent .entry); buffer = now (orders .entry) }) ⌝ }
 {
     let lines = sound_lines(set);
     let sound = lines.sound;

@@ -67,7 +67,7 @@ module _ (s : List ℕ) (size : length s ≤ setSize) where
   -- a call of a run keeps the state sound, and adds no 22
   step-keeps : (c : Call) (n : Now State) → Whole s (n .kept) → NoneIs22 (n .told) → Whole s (step s c n .kept) × NoneIs22 (step s c n .told)
   unfolding step
-  step-keeps (doBeat m word lent b) n w h = (call-keeps s (n .kept) (doBeat m word lent b) size w, (call-not22 s (n .kept) (doBeat m word lent b) size w, h))
+  step-keeps (doBeat g) n w h = (call-keeps s (n .kept) (doBeat g) size w, (call-not22 s (n .kept) (doBeat g) size w, h))
   step-keeps (doLock k) n w h = (call-keeps s (n .kept) (doLock k) size w, (call-not22 s (n .kept) (doLock k) size w, h))
   step-keeps (doUnlock k) n w h = (call-keeps s (n .kept) (doUnlock k) size w, (call-not22 s (n .kept) (doUnlock k) size w, h))
   step-keeps (doCancel k) n w h = (call-keeps s (n .kept) (doCancel k) size w, (call-not22 s (n .kept) (doCancel k) size w, h))

@@ -5,7 +5,6 @@ use mathlib.Core.List.{List, [], _∷_, map}
 use Prim.Native.Nat.{ℕ, suc, _+_, _<_}
 use native.Mathlib.Omega.{arith}
 use lib.Dec.{ltb}
-use lib.IntN.{ℤ}
 use lib.ListN.{length, getD, length-map}
 use Rattle.tokens.specs.Token.{setSize}
 use Rattle.tokens.specs.Descent.{good, _>>=_}
@@ -16,7 +15,7 @@ use Rattle.engine.specs.Set.{soundLines, withoutMark, withEnd}
 use Rattle.engine.specs.Sound.{isSound}
 use Rattle.engine.specs.Action.{World}
 use Rattle.engine.specs.Turn.{beatIn, turnsFrom}
-use Rattle.engine.specs.Beat.{bufferSize, areInputs, begun, beatOf}
+use Rattle.engine.specs.Beat.{bufferSize, areInputs, Given, beatBegun, wholeBeat}
 use Rattle.soundness.specs.Call.{Call, afterAll}
 use Rattle.turn_trees.specs.TurnTree.{namesOf, turnsTree}
 use Rattle.turn_trees.specs.SoundTurns.{TreesFrom, TreesOf, sound-turns, beat-by-trees}
@@ -91,17 +90,17 @@ module _ (t : List ℕ) (rs : List Row) (h : outcome t ≡ taken rs) where
         ∙ rw (names-to unmarked unmarked-keeps ls cancelled)
 
     -- A BEAT that is not refused
-    pub loaded-beat-by-trees : (st : State) (automatic : Bool) (word : ℕ) (lent : List ℤ) (room : ℕ) → isSound (loadSet t) st ≡ true → ltb room bufferSize ≡ false → areInputs lent ≡ true →
-        beatOf (loadSet t) st automatic word lent room
-        ≡ (turnsTree (namesOf ls (st .cancelled)) automatic ls 0 (begun st word lent) >>= λ u. good (record { world = u .world; entries = beatIn automatic ∷ u .entries }))
-    loaded-beat-by-trees st automatic word lent room a b c =
+    pub loaded-beat-by-trees : (st : State) (g : Given) → isSound (loadSet t) st ≡ true → ltb (length (g .buffer)) bufferSize ≡ false → areInputs (g .lent) ≡ true →
+        wholeBeat (loadSet t) st g
+        ≡ (turnsTree (namesOf ls (st .cancelled)) (g .automatic) ls 0 (beatBegun st g) >>= λ u. good (record { world = u .world; entries = beatIn (g .automatic) ∷ u .entries }))
+    loaded-beat-by-trees st g a b c =
         let n = load-size t in
-        beat-by-trees (loadSet t) (map unmarkedTree ls) st automatic word lent room (omega arith) load-trees a b c
-        ∙ rw (turns-to unmarked unmarked-keeps (namesOf (map unmarkedTree ls) (st .cancelled)) automatic ls 0 (begun st word lent), names-to unmarked unmarked-keeps ls (st .cancelled))
+        beat-by-trees (loadSet t) (map unmarkedTree ls) st g (omega arith) load-trees a b c
+        ∙ rw (turns-to unmarked unmarked-keeps (namesOf (map unmarkedTree ls) (st .cancelled)) (g .automatic) ls 0 (beatBegun st g), names-to unmarked unmarked-keeps ls (st .cancelled))
 
     -- SO AFTER ANY CALLS from the load on
-    pub beat-after-calls : (cs : List Call) (automatic : Bool) (word : ℕ) (lent : List ℤ) (room : ℕ) → ltb room bufferSize ≡ false → areInputs lent ≡ true →
+    pub beat-after-calls : (cs : List Call) (g : Given) → ltb (length (g .buffer)) bufferSize ≡ false → areInputs (g .lent) ≡ true →
         let st : State = afterAll (loadSet t) (loadAnswer t .state) cs in
-        beatOf (loadSet t) st automatic word lent room
-        ≡ (turnsTree (namesOf ls (st .cancelled)) automatic ls 0 (begun st word lent) >>= λ u. good (record { world = u .world; entries = beatIn automatic ∷ u .entries }))
-    beat-after-calls cs automatic word lent room b c = loaded-beat-by-trees (afterAll (loadSet t) (loadAnswer t .state) cs) automatic word lent room (load-always-sound t cs) b c
+        wholeBeat (loadSet t) st g
+        ≡ (turnsTree (namesOf ls (st .cancelled)) (g .automatic) ls 0 (beatBegun st g) >>= λ u. good (record { world = u .world; entries = beatIn (g .automatic) ∷ u .entries }))
+    beat-after-calls cs g b c = loaded-beat-by-trees (afterAll (loadSet t) (loadAnswer t .state) cs) g (load-always-sound t cs) b c

@@ -26,7 +26,7 @@ use Rattle.engine.specs.Action.{alarmOf, lockOf, takenAt, assignmentOf, driveOf
 use Rattle.engine.specs.Actions.{actionsOf}
 use Rattle.engine.specs.Keyword.{tries, acts, remembers}
 use Rattle.engine.specs.Turn.{takesTurn, doTurn, tryTurn, turnOf, turnsFrom}
-use Rattle.engine.specs.Beat.{areInputs, begun as beatBegun, ended as beatEnded, beatOf as wholeBeat, beatAnswer, beatBuffer}
+use Rattle.engine.specs.Beat.{areInputs, beatBegun, beatEnded, wholeBeat, beatAnswer, beatBuffer}
 use Rattle.engine.specs.NamedLine.{foundAt, found}
 use Rattle.engine.specs.Calls.{called, lockedCall, lockCall, unlockCall, cancelCall, resetCancelled, zeroed, resetState, resetCall}
 use Rattle.text.specs.Byte.{bytes, run}

@@ -7,7 +7,6 @@ use mathlib.Core.List.{List, [], _∷_}
 use Prim.Native.Nat.{ℕ}
 use native.Mathlib.Omega.{arith}
 use lib.Dec.{eqb, ltb}
-use lib.IntN.{ℤ}
 use lib.ListN.{length, getD}
 use borrow.Author.Tests.{ltb-true}
 use Rattle.values.specs.Codes.{unsound}
@@ -18,8 +17,8 @@ use Rattle.engine.specs.declared.calls.Called.{Called}
 use Rattle.engine.specs.declared.named_line.Found.{Found}
 use Rattle.engine.specs.Set.{rankIn, soundLines}
 use Rattle.engine.specs.Sound.{isSound}
-use Rattle.engine.specs.Turn.{Turned, turnsFrom}
-use Rattle.engine.specs.Beat.{bufferSize, areInputs, begun, beatOf, answered, beatAnswer}
+use Rattle.engine.specs.Turn.{Turned}
+use Rattle.engine.specs.Beat.{bufferSize, areInputs, Given, allTurns, beatBegun, wholeBeat, turnedAnswer, beatAnswer}
 use Rattle.engine.specs.NamedLine.{foundAt, found}
 use Rattle.engine.specs.Calls.{withLocked, withCancelled, called, lockedCall, lockCall, unlockCall, cancelCall, resetCall}
 use Rattle.soundness.specs.AnswerCodes.{OneOf, beatCodes, hostCodes}
@@ -44,41 +43,41 @@ turn-code : {A : Type 0} (x : Answer A) → StopsBy TurnCode x → StopsBy BeatC
 turn-code (good a) h = tt
 turn-code (stop c) h = inr (inr h)
 
-module _ (s : List ℕ) (st : State) (automatic : Bool) (word : ℕ) (lent : List ℤ) where
+module _ (s : List ℕ) (st : State) (g : Given) where
   -- a beat stops by 20, 21, 22 or an alarm of 30 to 34
-  beat-stops : (size : ℕ) → StopsBy BeatCode (beatOf s st automatic word lent size)
-  unfolding beatOf
-  beat-stops size =
+  beat-stops : StopsBy BeatCode (wholeBeat s st g)
+  unfolding wholeBeat
+  beat-stops =
       let P : Answer Turned → Type 0 = StopsBy BeatCode in
-      let turns = turnsFrom s (soundLines s .numbers) (st .cancelled) automatic (soundLines s .items) (soundLines s .count) 0 (begun st word lent) in
+      let turns = allTurns s (soundLines s) st g in
       either P (isSound s st)
-      (λ e. either P (ltb size bufferSize) (λ e. inl refl) λ e.
-      either P (areInputs lent)
-      (λ e. stops-then BeatCode turns _ (turn-code turns (turns-by s (soundLines s .numbers) (st .cancelled) automatic (soundLines s .items) (soundLines s .count) 0 (begun st word lent))) (λ t. tt))
+      (λ e. either P (ltb (length (g .buffer)) bufferSize) (λ e. inl refl) λ e.
+      either P (areInputs (g .lent))
+      (λ e. stops-then BeatCode turns _ (turn-code turns (turns-by s (soundLines s .numbers) (st .cancelled) (g .automatic) (soundLines s .items) (soundLines s .count) 0 (beatBegun st g))) (λ t. tt))
       (λ e. inr (inl refl)))
       (λ e. inr (inr (inl refl)))
 
   -- A BEAT THAT STOPPED NEVER HAS 0
-  pub stopped-not-0 : (size c : ℕ) → beatOf s st automatic word lent size ≡ stop c → c ≢ 0
-  stopped-not-0 size c e = not-0 beatCodes c refl (rw e at (beat-stops size))
+  pub stopped-not-0 : (c : ℕ) → wholeBeat s st g ≡ stop c → c ≢ 0
+  stopped-not-0 c e = not-0 beatCodes c refl (rw e at beat-stops)
 
   -- A BEAT ANSWERS 0, 20, 21, 22 or an alarm of 30 to 34
-  pub beat-code : (b : List ℕ) → OneOf (0 ∷ beatCodes) (beatAnswer s st automatic word lent b .code)
+  pub beat-code : OneOf (0 ∷ beatCodes) (beatAnswer s st g .code)
   unfolding beatAnswer
-  beat-code b = by-answer (beatOf s st automatic word lent (length b)) (beat-stops (length b))
+  beat-code = by-answer (wholeBeat s st g) beat-stops
     where
-      by-answer : (x : Answer Turned) → StopsBy BeatCode x → OneOf (0 ∷ beatCodes) (answered st x .code)
+      by-answer : (x : Answer Turned) → StopsBy BeatCode x → OneOf (0 ∷ beatCodes) (turnedAnswer st x .code)
       by-answer (good t) h = inl refl
       by-answer (stop c) h = inr h
 
   -- so where a beat answers 0, it ended well
-  pub ended-well : (b : List ℕ) → beatAnswer s st automatic word lent b .code ≡ 0 → (t : Turned) × (beatOf s st automatic word lent (length b) ≡ good t)
+  pub ended-well : beatAnswer s st g .code ≡ 0 → (t : Turned) × (wholeBeat s st g ≡ good t)
   unfolding beatAnswer
-  ended-well b e = by-answer (beatOf s st automatic word lent (length b)) refl e
+  ended-well e = by-answer (wholeBeat s st g) refl e
     where
-      by-answer : (x : Answer Turned) → beatOf s st automatic word lent (length b) ≡ x → answered st x .code ≡ 0 → (t : Turned) × (beatOf s st automatic word lent (length b) ≡ good t)
+      by-answer : (x : Answer Turned) → wholeBeat s st g ≡ x → turnedAnswer st x .code ≡ 0 → (t : Turned) × (wholeBeat s st g ≡ good t)
       by-answer (good t) p e = (t, p)
-      by-answer (stop c) p e = absurd (stopped-not-0 (length b) c p e)
+      by-answer (stop c) p e = absurd (stopped-not-0 c p e)
 
 -- ---- a host's call
 

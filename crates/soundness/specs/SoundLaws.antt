@@ -32,10 +32,10 @@ use Rattle.engine.specs.Action.{World, Did, fromValueOrAlarm}
 use Rattle.engine.specs.Actions.{actionsOf}
 use Rattle.engine.specs.Turn.{Entry, Turned, remembered, counted, takesTurn, doTurn, tryTurn, turnOf, turnsFrom}
 use Rattle.engine.specs.Keyword.{tries, remembers}
-use Rattle.engine.specs.Beat.{bufferSize, areInputs, begun, ended, beatOf, answered, beatAnswer}
+use Rattle.engine.specs.Beat.{bufferSize, areInputs, Given, beatBegun, beatEnded, allTurns, wholeBeat, turnedAnswer, beatAnswer}
 use Rattle.engine.specs.Calls.{lockCall, unlockCall, cancelCall}
 use Rattle.engine.specs.InputLaws.{length-inputs, inputs-length}
-use Rattle.soundness.specs.Call.{Call, doBeat, doLock, doUnlock, doCancel, doReset, after, codeAfter, afterAll}
+use Rattle.soundness.specs.Call.{Call, doBeat, doLock, doUnlock, doCancel, doReset, stateAfter, codeAfter, afterAll}
 use Rattle.soundness.specs.GoodAnswers.{Not22, Holds, holds-then}
 use Rattle.engine.specs.SetLinesLaws.{lines-lined}
 use Rattle.soundness.specs.SetSoundLaws.{lines-known}
@@ -172,42 +172,39 @@ pub record Whole (s : List ℕ) (st : State) : Type 0 where
   pub sized : length (st .cells) ≡ stateCells
 
 -- a beat that goes well leaves one, and it stops by no 22
-beat-holds : (s : List ℕ) (st : State) (automatic : Bool) (word : ℕ) (lent : List ℤ) (size : ℕ) → length s ≤ setSize → Whole s st →
-    Holds (λ t. Whole s (ended st (t .world))) (beatOf s st automatic word lent size)
-unfolding beatOf begun ended
-beat-holds s st automatic word lent size l h =
+beat-holds : (s : List ℕ) (st : State) (g : Given) → length s ≤ setSize → Whole s st → Holds (λ t. Whole s (beatEnded st (t .world))) (wholeBeat s st g)
+unfolding wholeBeat beatBegun beatEnded
+beat-holds s st g l h =
     let y = h .sound in
     ifNot P (isSound s st) (λ e. clash (cc)) λ e.
-    either P (ltb size bufferSize) (λ b z. omega arith) λ b.
-    ifNot P (areInputs lent) (λ a z. omega arith) λ a.
-    let vars = begun-cells (st .r) (st .cells) word lent (st .runs) (h .long) (h .sized) a (state-right s st e .cells) in
-    holds-then (λ (t : Turned). WorldSound (soundLines s .count) (st .cancelled) (t .world)) (λ t. Whole s (ended st (t .world)))
-    (turnsFrom s (soundLines s .numbers) (st .cancelled) automatic (soundLines s .items) (soundLines s .count) 0 (begun st word lent)) _
-    (turns-fine s (set-sound s st e) l (st .cancelled) automatic (soundLines s .count) 0 (begun st word lent) (omega arith) (record { vars = vars; flags = state-right s st e .flags })) λ t f.
+    either P (ltb (length (g .buffer)) bufferSize) (λ b z. omega arith) λ b.
+    ifNot P (areInputs (g .lent)) (λ a z. omega arith) λ a.
+    let vars = begun-cells (st .r) (st .cells) (g .word) (g .lent) (st .runs) (h .long) (h .sized) a (state-right s st e .cells) in
+    holds-then (λ (t : Turned). WorldSound (soundLines s .count) (st .cancelled) (t .world)) (λ t. Whole s (beatEnded st (t .world)))
+    (allTurns s (soundLines s) st g) _
+    (turns-fine s (set-sound s st e) l (st .cancelled) (g .automatic) (soundLines s .count) 0 (beatBegun st g) (omega arith) (record { vars = vars; flags = state-right s st e .flags })) λ t f.
     record {
-      sound = right-state s (ended st (t .world)) (set-sound s st e) (record { cells = f .vars .state; flags = f .flags });
+      sound = right-state s (beatEnded st (t .world)) (set-sound s st e) (record { cells = f .vars .state; flags = f .flags });
       long = f .vars .long;
       sized = omega (arith, length-drop inputCount (t .world .vars .cells), f .vars .sized);
     }
   where
     P : Answer Turned → Type 0
-    P = Holds (λ t. Whole s (ended st (t .world)))
+    P = Holds (λ t. Whole s (beatEnded st (t .world)))
 
-answered-whole : (s : List ℕ) (st : State) (x : Answer Turned) → Whole s st → Holds (λ t. Whole s (ended st (t .world))) x → Whole s (answered st x .state) × Not22 (answered st x .code)
+answered-whole : (s : List ℕ) (st : State) (x : Answer Turned) → Whole s st → Holds (λ t. Whole s (beatEnded st (t .world))) x → Whole s (turnedAnswer st x .state) × Not22 (turnedAnswer st x .code)
 answered-whole s st (good t) h e = (e, λ z. omega arith)
 answered-whole s st (stop k) h e = (h, e)
 
 -- a beat leaves a sound state of its size, whatever it answers, and that is not 22
-pub beat-answers : (s : List ℕ) (st : State) (automatic : Bool) (word : ℕ) (lent : List ℤ) (b : List ℕ) → length s ≤ setSize → Whole s st →
-    Whole s (beatAnswer s st automatic word lent b .state) × Not22 (beatAnswer s st automatic word lent b .code)
+pub beat-answers : (s : List ℕ) (st : State) (g : Given) → length s ≤ setSize → Whole s st → Whole s (beatAnswer s st g .state) × Not22 (beatAnswer s st g .code)
 unfolding beatAnswer
-beat-answers s st automatic word lent b l h =
-    answered-whole s st (beatOf s st automatic word lent (length b)) h (beat-holds s st automatic word lent (length b) l h)
+beat-answers s st g l h = answered-whole s st (wholeBeat s st g) h (beat-holds s st g l h)
 
 -- so a beat keeps a sound state sound
-pub beat-keeps : (s : List ℕ) (st : State) (automatic : Bool) (word : ℕ) (lent : List ℤ) (b : List ℕ) → length s ≤ setSize → length (st .r) ≡ 164 → length (st .cells) ≡ stateCells →
-    isSound s st ≡ true → isSound s (beatAnswer s st automatic word lent b .state) ≡ true
-beat-keeps s st automatic word lent b l lr lc h = beat-answers s st automatic word lent b l (record { sound = h; long = lr; sized = lc }) .0 .sound
+pub beat-keeps : (s : List ℕ) (st : State) (g : Given) → length s ≤ setSize → length (st .r) ≡ 164 → length (st .cells) ≡ stateCells →
+    isSound s st ≡ true → isSound s (beatAnswer s st g .state) ≡ true
+beat-keeps s st g l lr lc h = beat-answers s st g l (record { sound = h; long = lr; sized = lc }) .0 .sound
 
 -- ---- call after call
 
@@ -215,15 +212,15 @@ unchanged : (s : List ℕ) (st : State) (c : Called) → Whole s st → isSound 
 unchanged s st c h e a = record { sound = e; long = rw (a .r) (h .long); sized = rw (a .cells) (h .sized) }
 
 -- each call keeps a sound state sound
-pub call-keeps : (s : List ℕ) (st : State) (c : Call) → length s ≤ setSize → Whole s st → Whole s (after s st c)
+pub call-keeps : (s : List ℕ) (st : State) (c : Call) → length s ≤ setSize → Whole s st → Whole s (stateAfter s st c)
 call-keeps s st (doLock n) l h = unchanged s st (lockCall s st n) h (lockCall-keeps s st n (h .sound)) (lockCall-answers s st n (h .sound))
 call-keeps s st (doUnlock n) l h = unchanged s st (unlockCall s st n) h (unlockCall-keeps s st n (h .sound)) (unlockCall-answers s st n (h .sound))
 call-keeps s st (doCancel n) l h = unchanged s st (cancelCall s st n) h (cancelCall-keeps s st n (h .sound)) (cancelCall-answers s st n (h .sound))
 call-keeps s st doReset l h = record { sound = resetCall-keeps s st (h .sound); long = rw (resetCall-r s st) (h .long); sized = resetCall-length s st (h .sized) }
-call-keeps s st (doBeat automatic word lent b) l h = beat-answers s st automatic word lent b l h .0
+call-keeps s st (doBeat g) l h = beat-answers s st g l h .0
 
 -- A SOUND STATE STAYS SOUND, whatever is called
-pub sound-stays-sound : (s : List ℕ) (st : State) (c : Call) → length s ≤ setSize → length (st .r) ≡ 164 → length (st .cells) ≡ stateCells → isSound s st ≡ true → isSound s (after s st c) ≡ true
+pub sound-stays-sound : (s : List ℕ) (st : State) (c : Call) → length s ≤ setSize → length (st .r) ≡ 164 → length (st .cells) ≡ stateCells → isSound s st ≡ true → isSound s (stateAfter s st c) ≡ true
 sound-stays-sound s st c l lr lc h = call-keeps s st c l (record { sound = h; long = lr; sized = lc }) .sound
 
 -- and answers no 22
@@ -232,13 +229,13 @@ call-not22 s st (doLock n) l h = lockCall-answers s st n (h .sound) .code
 call-not22 s st (doUnlock n) l h = unlockCall-answers s st n (h .sound) .code
 call-not22 s st (doCancel n) l h = cancelCall-answers s st n (h .sound) .code
 call-not22 s st doReset l h = resetCall-code s st (h .sound)
-call-not22 s st (doBeat automatic word lent b) l h = beat-answers s st automatic word lent b l h .1
+call-not22 s st (doBeat g) l h = beat-answers s st g l h .1
 
 -- so do any calls
 pub calls-keep : (s : List ℕ) (st : State) (cs : List Call) → length s ≤ setSize → Whole s st → Whole s (afterAll s st cs)
 unfolding afterAll
 calls-keep s st [] l h = h
-calls-keep s st (c ∷ cs) l h = calls-keep s (after s st c) cs l (call-keeps s st c l h)
+calls-keep s st (c ∷ cs) l h = calls-keep s (stateAfter s st c) cs l (call-keeps s st c l h)
 
 -- power-on is a sound state of its size
 pub power-on-whole : (s : List ℕ) → soundLines s .sound ≡ true → Whole s powerOn

@@ -3,9 +3,8 @@ use mathlib.Core.Path.{_≡_, sym, ap, _∙_}
 use mathlib.Core.List.{List, _++_}
 use Prim.Native.Nat.{ℕ, _+_, _≤_}
 use native.Mathlib.Omega.{arith}
-use lib.ListN.{replicate}
 use Rattle.engine.specs.declared.one_beat.Beaten.{Beaten}
-use Rattle.engine.specs.Beat.{bufferSize, beatAnswer, beatBuffer}
+use Rattle.engine.specs.Beat.{beatAnswer, beatBuffer}
 use Rattle.engine.specs.Order.{maxOrders}
 use Rattle.values.specs.PutAt.{IsPut}
 use Rattle.values.specs.PutLaws.{put-both, put-as}
@@ -14,7 +13,7 @@ use Rattle.transcript.specs.Output.{codeLine, orderLines}
 use Rattle.transcript.specs.OutputLaws.{codeRoom, code-room}
 use Rattle.transcript.specs.declared.totals.Totals.{Totals}
 use Rattle.transcript.specs.Totals.{counting}
-use Rattle.transcript.specs.Tally.{counted, answerOf, bufferOf, beatText}
+use Rattle.transcript.specs.Tally.{counted, givenBy, answerOf, bufferOf, beatText}
 use Rattle.transcript.specs.SessionRoomLaws.{beat-orders}
 
 -- where C ends
@@ -22,7 +21,7 @@ pub code-near : (beat code orders : ℕ) {s t : List ℕ} {at q : ℕ} → IsPut
 code-near beat code orders h = let r = code-room beat code orders in let e = h .behind in omega arith
 
 -- a beat b of a line that lends l
-module _ (s : List ℕ) (n : Totals) (l : Lent) {b : Beaten} (a : b ≡ beatAnswer s (n .state) (l .automatic) (l .word) (l .numbers) (replicate bufferSize 0)) where
+module _ (s : List ℕ) (n : Totals) (l : Lent) {b : Beaten} (a : b ≡ beatAnswer s (n .state) (givenBy l)) where
   answer-is : answerOf s n l ≡ b
   unfolding answerOf
   answer-is = sym a
@@ -34,7 +33,7 @@ module _ (s : List ℕ) (n : Totals) (l : Lent) {b : Beaten} (a : b ≡ beatAnsw
   beat-counted k = k ∙ ap (counted n) (sym answer-is)
 
   -- its orders in o
-  module _ {o : List ℕ} (f : o ≡ beatBuffer s (n .state) (l .automatic) (l .word) (l .numbers) (replicate bufferSize 0)) where
+  module _ {o : List ℕ} (f : o ≡ beatBuffer s (n .state) (givenBy l)) where
     printed : beatText s n l ≡ codeLine (n .beats + 1) (b .code) (b .orders) ++ orderLines (b .orders) o
     unfolding beatText answerOf bufferOf
     printed = rw (a, f)

@@ -4,7 +4,6 @@ use mathlib.Core.List.{List, [], _∷_}
 use Prim.Native.Nat.{ℕ, zero, suc, _+_, _*_, _≤_}
 use native.Mathlib.Omega.{arith}
 use lib.Dec.{eqb, ltb}
-use lib.IntN.{ℤ}
 use lib.ListN.{length, getD, length-append}
 use Rattle.values.specs.Choice.{either, ifNot}
 use Rattle.engine.specs.Order.{maxOrders}
@@ -26,7 +25,7 @@ use Rattle.engine.specs.Drive.{driveOrder}
 use Rattle.engine.specs.Write.{writeTo}
 use Rattle.engine.specs.Turn.{Entry, Turned, worked, remembered, counted, takesTurn, doTurn, tryTurn, turnOf, turnsFrom}
 use Rattle.engine.specs.Keyword.{tries, acts, remembers}
-use Rattle.engine.specs.Beat.{bufferSize, areInputs, begun, beatOf, answered, beatAnswer}
+use Rattle.engine.specs.Beat.{bufferSize, areInputs, Given, beatBegun, allTurns, wholeBeat, turnedAnswer, beatAnswer}
 
 -- ---- the bytes of orders that are added
 
@@ -126,25 +125,25 @@ module _ (s numbers : List ℕ) (cancelled : List Bool) (automatic : Bool) where
 -- ---- the beat
 
 -- the bytes of a beat's orders fit the buffer
-pub bytes-within : (s : List ℕ) (st : State) (automatic : Bool) (word : ℕ) (lent : List ℤ) (size : ℕ) →
-    Ok (λ (t : Turned). length (t .world .orders) ≤ 2048) (beatOf s st automatic word lent size)
-unfolding beatOf begun
-bytes-within s st automatic word lent size =
+pub bytes-within : (s : List ℕ) (st : State) (g : Given) →
+    Ok (λ (t : Turned). length (t .world .orders) ≤ 2048) (wholeBeat s st g)
+unfolding wholeBeat beatBegun
+bytes-within s st g =
     let P : Answer Turned → Type 0 = Ok (λ (t : Turned). length (t .world .orders) ≤ 2048) in
     either P (isSound s st)
-    (λ e. either P (ltb size bufferSize) (λ g. tt) λ g.
-    either P (areInputs lent)
-    (λ h. ok-then (λ (t : Turned). Adds (begun st word lent) (64 * soundLines s .count) (t .world)) (λ (t : Turned). length (t .world .orders) ≤ 2048)
-    (turnsFrom s (soundLines s .numbers) (st .cancelled) automatic (soundLines s .items) (soundLines s .count) 0 (begun st word lent)) _
-    (turns-add s (soundLines s .numbers) (st .cancelled) automatic (soundLines s .items) (soundLines s .count) 0 (begun st word lent))
+    (λ e. either P (ltb (length (g .buffer)) bufferSize) (λ b. tt) λ b.
+    either P (areInputs (g .lent))
+    (λ h. ok-then (λ (t : Turned). Adds (beatBegun st g) (64 * soundLines s .count) (t .world)) (λ (t : Turned). length (t .world .orders) ≤ 2048)
+    (allTurns s (soundLines s) st g) _
+    (turns-add s (soundLines s .numbers) (st .cancelled) (g .automatic) (soundLines s .items) (soundLines s .count) 0 (beatBegun st g))
     (λ t a. let f = lines-lined s .few in omega arith))
     (λ h. tt))
     (λ e. tt)
 
-answered-within : (st : State) (a : Answer Turned) → Ok (λ (t : Turned). length (t .world .orders) ≤ 2048) a → answered st a .orders ≤ maxOrders
+answered-within : (st : State) (a : Answer Turned) → Ok (λ (t : Turned). length (t .world .orders) ≤ 2048) a → turnedAnswer st a .orders ≤ maxOrders
 answered-within st (good t) h = omega arith
 answered-within st (stop k) h = omega arith
 
-pub orders-within : (s : List ℕ) (st : State) (automatic : Bool) (word : ℕ) (lent : List ℤ) (b : List ℕ) → beatAnswer s st automatic word lent b .orders ≤ maxOrders
+pub orders-within : (s : List ℕ) (st : State) (g : Given) → beatAnswer s st g .orders ≤ maxOrders
 unfolding beatAnswer
-orders-within s st automatic word lent b = answered-within st (beatOf s st automatic word lent (length b)) (bytes-within s st automatic word lent (length b))
+orders-within s st g = answered-within st (wholeBeat s st g) (bytes-within s st g)

@@ -7,11 +7,10 @@ use mathlib.Core.Option.{Option, none, some}
 use Prim.Native.Nat.{ℕ, zero, suc, _+_, _≤_}
 use native.Mathlib.Omega.{arith}
 use lib.Dec.{eqb, leb, ltb}
-use lib.ListN.{length, take, replicate, length-append}
+use lib.ListN.{length, take, length-append}
 use borrow.Author.Tests.{leb-true, le-leb, ltb-true, eqb-true, eqb-false}
 use Rattle.values.specs.Choice.{either, both, and-true}
 use Rattle.text.specs.Byte.{CR, SPACE, isDigit}
-use Rattle.engine.specs.Beat.{bufferSize}
 use Rattle.engine.specs.Order.{maxOrders}
 use Rattle.reader.specs.Load.{loadAnswer}
 use Rattle.transcript.specs.declared.set_text.Place.{Place}
@@ -23,7 +22,7 @@ use Rattle.transcript.specs.OutputLaws.{load-room, error-room, code-room
 use Rattle.transcript.specs.declared.totals.Totals.{Totals}
 use Rattle.transcript.specs.Totals.{maxBeats, areFit}
 use Rattle.transcript.specs.TotalsLaws.{FitTotals, fit-totals, totals-fit, counting-fit}
-use Rattle.transcript.specs.Tally.{counted, answerOf, bufferOf, beatText}
+use Rattle.transcript.specs.Tally.{counted, givenBy, answerOf, bufferOf, beatText}
 use Rattle.transcript.specs.HalfLine.{lastField, withField, closed, spaceAfter, modeByte, minusByte, digitByte, fieldByte, readByte, readOn, greatest, readLent, withoutCR, isUntouched}
 use Rattle.transcript.specs.Machine.{TEXT, BEATS, OVER, Machine, Fed, isFit, opened, textEnd, beatOf, beatEnd, chunk, lineEnd, textOver, lastOver, finished, finishedText}
 use Rattle.transcript.specs.SetText.{keptSize, placeOn, placeEnd}
@@ -50,7 +49,7 @@ Short n bs = length bs ≤ n
 -- a beat has at most 256 orders
 pub beat-orders : (s : List ℕ) (n : Totals) (l : Lent) → answerOf s n l .orders ≤ maxOrders
 unfolding answerOf
-beat-orders s n l = orders-within s (n .state) (l .automatic) (l .word) (l .numbers) (replicate bufferSize 0)
+beat-orders s n l = orders-within s (n .state) (givenBy l)
 
 pub beat-room : (s : List ℕ) (n : Totals) (l : Lent) → length (beatText s n l) ≤ beatRoom
 unfolding beatText

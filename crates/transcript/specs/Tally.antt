@@ -4,7 +4,7 @@ use Prim.Native.Nat.{ℕ, _+_}
 use lib.ListN.{replicate}
 use Rattle.transcript.specs.BeatLine.{Lent}
 use Rattle.engine.specs.declared.one_beat.Beaten.{Beaten}
-use Rattle.engine.specs.Beat.{bufferSize, beatAnswer, beatBuffer}
+use Rattle.engine.specs.Beat.{bufferSize, Given, beatAnswer, beatBuffer}
 use Rattle.transcript.specs.Output.{codeLine, orderLines}
 use Rattle.transcript.specs.declared.totals.Totals.{Totals}
 use Rattle.transcript.specs.Totals.{counting}
@@ -13,12 +13,16 @@ use Rattle.transcript.specs.Totals.{counting}
 abbrev pub counted : Totals → Beaten → Totals
 counted n x = counting n (x .code) (x .orders) (x .state)
 
--- a beat of the set s, its orders into a buffer of zeros
+-- what a line gives to its beat: what it lends, and a buffer of zeros for the orders
+abbrev pub givenBy : Lent → Given
+givenBy l = record { automatic = l .automatic; word = l .word; lent = l .numbers; buffer = replicate bufferSize 0 }
+
+-- a beat of the set s
 unfoldable pub answerOf : List ℕ → Totals → Lent → Beaten
-answerOf s n l = beatAnswer s (n .state) (l .automatic) (l .word) (l .numbers) (replicate bufferSize 0)
+answerOf s n l = beatAnswer s (n .state) (givenBy l)
 
 unfoldable pub bufferOf : List ℕ → Totals → Lent → List ℕ
-bufferOf s n l = beatBuffer s (n .state) (l .automatic) (l .word) (l .numbers) (replicate bufferSize 0)
+bufferOf s n l = beatBuffer s (n .state) (givenBy l)
 
 -- what is printed of a beat: C, then an O per order
 unfoldable pub beatText : List ℕ → Totals → Lent → List ℕ

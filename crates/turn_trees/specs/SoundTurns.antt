@@ -5,7 +5,6 @@ use mathlib.Core.List.{List, [], _∷_, map}
 use Prim.Native.Nat.{ℕ, zero, suc, _+_, _≤_, _<_}
 use native.Mathlib.Omega.{arith}
 use lib.Dec.{ltb}
-use lib.IntN.{ℤ}
 use lib.ListN.{length, getD, length-map}
 use borrow.Author.Tests.{ltb-true}
 use Rattle.values.specs.Choice.{both, chosen, refused}
@@ -22,7 +21,7 @@ use Rattle.engine.specs.Set.{rankIn, lineOf, soundLines}
 use Rattle.engine.specs.Sound.{isSound, stateSound}
 use Rattle.engine.specs.Action.{World}
 use Rattle.engine.specs.Turn.{beatIn, turnsFrom}
-use Rattle.engine.specs.Beat.{bufferSize, areInputs, begun, beatOf}
+use Rattle.engine.specs.Beat.{bufferSize, areInputs, Given, beatBegun, wholeBeat}
 use Rattle.engine.specs.SetLinesLaws.{lines-lined}
 use Rattle.soundness.specs.SetSoundLaws.{lines-known, rank-inside}
 use Rattle.turn_trees.specs.TurnTree.{namesOf, turnsTree}
@@ -124,10 +123,10 @@ module _ (s : List ℕ) (size : length s ≤ setSize) (sound : soundLines s .sou
         rw (← c) (turns-by-tree s (soundLines s .numbers) (namesOf ls cancelled) automatic (soundLines s .items) ls 0 x (holding ls 0 (trees .trees) (omega arith)))
 
 -- A BEAT THAT IS NOT REFUSED is the turns of the trees of its set, by rising number, from the world in which it begins
-pub beat-by-trees : (s : List ℕ) (ls : List Line) (st : State) (automatic : Bool) (word : ℕ) (lent : List ℤ) (room : ℕ) → length s ≤ setSize → TreesOf s ls →
-    isSound s st ≡ true → ltb room bufferSize ≡ false → areInputs lent ≡ true →
-    beatOf s st automatic word lent room ≡ (turnsTree (namesOf ls (st .cancelled)) automatic ls 0 (begun st word lent) >>= λ t. good (record { world = t .world; entries = beatIn automatic ∷ t .entries }))
-unfolding beatOf isSound
-beat-by-trees s ls st automatic word lent room size trees a b c =
+pub beat-by-trees : (s : List ℕ) (ls : List Line) (st : State) (g : Given) → length s ≤ setSize → TreesOf s ls →
+    isSound s st ≡ true → ltb (length (g .buffer)) bufferSize ≡ false → areInputs (g .lent) ≡ true →
+    wholeBeat s st g ≡ (turnsTree (namesOf ls (st .cancelled)) (g .automatic) ls 0 (beatBegun st g) >>= λ t. good (record { world = t .world; entries = beatIn (g .automatic) ∷ t .entries }))
+unfolding wholeBeat isSound
+beat-by-trees s ls st g size trees a b c =
     let sound = both (soundLines s .sound) (stateSound (soundLines s .count) st) a .0 in
-    chosen _ _ _ a ∙ refused _ _ _ b ∙ chosen _ _ _ c ∙ rw (sound-turns s size sound ls trees (st .cancelled) automatic (begun st word lent))
+    chosen _ _ _ a ∙ refused _ _ _ b ∙ chosen _ _ _ c ∙ rw (sound-turns s size sound ls trees (st .cancelled) (g .automatic) (beatBegun st g))

@@ -28,7 +28,7 @@ use Rattle.engine.specs.Keyword.{acts, remembers, tries}
 use Rattle.engine.specs.Write.{changeAnswer, changed, changeFifo, writeFifo, writeCell, writeInside, writeTo}
 use Rattle.engine.specs.Drive.{driveOrder}
 use Rattle.engine.specs.Turn.{Entry, worked, locks, Turned}
-use Rattle.engine.specs.Beat.{begun}
+use Rattle.engine.specs.Beat.{beatBegun}
 use Rattle.grammar.specs.Tree.{Operand, number, variable, bracket, product, noFactor, factor, Sum, sum, noTerm, term, single, compare, assign, drive, code, call, always, under, Line, line}
 use Rattle.grammar.specs.Meaning.{operandMeaning}
 use Rattle.grammar.specs.TreeFault.{isRemovalTree}
@@ -98,11 +98,11 @@ turnCases =
     ∷ []
 
 abbrev pub outcomeOf : Case → Answer Shown
-outcomeOf c = turnsTree (namesOf fourLines (replicate maxLines false)) (c .automatic) fourLines 0 (begun powerOn (c .inputs) (replicate 14 (pos 0))) >>= shown
+outcomeOf c = turnsTree (namesOf fourLines (replicate maxLines false)) (c .automatic) fourLines 0 (beatBegun powerOn (record { automatic = c .automatic; word = c .inputs; lent = replicate 14 (pos 0); buffer = [] })) >>= shown
 
 abbrev pub expected : Case → Answer Shown
 expected c = c .outcome
 
 pub turn-table : map outcomeOf turnCases ≡ map expected turnCases
-unfolding turnCases fourLines turnsTree turnTree takesTree tryTree doTree actionsTree actionTree lockTree assignTree conditionTree takenTree isRemovalTree operandMeaning valueOver variableValue isInside cellOf countAt fifoValue fifoAt joinLogic joinTruths joinValues inRange valued sumOf differenceOf productOf quotientOf lessThan equalTo wholeUnits fits appendAnswer appended shifted removeAnswer removed countOf changeAnswer changed changeFifo writeFifo writeCell writeInside writeTo driveOrder twosComplement fourBytes orderBytes rankIn powerOn grownCells inputCells beatCells begun acts remembers tries
+unfolding turnCases fourLines turnsTree turnTree takesTree tryTree doTree actionsTree actionTree lockTree assignTree conditionTree takenTree isRemovalTree operandMeaning valueOver variableValue isInside cellOf countAt fifoValue fifoAt joinLogic joinTruths joinValues inRange valued sumOf differenceOf productOf quotientOf lessThan equalTo wholeUnits fits appendAnswer appended shifted removeAnswer removed countOf changeAnswer changed changeFifo writeFifo writeCell writeInside writeTo driveOrder twosComplement fourBytes orderBytes rankIn powerOn grownCells inputCells beatCells beatBegun acts remembers tries
 turn-table = refl

@@ -5,8 +5,8 @@ use native.Mathlib.Omega.{arith}
 use mathlib.Core.Path.{_∙_}
 use denote.Ref.{now}
 use Rattle.tokens.specs.Descent.{Answer}
-use Rattle.engine.specs.Turn.{Turned, turnsFrom}
-use Rattle.engine.specs.Beat.{begun}
+use Rattle.engine.specs.Turn.{Turned}
+use Rattle.engine.specs.Beat.{beatBegun, allTurns}
 use Rattle.engine.specs.TurnAnswers.{IsTurned}
 use Rattle.engine.proofs.TurnLaws.{turned-good, turned-stop}
 use Rattle.engine.proofs.BeatLaws.{refuses, answers, writes}
@@ -15,10 +15,10 @@ use Rattle.engine.proofs.one_beat.all_turns.Tie as tie
 
 -- all turns, and what they came to
 abbrev all : tie.After-turns → Answer Turned
-all c = let a = c .before .before .before .before .before .before .before .before .before .before .args in turnsFrom (now (a .set)) (a .lines .numbers) (a .state .cancelled) (a .automatic) (a .lines .items) (a .lines .count) 0 (begun (a .state) (a .inputs) (now (a .lent)))
+all c = let a = c .before .before .before .before .before .before .before .before .before .before .args in allTurns (now (a .set)) (a .lines) (a .state) (record { automatic = a .automatic; word = a .inputs; lent = now (a .lent); buffer = now (a .orders) })
 
 came : (c : tie.After-turns) → let d = c .turns in let o = d .last .1 .1 .1 .1 in IsTurned (d .result) (o .0) (o .1 .0) (o .1 .1 .0) (all c)
-unfolding begun
+unfolding beatBegun
 came c = rw (c .before .before .before .before .before .beat-cells .ensures) at (c .turns .ensures .0)
 
 pub all-turns-spec : {M : Type 1} → statement M

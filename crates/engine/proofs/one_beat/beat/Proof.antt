@@ -36,22 +36,22 @@ beat-spec =
     (tie.spec
     (λ c κs. search needs)
     (λ c κs. search needs)
-    (λ c. refuses _ _ _ (c .refused .ensures) (lines-unsound _ _ _ _ _ _ (lines-not (c .before))))
+    (λ c. refuses _ _ _ (c .refused .ensures) (lines-unsound _ _ _ (lines-not (c .before))))
     (λ c κs. search needs)
     (λ c κs. search needs)
     (λ c.
     let t = c .before .before in
-    refuses _ _ _ (c .refused2 .ensures) (state-unsound _ _ _ _ _ _ (lines-sound (t .before)) (sym (state-told t) ∙ not-true _ (c .before .if2 .taken))))
+    refuses _ _ _ (c .refused2 .ensures) (state-unsound _ _ _ (lines-sound (t .before)) (sym (state-told t) ∙ not-true _ (c .before .if2 .taken))))
     (λ c κs. search needs)
     (λ c.
     let t = c .before .before in
-    refuses _ _ _ (c .refused3 .ensures) (too-short _ _ _ _ _ _ (lines-sound (t .before .before)) (state-sound t) (c .before .if3 .taken)))
+    refuses _ _ _ (c .refused3 .ensures) (too-short _ _ _ (lines-sound (t .before .before)) (state-sound t) (c .before .if3 .taken)))
     (λ c κs. search needs)
     (λ c κs. search needs)
     (λ c.
     let i = c .before .before in
     let t = i .before .before in
-    refuses _ _ _ (c .refused4 .ensures) (no-inputs _ _ _ _ _ _ (lines-sound (t .before .before)) (state-sound t) (i .before .if3 .left) (sym (i .are-inputs .ensures) ∙ not-true _ (c .before .if4 .taken))))
+    refuses _ _ _ (c .refused4 .ensures) (no-inputs _ _ _ (lines-sound (t .before .before)) (state-sound t) (i .before .if3 .left) (sym (i .are-inputs .ensures) ∙ not-true _ (c .before .if4 .taken))))
     (λ c κs.
     let i = c .before in
     (rw (i .before .before .before .before .before .before .sound-lines .ensures) (sound-count _), (inputs-length _ (inputs i), i .before .before .if3 .left)))
@@ -61,4 +61,4 @@ beat-spec =
     let i = m .before .before in
     let t = i .before .before .before in
     let e = rw (t .before .before .before .sound-lines .ensures) at (m .all-turns .ensures) in
-    turns-told _ _ _ _ _ _ (lines-sound (t .before .before)) (state-sound t) (i .before .before .if3 .left) (inputs i) _ (e .0) (e .1)))
+    turns-told _ _ _ (lines-sound (t .before .before)) (state-sound t) (i .before .before .if3 .left) (inputs i) (e .0) (e .1)))
