@@ -4,10 +4,9 @@ use mathlib.Core.List.{List, [], _∷_}
 use Prim.Native.Nat.{ℕ, zero, suc, _+_}
 use lib.Dec.{eqb}
 use lib.ListN.{getD, take, drop}
-use Rattle.tokens.specs.Token.{EQUALS, SAME, OTHER, LESS, MORE, ATMOST, ATLEAST, PLUS, MINUS, TIMES, OVER, OPEN, CLOSE, LEFT, RIGHT}
 use Rattle.text.specs.declared.scan.First.{First}
-use Rattle.text.specs.Byte.{bytes, POINT, isDigit, isLetter, startsWord, isWordByte, run}
-use Rattle.text.specs.Word.{Words, tokenIn, wordToken}
+use Rattle.text.specs.Byte.{POINT, isDigit, isLetter, startsWord, isWordByte, run}
+use Rattle.text.specs.Word.{pairs, singles, tokenIn, wordToken}
 use Rattle.text.specs.Number.{numberToken}
 
 -- the token t of n bytes; 0 is no token
@@ -47,19 +46,11 @@ numberFirst t = let n = run isDigit t in numberWith t n (behindPoint (drop n t))
 
 -- ---- a sign
 
-abbrev pub pairs : Words
-pairs = (bytes "==", SAME) ∷ (bytes "<>", OTHER) ∷ (bytes "<=", ATMOST) ∷ (bytes ">=", ATLEAST) ∷ []
-
-abbrev pub singles : Words
-singles =
-    (bytes "=", EQUALS) ∷ (bytes "<", LESS) ∷ (bytes ">", MORE) ∷ (bytes "+", PLUS) ∷ (bytes "-", MINUS) ∷ (bytes "*", TIMES) ∷ (bytes "/", OVER)
-    ∷ (bytes "(", OPEN) ∷ (bytes ")", CLOSE) ∷ (bytes "[", LEFT) ∷ (bytes "]", RIGHT) ∷ []
-
 -- one of two bytes, else of one
 unfoldable pub signFirst : List ℕ → First
 signFirst t =
-    elim (tokenIn pairs (take 2 t) 0) [
-      | zero ↦ found (tokenIn singles (take 1 t) 0) 1
+    elim (tokenIn pairs (take 2 t)) [
+      | zero ↦ found (tokenIn singles (take 1 t)) 1
       | suc k ↦ found (suc k) 2
     ]
 

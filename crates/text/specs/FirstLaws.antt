@@ -10,9 +10,9 @@ use lib.Seq.{take-all, getD-drop, drop-drop, drop-cons}
 use borrow.Author.Tests.{eq-eqb, ne-eqb}
 use Rattle.text.specs.declared.scan.First.{First}
 use Rattle.text.specs.Byte.{POINT, isDigit, isLetter, startsWord, isWordByte, run}
-use Rattle.text.specs.Word.{tokenIn, wordToken}
+use Rattle.text.specs.Word.{pairs, singles, tokenIn, wordToken}
 use Rattle.text.specs.Number.{numberToken}
-use Rattle.text.specs.First.{found, noToken, wordFirst, behindPoint, withPoint, numberWith, numberFirst, pairs, singles, signFirst, firstToken}
+use Rattle.text.specs.First.{found, noToken, wordFirst, behindPoint, withPoint, numberWith, numberFirst, signFirst, firstToken}
 use Rattle.text.specs.WordLaws.{token-skip}
 use Rattle.text.specs.TokensLaws.{no-pair}
 
@@ -84,51 +84,51 @@ number-is t n m h g = let e : n ≡ run isDigit t = omega arith in rw (g, e)
 no-sign : (a d : ℕ) (x : Bool) → (a ≡ d → ⊥) → (eqb a d && x) ≡ false
 no-sign a d x h = rw (ne-eqb a d h)
 
-pub equals-none : (b : ℕ) → (b ≡ 61 → ⊥) → 0 ≡ tokenIn pairs (61 ∷ b ∷ []) 0
+pub equals-none : (b : ℕ) → (b ≡ 61 → ⊥) → 0 ≡ tokenIn pairs (61 ∷ b ∷ [])
 equals-none b h = sym (token-skip pairs (61 ∷ b ∷ []) 0 (no-sign b 61 true h))
 
-pub more-none : (b : ℕ) → (b ≡ 61 → ⊥) → 0 ≡ tokenIn pairs (62 ∷ b ∷ []) 0
+pub more-none : (b : ℕ) → (b ≡ 61 → ⊥) → 0 ≡ tokenIn pairs (62 ∷ b ∷ [])
 more-none b h = sym (token-skip pairs (62 ∷ b ∷ []) 3 (no-sign b 61 true h))
 
-pub less-none : (b : ℕ) → (b ≡ 62 → ⊥) → (b ≡ 61 → ⊥) → 0 ≡ tokenIn pairs (60 ∷ b ∷ []) 0
+pub less-none : (b : ℕ) → (b ≡ 62 → ⊥) → (b ≡ 61 → ⊥) → 0 ≡ tokenIn pairs (60 ∷ b ∷ [])
 less-none b h g = sym (token-skip pairs (60 ∷ b ∷ []) 1 (no-sign b 62 true h) ∙ token-skip pairs (60 ∷ b ∷ []) 2 (no-sign b 61 true g))
 
-pub other-none : (a b : ℕ) → (a ≡ 61 → ⊥) → (a ≡ 62 → ⊥) → (a ≡ 60 → ⊥) → 0 ≡ tokenIn pairs (a ∷ b ∷ []) 0
+pub other-none : (a b : ℕ) → (a ≡ 61 → ⊥) → (a ≡ 62 → ⊥) → (a ≡ 60 → ⊥) → 0 ≡ tokenIn pairs (a ∷ b ∷ [])
 other-none a b h g l =
     let w = a ∷ b ∷ [] in
     sym
     (token-skip pairs w 0 (no-sign a 61 _ h) ∙ token-skip pairs w 1 (no-sign a 60 _ l) ∙ token-skip pairs w 2 (no-sign a 60 _ l) ∙ token-skip pairs w 3 (no-sign a 62 _ g))
 
-pub single-none : (a : ℕ) → (a ≡ 61 → ⊥) → (a ≡ 60 → ⊥) → (a ≡ 62 → ⊥) → (a ≡ 43 → ⊥) → (a ≡ 45 → ⊥) → (a ≡ 42 → ⊥) → (a ≡ 47 → ⊥) → (a ≡ 40 → ⊥) → (a ≡ 41 → ⊥) → (a ≡ 91 → ⊥) → (a ≡ 93 → ⊥) → 0 ≡ tokenIn singles (a ∷ []) 0
+pub single-none : (a : ℕ) → (a ≡ 61 → ⊥) → (a ≡ 60 → ⊥) → (a ≡ 62 → ⊥) → (a ≡ 43 → ⊥) → (a ≡ 45 → ⊥) → (a ≡ 42 → ⊥) → (a ≡ 47 → ⊥) → (a ≡ 40 → ⊥) → (a ≡ 41 → ⊥) → (a ≡ 91 → ⊥) → (a ≡ 93 → ⊥) → 0 ≡ tokenIn singles (a ∷ [])
 single-none a h0 h1 h2 h3 h4 h5 h6 h7 h8 h9 h10 =
     let w = a ∷ [] in
     sym
     (token-skip singles w 0 (no-sign a 61 true h0) ∙ token-skip singles w 1 (no-sign a 60 true h1) ∙ token-skip singles w 2 (no-sign a 62 true h2) ∙ token-skip singles w 3 (no-sign a 43 true h3) ∙ token-skip singles w 4 (no-sign a 45 true h4) ∙ token-skip singles w 5 (no-sign a 42 true h5) ∙ token-skip singles w 6 (no-sign a 47 true h6) ∙ token-skip singles w 7 (no-sign a 40 true h7) ∙ token-skip singles w 8 (no-sign a 41 true h8) ∙ token-skip singles w 9 (no-sign a 91 true h9) ∙ token-skip singles w 10 (no-sign a 93 true h10))
 
 module _ (t : List ℕ) (k : ℕ) where
-  pub lone-sign : length t ≡ 1 → k ≡ tokenIn singles (getD t 0 0 ∷ []) 0 → found k 1 ≡ signFirst t
+  pub lone-sign : length t ≡ 1 → k ≡ tokenIn singles (getD t 0 0 ∷ []) → found k 1 ≡ signFirst t
   unfolding signFirst
   lone-sign h e = go t h e
     where
-      go : (l : List ℕ) → length l ≡ 1 → k ≡ tokenIn singles (getD l 0 0 ∷ []) 0 → found k 1 ≡ signFirst l
+      go : (l : List ℕ) → length l ≡ 1 → k ≡ tokenIn singles (getD l 0 0 ∷ []) → found k 1 ≡ signFirst l
       go [] h e = absurd (omega arith)
       go (a ∷ []) h e = rw (signFirst, no-pair a, e)
       go (a ∷ b ∷ l) h e = absurd (omega arith)
 
-  pub one-sign : 2 ≤ length t → tokenIn pairs (getD t 0 0 ∷ getD t 1 0 ∷ []) 0 ≡ 0 → k ≡ tokenIn singles (getD t 0 0 ∷ []) 0 → found k 1 ≡ signFirst t
+  pub one-sign : 2 ≤ length t → tokenIn pairs (getD t 0 0 ∷ getD t 1 0 ∷ []) ≡ 0 → k ≡ tokenIn singles (getD t 0 0 ∷ []) → found k 1 ≡ signFirst t
   unfolding signFirst
   one-sign h p e = go t h p e
     where
-      go : (l : List ℕ) → 2 ≤ length l → tokenIn pairs (getD l 0 0 ∷ getD l 1 0 ∷ []) 0 ≡ 0 → k ≡ tokenIn singles (getD l 0 0 ∷ []) 0 → found k 1 ≡ signFirst l
+      go : (l : List ℕ) → 2 ≤ length l → tokenIn pairs (getD l 0 0 ∷ getD l 1 0 ∷ []) ≡ 0 → k ≡ tokenIn singles (getD l 0 0 ∷ []) → found k 1 ≡ signFirst l
       go [] h p e = absurd (omega arith)
       go (a ∷ []) h p e = absurd (omega arith)
       go (a ∷ b ∷ l) h p e = rw (signFirst, p, e)
 
-  pub pair-sign : 2 ≤ length t → k ≡ tokenIn pairs (getD t 0 0 ∷ getD t 1 0 ∷ []) 0 → (k ≡ 0 → ⊥) → _≡_ {A = First} (record { token = k; size = 2 }) (signFirst t)
+  pub pair-sign : 2 ≤ length t → k ≡ tokenIn pairs (getD t 0 0 ∷ getD t 1 0 ∷ []) → (k ≡ 0 → ⊥) → _≡_ {A = First} (record { token = k; size = 2 }) (signFirst t)
   unfolding signFirst
   pair-sign h e z = go t k h e z
     where
-      go : (l : List ℕ) (k : ℕ) → 2 ≤ length l → k ≡ tokenIn pairs (getD l 0 0 ∷ getD l 1 0 ∷ []) 0 → (k ≡ 0 → ⊥) → _≡_ {A = First} (record { token = k; size = 2 }) (signFirst l)
+      go : (l : List ℕ) (k : ℕ) → 2 ≤ length l → k ≡ tokenIn pairs (getD l 0 0 ∷ getD l 1 0 ∷ []) → (k ≡ 0 → ⊥) → _≡_ {A = First} (record { token = k; size = 2 }) (signFirst l)
       go [] k h e z = absurd (omega arith)
       go (a ∷ []) k h e z = absurd (omega arith)
       go (a ∷ b ∷ l) zero h e z = absurd (z refl)

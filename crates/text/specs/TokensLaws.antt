@@ -11,10 +11,10 @@ use Rattle.tokens.specs.Token.{AllReal}
 use Rattle.text.specs.declared.scan.First.{First}
 use Rattle.text.specs.Byte.{POINT, isDigit, isLetter, startsWord, isWordByte, isSpace, run}
 use Rattle.text.specs.ByteLaws.{run-within}
-use Rattle.text.specs.Word.{tokenIn, wordToken}
+use Rattle.text.specs.Word.{pairs, singles, tokenIn, wordToken}
 use Rattle.text.specs.WordLaws.{token-skip}
 use Rattle.text.specs.Number.{numberToken}
-use Rattle.text.specs.First.{found, noToken, wordFirst, behindPoint, withPoint, numberWith, numberFirst, pairs, singles, signFirst, firstToken}
+use Rattle.text.specs.First.{found, noToken, wordFirst, behindPoint, withPoint, numberWith, numberFirst, signFirst, firstToken}
 use Rattle.text.specs.Tokens.{ending, withToken, tokensFrom, tokensOf}
 
 -- ---- the first token
@@ -57,18 +57,18 @@ number-within t =
     (λ e. let h : n + withPoint m ≤ length t = omega arith in rw (numberWith, e) (found-within (numberToken (take n t) (take m (drop (n + 1) t))) _ _ h))
 
 -- no sign of two bytes is one byte
-pub no-pair : (b : ℕ) → tokenIn pairs (b ∷ []) 0 ≡ 0
+pub no-pair : (b : ℕ) → tokenIn pairs (b ∷ []) ≡ 0
 no-pair b =
     let w = b ∷ [] in
     token-skip pairs w 0 (and-false (eqb b 61)) ∙ token-skip pairs w 1 (and-false (eqb b 60)) ∙ token-skip pairs w 2 (and-false (eqb b 60)) ∙ token-skip pairs w 3 (and-false (eqb b 62))
 
 sign-within : (b : ℕ) (bs : List ℕ) → Within (suc (length bs)) (signFirst (b ∷ bs))
 unfolding signFirst
-sign-within b [] = rw (signFirst, no-pair b) (found-within (tokenIn singles (b ∷ []) 0) 1 1 (omega arith))
-sign-within b (c ∷ cs) = go (tokenIn pairs (b ∷ c ∷ []) 0) refl
+sign-within b [] = rw (signFirst, no-pair b) (found-within (tokenIn singles (b ∷ [])) 1 1 (omega arith))
+sign-within b (c ∷ cs) = go (tokenIn pairs (b ∷ c ∷ [])) refl
   where
-    go : (k : ℕ) → tokenIn pairs (b ∷ c ∷ []) 0 ≡ k → Within (suc (suc (length cs))) (signFirst (b ∷ c ∷ cs))
-    go zero e = rw (signFirst, e) (found-within (tokenIn singles (b ∷ []) 0) 1 (suc (suc (length cs))) (omega arith))
+    go : (k : ℕ) → tokenIn pairs (b ∷ c ∷ []) ≡ k → Within (suc (suc (length cs))) (signFirst (b ∷ c ∷ cs))
+    go zero e = rw (signFirst, e) (found-within (tokenIn singles (b ∷ [])) 1 (suc (suc (length cs))) (omega arith))
     go (suc k) e = rw (signFirst, e) (found-within (suc k) 2 (suc (suc (length cs))) (omega arith))
 
 pub first-within : (t : List ℕ) → Within (length t) (firstToken t)

@@ -1,17 +1,16 @@
--- Laws of the words in a list of words, and of bytes compared place by place. Assumes nothing.
+-- Laws of names in a table: it is read both ways, and what a computed test says of every row it says of what is read; and of bytes compared place by place. Assumes nothing.
 use mathlib.Core.Path.{_≡_, refl, sym, ap, _∙_}
-use mathlib.Core.Bool.{Bool, true, false, _&&_, and-false, false≢true}
-use mathlib.Core.List.{List, [], _∷_}
+use mathlib.Core.Bool.{Bool, true, false, _&&_, _||_, and-false, false≢true}
+use mathlib.Core.List.{List, [], _∷_, _++_}
+use mathlib.Core.Logic.{_↔_}
 use Prim.Native.Nat.{ℕ, zero, suc, _+_, _≤_, _<_}
-use native.Mathlib.Omega.{arith}
 use native.Mathlib.Numerals.{add-one}
 use lib.Dec.{eqb}
 use lib.ListN.{length, drop, getD, drop-of-length-le}
 use lib.Seq.{drop-cons}
 use borrow.Author.Tests.{eqb-true, eq-eqb, ne-eqb}
-use Rattle.values.specs.Choice.{decide, both}
-use Rattle.text.specs.Byte.{DOLLAR}
-use Rattle.text.specs.Word.{Words, keywords, variables, actions, sameBytes, orNamed, tokenIn, wordToken}
+use Rattle.values.specs.Choice.{decide, both, contrary}
+use Rattle.text.specs.Word.{Words, pairs, singles, words, names, sameBytes, tokenIn, nameIn, wordToken}
 
 -- ---- bytes, place by place
 
@@ -32,135 +31,135 @@ module _ (a b : List ℕ) (k : ℕ) (h : k < length a) (g : k < length b) where
 pub same-ends : (a b : List ℕ) (k : ℕ) → length a ≤ k → length b ≤ k → sameBytes (drop k a) (drop k b) ≡ true
 same-ends a b k h g = rw (drop-of-length-le a h, drop-of-length-le b g)
 
--- ---- a word in a list, word by word
+-- the same bytes are the same list
+pub same-is : (a b : List ℕ) → sameBytes a b ≡ true → a ≡ b
+same-is [] [] h = refl
+same-is [] (y ∷ b) h = absurd (false≢true h)
+same-is (x ∷ a) [] h = absurd (false≢true h)
+same-is (x ∷ a) (y ∷ b) h =
+    let (p, q) = both (eqb x y) (sameBytes a b) h in
+    ap (λ (z : ℕ). z ∷ a) (eqb-true x y p) ∙ ap (λ (l : List ℕ). y ∷ l) (same-is a b q)
 
-abbrev pub wordAt : Words → ℕ → List ℕ × ℕ
-wordAt ws k = getD ws k ([], 0)
+same-self : (a : List ℕ) → sameBytes a a ≡ true
+same-self [] = refl
+same-self (x ∷ a) = rw (eq-eqb x x refl) (same-self a)
 
-pub token-skip : (ws : Words) (word : List ℕ) (k : ℕ) → sameBytes word (wordAt ws k .0) ≡ false → tokenIn (drop k ws) word 0 ≡ tokenIn (drop (suc k) ws) word 0
+pub is-same : (a b : List ℕ) → a ≡ b → sameBytes a b ≡ true
+is-same a b e = rw e (same-self b)
+
+-- ---- a name that is not the word is passed by
+
+pub token-skip : (ws : Words) (word : List ℕ) (k : ℕ) → sameBytes word (getD ws k ([], 0) .0) ≡ false → tokenIn (drop k ws) word ≡ tokenIn (drop (suc k) ws) word
 token-skip [] word zero h = refl
 token-skip [] word (suc k) h = refl
 token-skip (w ∷ ws) word zero h = rw (tokenIn, h)
 token-skip (w ∷ ws) word (suc k) h = token-skip ws word k h
 
-pub token-stop : (ws : Words) (word : List ℕ) (k : ℕ) → sameBytes word (wordAt ws k .0) ≡ true → tokenIn (drop k ws) word 0 ≡ wordAt ws k .1
-token-stop [] word zero h = refl
-token-stop [] word (suc k) h = refl
-token-stop (w ∷ ws) word zero h = rw (tokenIn, h)
-token-stop (w ∷ ws) word (suc k) h = token-stop ws word k h
+-- ---- a test of every row
 
--- no token of a list is 0
-abbrev pub named : Words → Bool
-named [] = true
-named ((v, zero) ∷ ws) = false
-named ((v, suc t) ∷ ws) = named ws
+-- computed
+abbrev pub rows : (List ℕ → ℕ → Bool) → Words → Bool
+rows f [] = true
+rows f (w ∷ ws) = f (w .0) (w .1) && rows f ws
 
--- the names of a list one after the other, with the token so far
-abbrev pub tried : List ℕ → Words → ℕ → ℕ
-tried word [] t = t
-tried word (w ∷ ws) t = tried word ws (orNamed word t w)
+-- a token has a name
+abbrev pub isNamed : Words → ℕ → Bool
+isNamed [] t = false
+isNamed (w ∷ ws) t = eqb (w .1) t || isNamed ws t
 
-module _ (word : List ℕ) (t : ℕ) (w : List ℕ × ℕ) where
-  pub kept : (t ≡ 0 → ⊥) → t ≡ orNamed word t w
-  unfolding orNamed
-  kept h = go t h
-    where
-      go : (n : ℕ) → (n ≡ 0 → ⊥) → n ≡ orNamed word n w
-      go zero h = absurd (h refl)
-      go (suc n) h = refl
+-- WHAT A TEST SAYS OF EVERY ROW it says of the name of a token
+pub name-passes : (f : List ℕ → ℕ → Bool) (ws : Words) (t : ℕ) → rows f ws ≡ true → isNamed ws t ≡ true → f (nameIn ws t) t ≡ true
+name-passes f [] t h n = contrary n refl
+name-passes f (w ∷ ws) t h n =
+    let (a, b) = both (f (w .0) (w .1)) (rows f ws) h in
+    decide _ (eqb (w .1) t)
+    (λ e. rw (nameIn, e) (rw (eqb-true (w .1) t e) at a))
+    (λ e. rw (nameIn, e) (name-passes f ws t b (rw e at n)))
 
-  module _ (e : t ≡ 0) (same : Bool) (g : same ≡ sameBytes word (w .0)) where
-    pub is-named : same ≡ true → w .1 ≡ orNamed word t w
-    unfolding orNamed
-    is-named h = rw (e, orNamed, sym g ∙ h)
-
-    pub not-named : same ≡ false → 0 ≡ orNamed word t w
-    unfolding orNamed
-    not-named h = rw (e, orNamed, sym g ∙ h)
-
-found-stays : (word : List ℕ) (ws : Words) (t : ℕ) → tried word ws (suc t) ≡ suc t
-unfolding orNamed
-found-stays word [] t = refl
-found-stays word (w ∷ ws) t = found-stays word ws t
-
--- the token so far, where the k-th name is tried next, comes to u behind it
-pub tried-on : (word : List ℕ) (ws : Words) (k t u n : ℕ) → k < length ws → u ≡ orNamed word t (wordAt ws k) → tried word (drop k ws) t ≡ n → tried word (drop (suc k) ws) u ≡ n
-tried-on word [] k t u n l e h = absurd (omega arith)
-tried-on word (w ∷ ws) zero t u n l e h = ap (tried word ws) e ∙ h
-tried-on word (w ∷ ws) (suc k) t u n l e h = tried-on word ws k t u n (omega arith) e h
-
-pub tried-all : (word : List ℕ) (ws : Words) → named ws ≡ true → tried word ws 0 ≡ tokenIn ws word 0
-unfolding orNamed
-tried-all word [] n = refl
-tried-all word ((v, zero) ∷ ws) n = absurd (false≢true n)
-tried-all word ((v, suc t) ∷ ws) n =
-    decide _ (sameBytes word v)
-    (λ e. rw (tokenIn, orNamed, e) (found-stays word ws t))
-    (λ e. rw (tokenIn, orNamed, e) (tried-all word ws n))
-
--- ---- one list, then another
-
--- what a list gives goes before what comes after it, and 0 does not
-pub given-first : (ws : Words) (word : List ℕ) (other : ℕ) → (tokenIn ws word 0 ≡ 0 → ⊥) → tokenIn ws word other ≡ tokenIn ws word 0
-given-first [] word other h = absurd (h refl)
-given-first (w ∷ ws) word other h =
+-- .. and of a word and the token that is found for it
+pub found-passes : (f : List ℕ → ℕ → Bool) (ws : Words) (word : List ℕ) → rows f ws ≡ true → (tokenIn ws word ≡ 0 → ⊥) → f word (tokenIn ws word) ≡ true
+found-passes f [] word h g = absurd (g refl)
+found-passes f (w ∷ ws) word h g =
+    let (a, b) = both (f (w .0) (w .1)) (rows f ws) h in
     decide _ (sameBytes word (w .0))
+    (λ e. rw (tokenIn, e) (rw (sym (same-is word (w .0) e)) at a))
+    (λ e. rw (tokenIn, e) (found-passes f ws word b (rw (tokenIn, e) at g)))
+
+-- ---- the table read both ways
+
+-- no name and no token stands twice, computed
+abbrev pub isApart : Words → Bool
+isApart [] = true
+isApart (w ∷ ws) = eqb (tokenIn ws (w .0)) 0 && (sameBytes (nameIn ws (w .1)) [] && isApart ws)
+
+module _ (word : List ℕ) (t : ℕ) (some : word ≡ [] → ⊥) (real : t ≡ 0 → ⊥) where
+  name-of-found : (ws : Words) → isApart ws ≡ true → tokenIn ws word ≡ t → nameIn ws t ≡ word
+  name-of-found [] h e = absurd (real (sym e))
+  name-of-found (w ∷ ws) h e =
+      let (a, b) = both (eqb (tokenIn ws (w .0)) 0) (sameBytes (nameIn ws (w .1)) [] && isApart ws) h in
+      let (d, g) = both (sameBytes (nameIn ws (w .1)) []) (isApart ws) b in
+      decide _ (sameBytes word (w .0))
+      (λ s. let q : w .1 ≡ t = rw (tokenIn, s) at e in rw (nameIn, eq-eqb (w .1) t q) (sym (same-is word (w .0) s)))
+      (λ s.
+      let i = name-of-found ws g (rw (tokenIn, s) at e) in
+      decide _ (eqb (w .1) t)
+      (λ x. absurd (some (sym i ∙ ap (nameIn ws) (sym (eqb-true (w .1) t x)) ∙ same-is (nameIn ws (w .1)) [] d)))
+      (λ x. rw (nameIn, x) i))
+
+  token-of-name : (ws : Words) → isApart ws ≡ true → nameIn ws t ≡ word → tokenIn ws word ≡ t
+  token-of-name [] h e = absurd (some (sym e))
+  token-of-name (w ∷ ws) h e =
+      let (a, b) = both (eqb (tokenIn ws (w .0)) 0) (sameBytes (nameIn ws (w .1)) [] && isApart ws) h in
+      let (d, g) = both (sameBytes (nameIn ws (w .1)) []) (isApart ws) b in
+      decide _ (eqb (w .1) t)
+      (λ x. let q : w .0 ≡ word = rw (nameIn, x) at e in rw (tokenIn, is-same word (w .0) (sym q)) (eqb-true (w .1) t x))
+      (λ x.
+      let i = token-of-name ws g (rw (nameIn, x) at e) in
+      decide _ (sameBytes word (w .0))
+      (λ s. absurd (real (sym i ∙ ap (tokenIn ws) (same-is word (w .0) s) ∙ eqb-true (tokenIn ws (w .0)) 0 a)))
+      (λ s. rw (tokenIn, s) i))
+
+  -- A TABLE IS READ BOTH WAYS, if in it names and tokens are apart
+  pub both-ways : (ws : Words) → isApart ws ≡ true → (tokenIn ws word ≡ t) ↔ (nameIn ws t ≡ word)
+  both-ways ws h = (name-of-found ws h, token-of-name ws h)
+
+  -- so the one table, and its words
+  pub table-both-ways : (tokenIn names word ≡ t) ↔ (nameIn names t ≡ word)
+  table-both-ways = both-ways names refl
+
+  pub words-both-ways : (wordToken word ≡ t) ↔ (nameIn words t ≡ word)
+  unfolding wordToken
+  words-both-ways = both-ways words refl
+
+-- ---- a part of the table
+
+-- what a part finds the table finds
+in-first : (us ws : Words) (word : List ℕ) → (tokenIn us word ≡ 0 → ⊥) → tokenIn (us ++ ws) word ≡ tokenIn us word
+in-first [] ws word h = absurd (h refl)
+in-first (u ∷ us) ws word h =
+    decide _ (sameBytes word (u .0))
     (λ e. rw (tokenIn, e))
-    (λ e. rw (tokenIn, e) (given-first ws word other (rw (tokenIn, e) at h)))
+    (λ e. rw (tokenIn, e) (in-first us ws word (rw (tokenIn, e) at h)))
 
-pub given-none : (ws : Words) (word : List ℕ) (other : ℕ) → named ws ≡ true → tokenIn ws word 0 ≡ 0 → tokenIn ws word other ≡ other
-given-none [] word other n h = refl
-given-none ((v, zero) ∷ ws) word other n h = absurd (false≢true n)
-given-none ((v, suc t) ∷ ws) word other n h =
-    decide _ (sameBytes word v)
-    (λ e. absurd (omega (arith, rw (tokenIn, e) at h)))
-    (λ e. rw (tokenIn, e) (given-none ws word other n (rw (tokenIn, e) at h)))
-
--- ---- the token of a word
-
--- a word with $ is no keyword and no action, and a variable begins with it
-abbrev initial : List ℕ → ℕ
-initial word = getD word 0 0
-
-others : (word : List ℕ) (n : ℕ) → 0 < length word → initial word ≡ DOLLAR → (tokenIn keywords word n ≡ n) × (tokenIn actions word n ≡ n)
-others [] n h e = absurd (omega arith)
-others (b ∷ bs) n h e = rw e (refl, refl)
-
--- each word of a list begins with a byte
-abbrev begin : ℕ → Words → Bool
-begin d [] = true
-begin d (([], t) ∷ ws) = false
-begin d ((c ∷ v, t) ∷ ws) = eqb c d && begin d ws
-
-no-initial : (d : ℕ) (ws : Words) (b : ℕ) (bs : List ℕ) (n : ℕ) → begin d ws ≡ true → (b ≡ d → ⊥) → tokenIn ws (b ∷ bs) n ≡ n
-no-initial d [] b bs n h e = refl
-no-initial d (([], t) ∷ ws) b bs n h e = absurd (false≢true h)
-no-initial d ((c ∷ v, t) ∷ ws) b bs n h e =
-    let g = both (eqb c d) (begin d ws) h in
-    let q = eqb-true c d (g .0) in
-    rw (tokenIn, ne-eqb b c (λ z. e (z ∙ q))) (no-initial d ws b bs n (g .1) e)
-
-no-variable : (word : List ℕ) (n : ℕ) → (initial word ≡ DOLLAR → ⊥) → tokenIn variables word n ≡ n
-no-variable [] n e = refl
-no-variable (b ∷ bs) n e = no-initial DOLLAR variables b bs n refl e
+in-rest : (us ws : Words) (word : List ℕ) → isApart (us ++ ws) ≡ true → (tokenIn ws word ≡ 0 → ⊥) → tokenIn (us ++ ws) word ≡ tokenIn ws word
+in-rest [] ws word h z = refl
+in-rest (u ∷ us) ws word h z =
+    let (a, b) = both (eqb (tokenIn (us ++ ws) (u .0)) 0) (sameBytes (nameIn (us ++ ws) (u .1)) [] && isApart (us ++ ws)) h in
+    let (d, g) = both (sameBytes (nameIn (us ++ ws) (u .1)) []) (isApart (us ++ ws)) b in
+    let i = in-rest us ws word g z in
+    decide _ (sameBytes word (u .0))
+    (λ e. absurd (z (sym i ∙ ap (tokenIn (us ++ ws)) (same-is word (u .0) e) ∙ eqb-true (tokenIn (us ++ ws) (u .0)) 0 a)))
+    (λ e. rw (tokenIn, e) i)
 
 module _ (word : List ℕ) where
-  pub word-none : length word ≡ 0 → 0 ≡ wordToken word
-  unfolding wordToken
-  word-none h = go word h
-    where
-      go : (w : List ℕ) → length w ≡ 0 → 0 ≡ wordToken w
-      go [] h = refl
-      go (b ∷ bs) h = absurd (omega arith)
+  pub pair-in-table : (tokenIn pairs word ≡ 0 → ⊥) → tokenIn names word ≡ tokenIn pairs word
+  pair-in-table h = in-first pairs (singles ++ words) word h
 
-  pub word-variable : 0 < length word → initial word ≡ DOLLAR → tokenIn variables word 0 ≡ wordToken word
-  unfolding wordToken
-  word-variable h e = rw (others word (tokenIn variables word (tokenIn actions word 0)) h e .0, others word 0 h e .1)
+  pub single-in-table : (tokenIn singles word ≡ 0 → ⊥) → tokenIn names word ≡ tokenIn singles word
+  single-in-table h =
+      let e = in-first singles words word h in
+      in-rest pairs (singles ++ words) word refl (λ z. h (sym e ∙ z)) ∙ e
 
-  pub word-keyword : (tokenIn keywords word 0 ≡ 0 → ⊥) → tokenIn keywords word 0 ≡ wordToken word
+  pub word-in-table : (wordToken word ≡ 0 → ⊥) → tokenIn names word ≡ wordToken word
   unfolding wordToken
-  word-keyword h = sym (given-first keywords word (tokenIn variables word (tokenIn actions word 0)) h)
-
-  pub word-action : (initial word ≡ DOLLAR → ⊥) → tokenIn keywords word 0 ≡ 0 → tokenIn actions word 0 ≡ wordToken word
-  unfolding wordToken
-  word-action e h = sym (given-none keywords word (tokenIn variables word (tokenIn actions word 0)) refl h ∙ no-variable word (tokenIn actions word 0) e)
+  word-in-table h = in-rest (pairs ++ singles) words word refl h

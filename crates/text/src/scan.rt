@@ -4,8 +4,8 @@ ghost use mathlib.Core.List.{[], _∷_};
 ghost use Prim.Native.Nat.{_+_, _≤_, _<_};
 ghost use lib.ListN.{length, getD, drop};
 ghost use Rattle.text.specs.Byte.{isLetter};
-ghost use Rattle.text.specs.Word.{tokenIn};
-ghost use Rattle.text.specs.First.{found, wordFirst, behindPoint, withPoint, numberWith, numberFirst, pairs, singles, signFirst, firstToken};
+ghost use Rattle.text.specs.Word.{pairs, singles, tokenIn};
+ghost use Rattle.text.specs.First.{found, wordFirst, behindPoint, withPoint, numberWith, numberFirst, signFirst, firstToken};
 use crate::bytes::Kind;
 use crate::bytes::POINT;
 use crate::bytes::is_digit;
@@ -114,7 +114,7 @@ fn number_first(part: &[u8]) -> First
 
 // The token of a sign of two bytes, or 0.
 fn pair_token(a: u8, b: u8) -> u32
-    ensures { λ r. ⌜ r ≡ tokenIn pairs (a ∷ b ∷ []) 0 ⌝ }
+    ensures { λ r. ⌜ r ≡ tokenIn pairs (a ∷ b ∷ []) ⌝ }
 {
     if a == b'=' {
         if b == b'=' {
@@ -142,7 +142,7 @@ fn pair_token(a: u8, b: u8) -> u32
 
 // That of a sign of one byte, or 0.
 fn single_token(a: u8) -> u32
-    ensures { λ r. ⌜ r ≡ tokenIn singles (a ∷ []) 0 ⌝ }
+    ensures { λ r. ⌜ r ≡ tokenIn singles (a ∷ []) ⌝ }
 {
     if a == b'=' {
         return EQUALS;

@@ -1,6 +1,9 @@
 // The token of a word.
 ghost use mathlib.Core.Path.{_≡_};
-ghost use Rattle.text.specs.Word.{keywords, variables, actions, sameBytes, orNamed, tokenIn, wordToken};
+ghost use Prim.Native.Nat.{_+_, _<_};
+ghost use lib.ListN.{length};
+ghost use Rattle.tokens.specs.Token.{ID, EVERY, DO, XOR, IN, R, TIMER, IM, POS, UNLOCK, X, W};
+ghost use Rattle.text.specs.Word.{words, sameBytes, nameIn, wordToken, sought};
 use crate::bytes::DOLLAR;
 use tokens::token::AND;
 use tokens::token::DO;
@@ -51,9 +54,12 @@ fn same_bytes(a: &[u8], b: &[u8]) -> bool
     true
 }
 
-// The token t if it is one; else that of a name, if the word is that name.
+// Tries one token: t, what was found so far, if it is a token; else this one, if the word is its name.
 fn named(t: u32, word: &[u8], name: &[u8], token: u32) -> u32
-    ensures { λ r. ⌜ r ≡ orNamed (now (word .entry)) t (now (name .entry), token) ⌝ }
+    requires { ⌜ 0 < length (now word) ⌝ }
+    requires { ⌜ 0 < token ⌝ }
+    requires { ⌜ nameIn words token ≡ now name ⌝ }
+    ensures { λ r. ⌜ sought (wordToken (now (word .entry))) (token + 1) r ≡ sought (wordToken (now (word .entry))) token t ⌝ }
 {
     if t != 0 {
         return t;
@@ -61,60 +67,84 @@ fn named(t: u32, word: &[u8], name: &[u8], token: u32) -> u32
     if same_bytes(word, name) { token } else { 0 }
 }
 
-// The token of a keyword, or 0.
-fn keyword_token(word: &[u8]) -> u32
-    ensures { λ r. ⌜ r ≡ tokenIn keywords (now (word .entry)) 0 ⌝ }
+// Tries ID to EVERY.
+fn from_id(t: u32, word: &[u8]) -> u32
+    requires { ⌜ 0 < length (now word) ⌝ }
+    ensures { λ r. ⌜ sought (wordToken (now (word .entry))) (EVERY + 1) r ≡ sought (wordToken (now (word .entry))) ID t ⌝ }
 {
-    let mut t = named(0, word, b"ID", ID);
-    t = named(t, word, b"IDS", IDS);
-    t = named(t, word, b"WHEN", WHEN);
-    t = named(t, word, b"WHENEVER", WHENEVER);
-    t = named(t, word, b"FROM", FROM);
-    t = named(t, word, b"EVERY", EVERY);
-    t = named(t, word, b"DO", DO);
-    t = named(t, word, b"TRUE", TRUE);
-    t = named(t, word, b"FALSE", FALSE);
-    t = named(t, word, b"NOT", NOT);
-    t = named(t, word, b"AND", AND);
-    t = named(t, word, b"OR", OR);
-    named(t, word, b"XOR", XOR)
+    let mut u = named(t, word, b"ID", ID);
+    u = named(u, word, b"IDS", IDS);
+    u = named(u, word, b"WHEN", WHEN);
+    u = named(u, word, b"WHENEVER", WHENEVER);
+    u = named(u, word, b"FROM", FROM);
+    named(u, word, b"EVERY", EVERY)
 }
 
-// That of a variable, or 0.
-fn variable_token(word: &[u8]) -> u32
-    ensures { λ r. ⌜ r ≡ tokenIn variables (now (word .entry)) 0 ⌝ }
+// DO to XOR.
+fn from_do(t: u32, word: &[u8]) -> u32
+    requires { ⌜ 0 < length (now word) ⌝ }
+    ensures { λ r. ⌜ sought (wordToken (now (word .entry))) (XOR + 1) r ≡ sought (wordToken (now (word .entry))) DO t ⌝ }
 {
-    let mut t = named(0, word, b"$A_IN", IN);
-    t = named(t, word, b"$A_INA", INA);
-    t = named(t, word, b"$AA_IM", IM);
-    t = named(t, word, b"$A_OUT", OUT);
-    t = named(t, word, b"$AC_MARKER", MARKER);
-    t = named(t, word, b"$AC_PARAM", PARAM);
-    t = named(t, word, b"$R", R);
-    t = named(t, word, b"$AC_TIMER", TIMER);
-    t = named(t, word, b"$AC_FIFO1", FIFO1);
-    t = named(t, word, b"$AC_FIFO2", FIFO1 + 1);
-    t = named(t, word, b"$AC_FIFO3", FIFO1 + 2);
-    named(t, word, b"$AC_FIFO4", FIFO4)
+    let mut u = named(t, word, b"DO", DO);
+    u = named(u, word, b"TRUE", TRUE);
+    u = named(u, word, b"FALSE", FALSE);
+    u = named(u, word, b"NOT", NOT);
+    u = named(u, word, b"AND", AND);
+    u = named(u, word, b"OR", OR);
+    named(u, word, b"XOR", XOR)
 }
 
-// That of an action or an axis, or 0.
-fn action_token(word: &[u8]) -> u32
-    ensures { λ r. ⌜ r ≡ tokenIn actions (now (word .entry)) 0 ⌝ }
+// $A_IN to $R.
+fn from_in(t: u32, word: &[u8]) -> u32
+    requires { ⌜ 0 < length (now word) ⌝ }
+    ensures { λ r. ⌜ sought (wordToken (now (word .entry))) (R + 1) r ≡ sought (wordToken (now (word .entry))) IN t ⌝ }
 {
-    let mut t = named(0, word, b"POS", POS);
-    t = named(t, word, b"FA", FA);
-    t = named(t, word, b"MOV", MOV);
-    t = named(t, word, b"M", M);
-    t = named(t, word, b"SETAL", SETAL);
-    t = named(t, word, b"LOCK", LOCK);
-    t = named(t, word, b"UNLOCK", UNLOCK);
-    t = named(t, word, b"X", X);
-    t = named(t, word, b"Y", X + 1);
-    t = named(t, word, b"Z", X + 2);
-    t = named(t, word, b"U", X + 3);
-    t = named(t, word, b"V", X + 4);
-    named(t, word, b"W", W)
+    let mut u = named(t, word, b"$A_IN", IN);
+    u = named(u, word, b"$A_INA", INA);
+    u = named(u, word, b"$A_OUT", OUT);
+    u = named(u, word, b"$AC_MARKER", MARKER);
+    u = named(u, word, b"$AC_PARAM", PARAM);
+    named(u, word, b"$R", R)
+}
+
+// $AC_TIMER to $AA_IM.
+fn from_timer(t: u32, word: &[u8]) -> u32
+    requires { ⌜ 0 < length (now word) ⌝ }
+    ensures { λ r. ⌜ sought (wordToken (now (word .entry))) (IM + 1) r ≡ sought (wordToken (now (word .entry))) TIMER t ⌝ }
+{
+    let mut u = named(t, word, b"$AC_TIMER", TIMER);
+    u = named(u, word, b"$AC_FIFO1", FIFO1);
+    u = named(u, word, b"$AC_FIFO2", FIFO1 + 1);
+    u = named(u, word, b"$AC_FIFO3", FIFO1 + 2);
+    u = named(u, word, b"$AC_FIFO4", FIFO4);
+    named(u, word, b"$AA_IM", IM)
+}
+
+// The actions.
+fn from_pos(t: u32, word: &[u8]) -> u32
+    requires { ⌜ 0 < length (now word) ⌝ }
+    ensures { λ r. ⌜ sought (wordToken (now (word .entry))) (UNLOCK + 1) r ≡ sought (wordToken (now (word .entry))) POS t ⌝ }
+{
+    let mut u = named(t, word, b"POS", POS);
+    u = named(u, word, b"FA", FA);
+    u = named(u, word, b"MOV", MOV);
+    u = named(u, word, b"M", M);
+    u = named(u, word, b"SETAL", SETAL);
+    u = named(u, word, b"LOCK", LOCK);
+    named(u, word, b"UNLOCK", UNLOCK)
+}
+
+// The axes.
+fn from_x(t: u32, word: &[u8]) -> u32
+    requires { ⌜ 0 < length (now word) ⌝ }
+    ensures { λ r. ⌜ sought (wordToken (now (word .entry))) (W + 1) r ≡ sought (wordToken (now (word .entry))) X t ⌝ }
+{
+    let mut u = named(t, word, b"X", X);
+    u = named(u, word, b"Y", X + 1);
+    u = named(u, word, b"Z", X + 2);
+    u = named(u, word, b"U", X + 3);
+    u = named(u, word, b"V", X + 4);
+    named(u, word, b"W", W)
 }
 
 // The token of a word, 0 if it makes none. A variable begins with $, and no other word does.
@@ -125,11 +155,11 @@ pub fn word_token(word: &[u8]) -> u32
         return 0;
     }
     if word[0] == DOLLAR {
-        return variable_token(word);
+        return from_timer(from_in(0, word), word);
     }
-    let t = keyword_token(word);
+    let t = from_do(from_id(0, word), word);
     if t != 0 {
         return t;
     }
-    action_token(word)
+    from_x(from_pos(0, word), word)
 }
