@@ -11,6 +11,7 @@ use lib.ListN.{length, getD, drop, length-append}
 use borrow.Author.Tests.{eqb-true, eq-eqb, ne-eqb}
 use Rattle.values.specs.Choice.{decide, either}
 use Rattle.values.specs.Numbers.{clash}
+use Rattle.engine.specs.Order.{orderSize}
 use Rattle.engine.specs.declared.one_beat.Beaten.{Beaten}
 use Rattle.text.specs.Byte.{bytes, LF, SPACE}
 use Rattle.text.specs.Digits.{digitsUp, decimal, signedText}
@@ -209,10 +210,10 @@ orders-add : (p : List ℕ → Bool) (x : ℕ) → ((o : List ℕ) → one (p (o
 unfolding orderLines
 orders-add p x h zero b rest = omega arith
 orders-add p x h (suc n) b rest =
-    let u = orders-add p x h n (drop 8 b) rest in
+    let u = orders-add p x h n (drop orderSize b) rest in
     let v = h b in
-    let c = count-first p (orderBody b) (orderLines n (drop 8 b) ++ rest) (order-above b) in
-    let os = orderLines n (drop 8 b) in
+    let c = count-first p (orderBody b) (orderLines n (drop orderSize b) ++ rest) (order-above b) in
+    let os = orderLines n (drop orderSize b) in
     let e : orderLine b ++ os ++ rest ≡ orderBody b ++ (LF ∷ (os ++ rest)) = append-assoc (orderLine b) os rest ∙ order-line b (os ++ rest) in
     rw e (omega arith)
 

@@ -46,11 +46,11 @@ use Rattle.transcript.specs.Synrun.{beatsText, loadedText, synrun}
 use lib.ListN.{replicate}
 use Rattle.transcript.specs.HalfLine.{greatest, withField, closed, spaceAfter, modeByte, minusByte, digitByte, fieldByte, readByte, readOn, isUntouched, withoutCR, readLent}
 use Rattle.transcript.specs.Machine.{opened, textEnd, beatOf, beatEnd, chunk, lineEnd, fedLines, textOver, lastOver, finished}
-use Rattle.transcript.specs.SetText.{starAfter, starOn, placeOn, placeEnd}
+use Rattle.transcript.specs.SetText.{keptSize, starAfter, starOn, placeOn, placeEnd}
 use Rattle.sessions.specs.SessionLaws.{prints, starting}
 
 abbrev printed : String → List ℕ
-printed t = prints (starting (replicate 4097 0) []) (textLines (bytes t))
+printed t = prints (starting (replicate keptSize 0) []) (textLines (bytes t))
 
 example :
     map printed ("ID=1 EVERY $A_IN[1]==1 DO $AC_MARKER[0]=$AC_MARKER[0]+1 M=7\n*\nA 1\nA 1\nA 0\nA 1\n" ∷ "" ∷ "*" ∷ "*\r" ∷ "*\n" ∷ "*\nA 0\r" ∷ "*\r\nA 0\r\n" ∷ "*\n\n" ∷ "*\nA 65536\n" ∷ "*\nA 65535 2147483647\n" ∷ "*\nA 0 2147483648\n" ∷ "*\nA 0 -2147483648\n" ∷ "*\nA 0 -2147483649" ∷ "*\nM 000000000000000000000000000065535 -0" ∷ "*\nA 0 1 2 3 4 5 6 7 8 9 10 11 12 13 14\nA 0 1 2 3 4 5 6 7 8 9 10 11 12 13 14 15\n" ∷ "*\nA 0 \n" ∷ "*\n A 0\n" ∷ "*\nA\n" ∷ "*\nA 99999999999999999999\n" ∷ "*\nA -0\n" ∷ "*\nA 0 --1\n" ∷ "*\nA 0 -\n" ∷ "*\nA 0\r\r\n" ∷ "**\n*\nA 0\n" ∷ " *\n" ∷ "*\n*\n" ∷ "ID=1 DO FA[X]=$A_INA[1] POS[W]=$A_INA[8] MOV[Y]=-1\r\n*\r\nA 0 5 0 0 0 0 0 0 -7\r\nM 007 -0\r\nA 0 -1\nA 0  1\nA" ∷ "ID=1 DO $R[0]=1/0" ∷ "ID=1 DO\n\n" ∷ "ID=2 DO LOCK(1)\n" ∷ [])

@@ -6,6 +6,7 @@ use native.Mathlib.Omega.{arith}
 use native.Mathlib.Numerals.{add-one}
 use lib.ListN.{length, getD, drop, length-append, drop-of-length-le}
 use lib.Seq.{drop-cons, getD-drop, drop-drop}
+use Rattle.engine.specs.Order.{orderSize}
 use Rattle.text.specs.Byte.{bytes, LF, SPACE}
 use Rattle.text.specs.Digits.{decimal, signedText}
 use Rattle.values.specs.PutAt.{putAt, IsPut}
@@ -87,7 +88,7 @@ order-near a b c h = let r = fields-room (a ∷ b ∷ c ∷ []) in let e = h .be
 
 -- the orders from place k on, of n
 abbrev pub ordersLeft : ℕ → List ℕ → ℕ → List ℕ
-ordersLeft n o k = orderLines (n - k) (drop (k * 8) o)
+ordersLeft n o k = orderLines (n - k) (drop (k * orderSize) o)
 
 module _ (n : ℕ) (o : List ℕ) where
   pub all-left : ordersLeft n o 0 ≡ orderLines n o
@@ -97,9 +98,9 @@ module _ (n : ℕ) (o : List ℕ) where
   unfolding orderLines
   none-left k h = let e : n - k ≡ 0 = omega arith in rw e
 
-  pub one-less : (k : ℕ) → k < n → ordersLeft n o k ≡ orderLine (drop (k * 8) o) ++ ordersLeft n o (k + 1)
+  pub one-less : (k : ℕ) → k < n → ordersLeft n o k ≡ orderLine (drop (k * orderSize) o) ++ ordersLeft n o (k + 1)
   unfolding orderLines
   one-less k h =
       let e : n - k ≡ suc (n - (k + 1)) = omega arith in
-      let f : k * 8 + 8 ≡ (k + 1) * 8 = omega arith in
-      rw (e, drop-drop 8 (k * 8) o, f)
+      let f : k * orderSize + orderSize ≡ (k + 1) * orderSize = omega arith in
+      rw (e, drop-drop orderSize (k * orderSize) o, f)

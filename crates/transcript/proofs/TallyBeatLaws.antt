@@ -9,8 +9,8 @@ use Rattle.engine.specs.Order.{maxOrders}
 use Rattle.values.specs.PutAt.{IsPut}
 use Rattle.values.specs.PutLaws.{put-both, put-as}
 use Rattle.transcript.specs.BeatLine.{Lent}
-use Rattle.transcript.specs.Output.{codeLine, orderLines}
-use Rattle.transcript.specs.OutputLaws.{codeRoom, code-room}
+use Rattle.transcript.specs.Output.{codeLine, orderLines, codeRoom}
+use Rattle.transcript.specs.OutputLaws.{code-room}
 use Rattle.transcript.specs.declared.totals.Totals.{Totals}
 use Rattle.transcript.specs.Totals.{counting}
 use Rattle.transcript.specs.Tally.{counted, givenBy, answerOf, bufferOf, beatText}

@@ -3,10 +3,11 @@ use mathlib.Core.Path.{_≡_, refl}
 use Prim.Native.Nat.{ℕ, zero, suc, _*_, _≤_, _<_}
 use borrow.Author.Tests.{le-leb, lt-ltb}
 use lib.Dec.{leb}
+use Rattle.engine.specs.Order.{maxOrders}
 use Rattle.transcript.specs.declared.totals.Totals.{Totals}
 use Rattle.transcript.specs.Totals.{maxBeats, oneIf, areFit}
 
-pub fit-but-orders : (n : Totals) → n .beats < maxBeats → n .coded ≤ n .beats → leb (n .orders) (n .beats * 256) ≡ areFit n
+pub fit-but-orders : (n : Totals) → n .beats < maxBeats → n .coded ≤ n .beats → leb (n .orders) (n .beats * maxOrders) ≡ areFit n
 unfolding areFit
 fit-but-orders n a b = simp (lt-ltb _ _ a, le-leb _ _ b)
 

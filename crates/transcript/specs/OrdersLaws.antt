@@ -1,4 +1,4 @@
--- A beat has at most 256 orders: at most 32 lines take a turn, each with at most eight actions, each of at most one order. Assumes nothing.
+-- A beat has no more orders than its lines may have actions: each action gives at most one. Assumes nothing.
 use mathlib.Core.Bool.{Bool, true, false}
 use mathlib.Core.List.{List, [], _∷_}
 use Prim.Native.Nat.{ℕ, zero, suc, _+_, _*_, _≤_}
@@ -6,10 +6,10 @@ use native.Mathlib.Omega.{arith}
 use lib.Dec.{eqb, ltb}
 use lib.ListN.{length, getD, length-append}
 use Rattle.values.specs.Choice.{either, ifNot}
-use Rattle.engine.specs.Order.{maxOrders}
+use Rattle.engine.specs.Order.{maxOrders, orderSize}
 use Rattle.engine.specs.OrderLaws.{eight-bytes}
 use Rattle.engine.specs.declared.order.Order.{Order}
-use Rattle.tokens.specs.Token.{END, M, SETAL, LOCK, isVariable, isDrive, whole, maxLines, isAxis, isCall}
+use Rattle.tokens.specs.Token.{END, M, SETAL, LOCK, isVariable, isDrive, whole, maxLines, isAxis, isCall, maxActions}
 use Rattle.tokens.specs.Descent.{Answer, good, stop, indexAt}
 use Rattle.working.specs.Operators.{isYes}
 use Rattle.working.specs.Working.{rightValue, conditionValue}
@@ -40,107 +40,111 @@ abbrev TurnAdds : World → ℕ → Answer Turned → Type 0
 TurnAdds x n a = Ok (λ (t : Turned). Adds x n (t .world)) a
 
 -- an order is eight bytes
-order-adds : (x : World) (o : Order) → Adds x 8 (ordered x o)
+order-adds : (x : World) (o : Order) → Adds x orderSize (ordered x o)
 order-adds x o = simp (length-append, eight-bytes) (omega arith)
 
-lock-adds : (c : List Bool) (x : World) (b : Bool) (k q : ℕ) → DidAdd x 8 (lockOf c x b k q)
+lock-adds : (c : List Bool) (x : World) (b : Bool) (k q : ℕ) → DidAdd x orderSize (lockOf c x b k q)
 unfolding lockOf
 lock-adds c x b k q =
-    either (DidAdd x 8) (ltb k maxLines)
-    (λ e. either (DidAdd x 8) (getD c k false) (λ g. omega arith) (λ g. omega arith))
+    either (DidAdd x orderSize) (ltb k maxLines)
+    (λ e. either (DidAdd x orderSize) (getD c k false) (λ g. omega arith) (λ g. omega arith))
     (λ e. tt)
 
-assignment-adds : (s : List ℕ) (x : World) (w p : ℕ) → DidAdd x 8 (assignmentOf s x w p)
+assignment-adds : (s : List ℕ) (x : World) (w p : ℕ) → DidAdd x orderSize (assignmentOf s x w p)
 unfolding assignmentOf
 assignment-adds s x w p =
-    bind-ok (λ (d : Did). Adds x 8 (d .world)) (takenAt s (x .vars) (p + 5)) _ λ a _.
-    bind-ok (λ (d : Did). Adds x 8 (d .world)) (writeTo (a .vars) w (indexAt s w p) (a .value)) _ λ v _.
+    bind-ok (λ (d : Did). Adds x orderSize (d .world)) (takenAt s (x .vars) (p + 5)) _ λ a _.
+    bind-ok (λ (d : Did). Adds x orderSize (d .world)) (writeTo (a .vars) w (indexAt s w p) (a .value)) _ λ v _.
     omega arith
 
-drive-adds : (s : List ℕ) (number : ℕ) (x : World) (w p : ℕ) → DidAdd x 8 (driveOf s number x w p)
+drive-adds : (s : List ℕ) (number : ℕ) (x : World) (w p : ℕ) → DidAdd x orderSize (driveOf s number x w p)
 unfolding driveOf
 drive-adds s number x w p =
-    ifNot (DidAdd x 8) (isAxis (getD s (p + 2) 0)) (λ e. tt) λ e.
-    bind-ok (λ (d : Did). Adds x 8 (d .world)) (fromValueOrAlarm (rightValue s (x .vars .r) (x .vars .cells) (p + 5))) _ λ a _.
-    bind-ok (λ (d : Did). Adds x 8 (d .world)) (driveOrder number w (indexAt s w p) (a .0)) _ λ o _.
+    ifNot (DidAdd x orderSize) (isAxis (getD s (p + 2) 0)) (λ e. tt) λ e.
+    bind-ok (λ (d : Did). Adds x orderSize (d .world)) (fromValueOrAlarm (rightValue s (x .vars .r) (x .vars .cells) (p + 5))) _ λ a _.
+    bind-ok (λ (d : Did). Adds x orderSize (d .world)) (driveOrder number w (indexAt s w p) (a .0)) _ λ o _.
     order-adds x o
 
 module _ (s numbers : List ℕ) (cancelled : List Bool) (number : ℕ) where
-  command-adds : (x : World) (w p : ℕ) → DidAdd x 8 (commandOf s numbers cancelled number x w p)
+  command-adds : (x : World) (w p : ℕ) → DidAdd x orderSize (commandOf s numbers cancelled number x w p)
   unfolding commandOf
   command-adds x w p =
-      either (DidAdd x 8) (eqb w M) (λ e. order-adds x _) λ e.
-      either (DidAdd x 8) (eqb w SETAL) (λ g. order-adds x _) λ g.
+      either (DidAdd x orderSize) (eqb w M) (λ e. order-adds x _) λ e.
+      either (DidAdd x orderSize) (eqb w SETAL) (λ g. order-adds x _) λ g.
       ifNot (DidAdd x 8) (isCall w) (λ e. tt) λ e.
       lock-adds cancelled x (eqb w LOCK) (rankIn numbers (whole (getD s (p + 2) 0)) 0) (p + 4)
 
-  action-adds : (x : World) (p : ℕ) → DidAdd x 8 (actionOf s numbers cancelled number x p)
+  action-adds : (x : World) (p : ℕ) → DidAdd x orderSize (actionOf s numbers cancelled number x p)
   unfolding actionOf
   action-adds x p =
-      either (DidAdd x 8) (eqb (getD s p 0) END) (λ e. tt) λ e.
-      either (DidAdd x 8) (isVariable (getD s p 0)) (λ g. assignment-adds s x (getD s p 0) p) λ g.
-      either (DidAdd x 8) (isDrive (getD s p 0)) (λ h. drive-adds s number x (getD s p 0) p) (λ h. command-adds x (getD s p 0) p)
+      either (DidAdd x orderSize) (eqb (getD s p 0) END) (λ e. tt) λ e.
+      either (DidAdd x orderSize) (isVariable (getD s p 0)) (λ g. assignment-adds s x (getD s p 0) p) λ g.
+      either (DidAdd x orderSize) (isDrive (getD s p 0)) (λ h. drive-adds s number x (getD s p 0) p) (λ h. command-adds x (getD s p 0) p)
 
-  actions-add : (j : ℕ) (x : World) (p : ℕ) → DidAdd x (8 * j) (actionsOf s numbers cancelled number j x p)
+  actions-add : (j : ℕ) (x : World) (p : ℕ) → DidAdd x (orderSize * j) (actionsOf s numbers cancelled number j x p)
   unfolding actionsOf
   actions-add zero x p = tt
   actions-add (suc j) x p =
-      ok-then (λ (d : Did). Adds x 8 (d .world)) (λ (d : Did). Adds x (8 * suc j) (d .world)) (actionOf s numbers cancelled number x p) _ (action-adds x p) λ d h.
-      either (DidAdd x (8 * suc j)) (eqb (getD s (d .next) 0) END) (λ e. omega arith) λ e.
-      ok-then (λ (f : Did). Adds (d .world) (8 * j) (f .world)) (λ (f : Did). Adds x (8 * suc j) (f .world)) (actionsOf s numbers cancelled number j (d .world) (d .next)) _
+      ok-then (λ (d : Did). Adds x orderSize (d .world)) (λ (d : Did). Adds x (orderSize * suc j) (d .world)) (actionOf s numbers cancelled number x p) _ (action-adds x p) λ d h.
+      either (DidAdd x (orderSize * suc j)) (eqb (getD s (d .next) 0) END) (λ e. omega arith) λ e.
+      ok-then (λ (f : Did). Adds (d .world) (orderSize * j) (f .world)) (λ (f : Did). Adds x (orderSize * suc j) (f .world)) (actionsOf s numbers cancelled number j (d .world) (d .next)) _
       (actions-add j (d .world) (d .next)) (λ f g. omega arith)
 
 -- ---- turns
 
+-- the bytes of the orders of a line at most
+abbrev turnBytes : ℕ
+turnBytes = orderSize * maxActions
+
 module _ (s numbers : List ℕ) (cancelled : List Bool) (automatic : Bool) where
-  do-adds : (l : Line) (k : ℕ) (x : World) (es : List Entry) (b : Bool) → TurnAdds x 64 (doTurn s numbers cancelled automatic l k x es b)
+  do-adds : (l : Line) (k : ℕ) (x : World) (es : List Entry) (b : Bool) → TurnAdds x turnBytes (doTurn s numbers cancelled automatic l k x es b)
   unfolding doTurn
   do-adds l k x es false = omega arith
   do-adds l k x es true =
-      ok-then (λ (d : Did). Adds (counted x k) 64 (d .world)) (λ (t : Turned). Adds x 64 (t .world)) (actionsOf s numbers cancelled (l .number) 8 (counted x k) (l .actions)) _
-      (actions-add s numbers cancelled (l .number) 8 (counted x k) (l .actions)) (λ d h. h)
+      ok-then (λ (d : Did). Adds (counted x k) turnBytes (d .world)) (λ (t : Turned). Adds x turnBytes (t .world)) (actionsOf s numbers cancelled (l .number) maxActions (counted x k) (l .actions)) _
+      (actions-add s numbers cancelled (l .number) maxActions (counted x k) (l .actions)) (λ d h. h)
 
-  try-adds : (l : Line) (k : ℕ) (x : World) → TurnAdds x 64 (tryTurn s numbers cancelled automatic l k x)
+  try-adds : (l : Line) (k : ℕ) (x : World) → TurnAdds x turnBytes (tryTurn s numbers cancelled automatic l k x)
   unfolding tryTurn
   try-adds l k x =
       let m = getD (x .memory) k false in
-      either (TurnAdds x 64) (tries (l .keyword) m)
-      (λ e. bind-ok (λ (t : Turned). Adds x 64 (t .world)) (fromValueOrAlarm (conditionValue s (x .vars .r) (x .vars .cells) (l .condition))) _ λ a _.
+      either (TurnAdds x turnBytes) (tries (l .keyword) m)
+      (λ e. bind-ok (λ (t : Turned). Adds x turnBytes (t .world)) (fromValueOrAlarm (conditionValue s (x .vars .r) (x .vars .cells) (l .condition))) _ λ a _.
       do-adds l k (remembered x k (remembers (l .keyword) m (isYes (a .0)))) (worked k (isYes (a .0)) ∷ []) (acts (l .keyword) m (isYes (a .0))))
       (λ e. do-adds l k x [] (acts (l .keyword) m false))
 
-  turn-adds : (l : Line) (k : ℕ) (x : World) → TurnAdds x 64 (turnOf s numbers cancelled automatic l k x)
+  turn-adds : (l : Line) (k : ℕ) (x : World) → TurnAdds x turnBytes (turnOf s numbers cancelled automatic l k x)
   unfolding turnOf
-  turn-adds l k x = either (TurnAdds x 64) (takesTurn s numbers cancelled automatic l k x) (λ e. try-adds l k x) (λ e. omega arith)
+  turn-adds l k x = either (TurnAdds x turnBytes) (takesTurn s numbers cancelled automatic l k x) (λ e. try-adds l k x) (λ e. omega arith)
 
-  turns-add : (ls : List Line) (m k : ℕ) (x : World) → TurnAdds x (64 * m) (turnsFrom s numbers cancelled automatic ls m k x)
+  turns-add : (ls : List Line) (m k : ℕ) (x : World) → TurnAdds x (turnBytes * m) (turnsFrom s numbers cancelled automatic ls m k x)
   unfolding turnsFrom
   turns-add ls zero k x = omega arith
   turns-add ls (suc m) k x =
-      ok-then (λ (t : Turned). Adds x 64 (t .world)) (λ (t : Turned). Adds x (64 * suc m) (t .world)) (turnOf s numbers cancelled automatic (getD ls k noLine) k x) _
+      ok-then (λ (t : Turned). Adds x turnBytes (t .world)) (λ (t : Turned). Adds x (turnBytes * suc m) (t .world)) (turnOf s numbers cancelled automatic (getD ls k noLine) k x) _
       (turn-adds (getD ls k noLine) k x) λ t h.
-      ok-then (λ (u : Turned). Adds (t .world) (64 * m) (u .world)) (λ (u : Turned). Adds x (64 * suc m) (u .world)) (turnsFrom s numbers cancelled automatic ls m (k + 1) (t .world)) _
+      ok-then (λ (u : Turned). Adds (t .world) (turnBytes * m) (u .world)) (λ (u : Turned). Adds x (turnBytes * suc m) (u .world)) (turnsFrom s numbers cancelled automatic ls m (k + 1) (t .world)) _
       (turns-add ls m (k + 1) (t .world)) (λ u g. omega arith)
 
 -- ---- the beat
 
 -- the bytes of a beat's orders fit the buffer
 pub bytes-within : (s : List ℕ) (st : State) (g : Given) →
-    Ok (λ (t : Turned). length (t .world .orders) ≤ 2048) (wholeBeat s st g)
+    Ok (λ (t : Turned). length (t .world .orders) ≤ bufferSize) (wholeBeat s st g)
 unfolding wholeBeat beatBegun
 bytes-within s st g =
-    let P : Answer Turned → Type 0 = Ok (λ (t : Turned). length (t .world .orders) ≤ 2048) in
+    let P : Answer Turned → Type 0 = Ok (λ (t : Turned). length (t .world .orders) ≤ bufferSize) in
     either P (isSound s st)
     (λ e. either P (ltb (length (g .buffer)) bufferSize) (λ b. tt) λ b.
     either P (areInputs (g .lent))
-    (λ h. ok-then (λ (t : Turned). Adds (beatBegun st g) (64 * soundLines s .count) (t .world)) (λ (t : Turned). length (t .world .orders) ≤ 2048)
+    (λ h. ok-then (λ (t : Turned). Adds (beatBegun st g) (turnBytes * soundLines s .count) (t .world)) (λ (t : Turned). length (t .world .orders) ≤ bufferSize)
     (allTurns s (soundLines s) st g) _
     (turns-add s (soundLines s .numbers) (st .cancelled) (g .automatic) (soundLines s .items) (soundLines s .count) 0 (beatBegun st g))
     (λ t a. let f = lines-lined s .few in omega arith))
     (λ h. tt))
     (λ e. tt)
 
-answered-within : (st : State) (a : Answer Turned) → Ok (λ (t : Turned). length (t .world .orders) ≤ 2048) a → turnedAnswer st a .orders ≤ maxOrders
+answered-within : (st : State) (a : Answer Turned) → Ok (λ (t : Turned). length (t .world .orders) ≤ bufferSize) a → turnedAnswer st a .orders ≤ maxOrders
 answered-within st (good t) h = omega arith
 answered-within st (stop k) h = omega arith
 

@@ -2,6 +2,7 @@
 use mathlib.Core.List.{List, [], _∷_, _++_}
 use Prim.Native.Nat.{ℕ, zero, suc, _+_, _-_, _*_}
 use lib.ListN.{getD, drop}
+use Rattle.engine.specs.Order.{orderSize, maxOrders}
 use Rattle.text.specs.Byte.{bytes, LF, SPACE}
 use Rattle.text.specs.Digits.{decimal, signedText}
 
@@ -44,7 +45,7 @@ orderLine o = printedLine (bytes "O") (decimal (getD o 1 0) ∷ decimal (getD o 
 -- so for n orders of a buffer
 unfoldable pub orderLines : ℕ → List ℕ → List ℕ
 orderLines zero b = []
-orderLines (suc n) b = orderLine b ++ orderLines n (drop 8 b)
+orderLines (suc n) b = orderLine b ++ orderLines n (drop orderSize b)
 
 -- END beats beats-with-a-code orders
 unfoldable pub endLine : ℕ → ℕ → ℕ → List ℕ
@@ -52,13 +53,28 @@ endLine beats coded orders = printedLine (bytes "END") (decimals (beats ∷ code
 
 -- ---- how it is handed over
 
--- the bytes that output is handed over in
-abbrev pub outSize : ℕ
-outSize = 16384
+-- the bytes of C, of O and of END at most: a number has up to ten digits
+abbrev pub codeRoom : ℕ
+codeRoom = 35
 
--- the last place where what a line of input prints may begin, and the bytes that are then left for it
+abbrev pub orderRoom : ℕ
+orderRoom = 47
+
+abbrev pub endRoom : ℕ
+endRoom = 37
+
+-- what a beat prints at most: C, and O for each order
+abbrev pub beatRoom : ℕ
+beatRoom = codeRoom + orderRoom * maxOrders
+
+-- and a line of input: END behind the last beat
+abbrev pub lineRoom : ℕ
+lineRoom = beatRoom + endRoom
+
+-- the last place where what a line of input prints may begin
 abbrev pub lastStart : ℕ
 lastStart = 4096
 
-abbrev pub lineRoom : ℕ
-lineRoom = outSize - lastStart
+-- the bytes that output is handed over in
+abbrev pub outSize : ℕ
+outSize = lastStart + lineRoom

@@ -3,10 +3,10 @@ use mathlib.Core.List.{List, [], _∷_}
 use Prim.Native.Nat.{ℕ, zero, suc, _+_, _*_, _≤_}
 use native.Mathlib.Omega.{arith}
 use lib.ListN.{length, getD, drop, length-append}
-use Rattle.engine.specs.Order.{maxOrders}
+use Rattle.engine.specs.Order.{orderSize}
 use Rattle.text.specs.Byte.{bytes}
 use Rattle.text.specs.DigitsLaws.{decimal-room, signed-room}
-use Rattle.transcript.specs.Output.{spaced, printedLine, decimals, loadLine, errorLine, codeLine, fourOf, orderLine, orderLines, endLine}
+use Rattle.transcript.specs.Output.{spaced, printedLine, decimals, loadLine, errorLine, codeLine, fourOf, orderLine, orderLines, endLine, codeRoom, orderRoom, endRoom}
 
 -- ---- a word and numbers
 
@@ -31,22 +31,13 @@ pub error-room : (k : ℕ) → length (errorLine k) ≤ 13
 unfolding errorLine
 error-room k = numbers-room (bytes "E") (k ∷ [])
 
-abbrev pub codeRoom : ℕ
-codeRoom = 35
-
 pub code-room : (beat code orders : ℕ) → length (codeLine beat code orders) ≤ codeRoom
 unfolding codeLine
 code-room beat code orders = numbers-room (bytes "C") (beat ∷ code ∷ orders ∷ [])
 
-abbrev pub endRoom : ℕ
-endRoom = 37
-
 pub end-room : (beats coded orders : ℕ) → length (endLine beats coded orders) ≤ endRoom
 unfolding endLine
 end-room beats coded orders = numbers-room (bytes "END") (beats ∷ coded ∷ orders ∷ [])
-
-abbrev pub orderRoom : ℕ
-orderRoom = 47
 
 pub order-room : (o : List ℕ) → length (orderLine o) ≤ orderRoom
 unfolding orderLine spaced
@@ -62,9 +53,5 @@ unfolding orderLines
 orders-room zero b = omega arith
 orders-room (suc n) b =
     let a = order-room b in
-    let c = orders-room n (drop 8 b) in
+    let c = orders-room n (drop orderSize b) in
     simp length-append (omega arith)
-
--- C and the lines of a beat's orders
-abbrev pub beatRoom : ℕ
-beatRoom = codeRoom + orderRoom * maxOrders

@@ -17,8 +17,8 @@ use Rattle.transcript.specs.declared.set_text.Place.{Place}
 use Rattle.transcript.specs.declared.session.Session.{Session}
 use Rattle.transcript.specs.declared.beat_line.HalfLine.{HalfLine}
 use Rattle.transcript.specs.BeatLine.{Lent}
-use Rattle.transcript.specs.Output.{lineRoom}
-use Rattle.transcript.specs.OutputLaws.{load-room, error-room, code-room, orders-room, end-room, beatRoom, endRoom}
+use Rattle.transcript.specs.Output.{beatRoom, endRoom, lineRoom, outSize}
+use Rattle.transcript.specs.OutputLaws.{load-room, error-room, code-room, orders-room, end-room}
 use Rattle.transcript.specs.declared.totals.Totals.{Totals}
 use Rattle.transcript.specs.Totals.{maxBeats, areFit}
 use Rattle.transcript.specs.TotalsLaws.{FitTotals, fit-totals, totals-fit, counting-fit}
@@ -46,7 +46,7 @@ byLent P (some a) f g = g a refl
 abbrev Short : ℕ → List ℕ → Type 0
 Short n bs = length bs ≤ n
 
--- a beat has at most 256 orders
+-- a beat has no more orders than its lines may have actions
 pub beat-orders : (s : List ℕ) (n : Totals) (l : Lent) → answerOf s n l .orders ≤ maxOrders
 unfolding answerOf
 beat-orders s n l = orders-within s (n .state) (givenBy l)
@@ -59,28 +59,21 @@ beat-room s n l =
     let c = beat-orders s n l in
     simp length-append (omega arith)
 
--- with END behind it, and with END at the end of input
-abbrev pub lineMost : ℕ
-lineMost = beatRoom + endRoom
-
-abbrev pub lastMost : ℕ
-lastMost = lineMost + endRoom
-
 -- what is printed with it
 abbrev Prints : ℕ → Fed → Type 0
 Prints n f = length (f .output) ≤ n
 
-beatOf-room : (m : Machine) (l : Lent) → Prints lineMost (beatOf m l)
+beatOf-room : (m : Machine) (l : Lent) → Prints lineRoom (beatOf m l)
 unfolding beatOf
 beatOf-room m l =
     let n = counted (m .session .totals) (answerOf (m .lines) (m .session .totals) l) in
     let a = beat-room (m .lines) (m .session .totals) l in
     let b = end-room (n .beats) (n .coded) (n .orders) in
-    either (Prints lineMost) (eqb (n .beats) maxBeats) (λ e. simp length-append (omega arith)) (λ e. omega arith)
+    either (Prints lineRoom) (eqb (n .beats) maxBeats) (λ e. simp length-append (omega arith)) (λ e. omega arith)
 
-pub beat-end-room : (m : Machine) (r : HalfLine) → length (beatEnd m r .output) ≤ lineMost
+pub beat-end-room : (m : Machine) (r : HalfLine) → length (beatEnd m r .output) ≤ lineRoom
 unfolding beatEnd
-beat-end-room m r = byLent (Prints lineMost) (readLent r) (λ e. let a = error-room (m .session .totals .beats + 1) in omega arith) (λ l e. beatOf-room m l)
+beat-end-room m r = byLent (Prints lineRoom) (readLent r) (λ e. let a = error-room (m .session .totals .beats + 1) in omega arith) (λ l e. beatOf-room m l)
 
 opened-room : (m : Machine) (t : List ℕ) → Prints 24 (opened m t)
 unfolding opened
@@ -107,29 +100,29 @@ unfolding textOver
 over-room m t =
     byCode (Short endRoom) (loadAnswer t .code) (λ e. let n = m .session .totals in end-room (n .beats) (n .coded) (n .orders)) (λ c e. let a = load-room (suc c) (loadAnswer t .line) in omega arith)
 
-last-room : (m : Machine) (f : Fed) → Prints lineMost f → Short lastMost (lastOver m f)
+last-room : (m : Machine) (f : Fed) → Prints lineRoom f → Short outSize (lastOver m f)
 unfolding lastOver
 last-room m f h =
     let x = f .machine .session in
     let n = x .totals in
     let a = end-room (n .beats) (n .coded) (n .orders) in
-    either (Short lastMost) (eqb (x .phase) BEATS) (λ e. simp length-append (omega arith)) (λ e. omega arith)
+    either (Short outSize) (eqb (x .phase) BEATS) (λ e. simp length-append (omega arith)) (λ e. omega arith)
 
-pub finished-room : (m : Machine) → length (finished m) ≤ lineRoom
+pub finished-room : (m : Machine) → length (finished m) ≤ outSize
 unfolding finished
 finished-room m =
     let x = m .session in
     let h = last-room m (beatEnd m (x .half)) (beat-end-room m (x .half)) in
     let n = x .totals in
     let k = end-room (n .beats) (n .coded) (n .orders) in
-    either (Short lineRoom) (eqb (x .phase) TEXT) (λ e. let a = over-room m (elim (eqb (x .place .star) 1) [ true ↦ take (x .place .start) (m .text) | false ↦ take (x .place .size) (m .text) ]) in omega arith) λ e.
-    either (Short lineRoom) (eqb (x .phase) BEATS)
-    (λ g. either (Short lineRoom) (isUntouched (x .half)) (λ u. omega arith) (λ u. omega arith))
+    either (Short outSize) (eqb (x .phase) TEXT) (λ e. let a = over-room m (elim (eqb (x .place .star) 1) [ true ↦ take (x .place .start) (m .text) | false ↦ take (x .place .size) (m .text) ]) in omega arith) λ e.
+    either (Short outSize) (eqb (x .phase) BEATS)
+    (λ g. either (Short outSize) (isUntouched (x .half)) (λ u. omega arith) (λ u. omega arith))
     (λ g. omega arith)
 
-pub finished-text-room : (m : Machine) → length (finishedText m) ≤ lineRoom
+pub finished-text-room : (m : Machine) → length (finishedText m) ≤ outSize
 unfolding finishedText
-finished-text-room m = either (Short lineRoom) (isFit (m .session)) (λ e. finished-room m) (λ e. omega arith)
+finished-text-room m = either (Short outSize) (isFit (m .session)) (λ e. finished-room m) (λ e. omega arith)
 
 -- ---- a fit session
 

@@ -8,7 +8,7 @@ mod set_text;
 mod tally;
 mod totals;
 
-pub use session::OUT;
+pub use printing::OUT;
 pub use session::Session;
 pub use session::Stepped;
 pub use session::begin;

@@ -6,8 +6,8 @@ ghost use lib.ListN.{length, getD, drop};
 ghost use Rattle.engine.specs.Beat.{bufferSize};
 ghost use Rattle.engine.specs.Order.{maxOrders};
 ghost use Rattle.values.specs.PutAt.{IsPut};
-ghost use Rattle.transcript.specs.Output.{spaced, printedLine, decimals, fourOf, loadLine, errorLine, codeLine, orderLine, orderLines, endLine, outSize};
-ghost use Rattle.transcript.specs.OutputLaws.{orderRoom};
+ghost use Rattle.transcript.specs.Output.{spaced, printedLine, decimals, fourOf, loadLine, errorLine, codeLine, orderLine, orderLines, endLine, orderRoom, outSize};
+use engine::MAX_ORDERS;
 use engine::ORDER_BYTES;
 use text::buffer::put;
 use text::buffer::put_bytes;
@@ -15,6 +15,22 @@ use text::bytes::LF;
 use text::bytes::SPACE;
 use text::digits::put_number;
 use text::digits::put_signed;
+
+// The bytes of C, of O and of END at most: a number has up to ten digits.
+const CODE_ROOM: usize = 35;
+
+const ORDER_ROOM: usize = 47;
+
+const END_ROOM: usize = 37;
+
+// What a line of input prints at most: C, an O per order, and END behind the last beat.
+const LINE_ROOM: usize = CODE_ROOM + ORDER_ROOM * MAX_ORDERS + END_ROOM;
+
+// The last place where what a line of input prints may begin.
+pub const LAST_START: usize = 4096;
+
+// The bytes that output is handed over in.
+pub const OUT: usize = LAST_START + LINE_ROOM;
 
 // Numbers, each behind a space.
 fn put_numbers(out: &mut [u8], at: usize, numbers: &[u32]) -> usize

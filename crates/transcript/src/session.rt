@@ -18,6 +18,8 @@ use crate::beat_line::no_half_line;
 use crate::beat_line::read_bytes;
 use crate::beat_line::read_lent;
 use crate::beat_line::without_cr;
+use crate::printing::LAST_START;
+use crate::printing::OUT;
 use crate::printing::load_line;
 use crate::set_text::KEPT;
 use crate::set_text::Place;
@@ -39,12 +41,6 @@ use text::bytes::Kind;
 use text::bytes::LF;
 use text::bytes::run_end;
 use tokens::token::SIZE;
-
-// The bytes that output is handed over in.
-pub const OUT: usize = 16384;
-
-// The last place where a line's output may begin, so that there is room for what one line prints.
-const LAST_START: usize = 4096;
 
 // The phases: set text, beat lines, over.
 const TEXT: u8 = 0;

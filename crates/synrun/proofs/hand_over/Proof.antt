@@ -5,6 +5,7 @@ use Prim.Native.Nat.{ℕ, _-_, _≤_, _<_}
 use native.Mathlib.Omega.{arith}
 use lib.ListN.{length, take, drop, length-replicate}
 use lib.Seq.{length-take-le}
+use Rattle.transcript.specs.Output.{outSize}
 use Rattle.synrun.proofs.ProgramLaws.{left-length, written-room, no-more, some}
 use Rattle.synrun.proofs.hand_over.Statement.{statement}
 use Rattle.synrun.proofs.hand_over.Tie as tie
@@ -16,7 +17,7 @@ abbrev μ-loop : tie.MeasureT-loop
 μ-loop text₀ set₀ piece s₀ at₀ text set s at = length piece - at
 
 prefix : tie.Need-array-share-prefix-out Inv-loop μ-loop
-prefix c = written-room _ _ (c .before .step .ensures .0) _ (c .before .step .ensures .1 .1 .1) (length-replicate {A = ℕ} 16384 0)
+prefix c = written-room _ _ (c .before .step .ensures .0) _ (c .before .step .ensures .1 .1 .1) (length-replicate {A = ℕ} outSize 0)
 
 counted : tie.Need-slice-aggregate-not-written Inv-loop μ-loop
 counted c = sym (length-take-le _ _ (prefix (c .before)))

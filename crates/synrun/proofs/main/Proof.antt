@@ -4,6 +4,7 @@ use mathlib.Core.Path.{sym}
 use Prim.Native.Nat.{ℕ}
 use lib.ListN.{length-replicate}
 use lib.Seq.{length-take-le}
+use Rattle.transcript.specs.Output.{outSize}
 use Rattle.synrun.proofs.ProgramLaws.{end-room}
 use Rattle.synrun.proofs.main.Statement.{statement}
 use Rattle.synrun.proofs.main.Tie as tie
@@ -15,7 +16,7 @@ abbrev μ-loop : tie.MeasureT-loop
 μ-loop text₀ set₀ s₀ more₀ rounds₀ text set s more rounds = rounds
 
 prefix : tie.Need-array-share-prefix-out Inv-loop μ-loop
-prefix c = end-room _ _ (c .finish .ensures .0) (c .finish .ensures .1) (length-replicate {A = ℕ} 16384 0)
+prefix c = end-room _ _ (c .finish .ensures .0) (c .finish .ensures .1) (length-replicate {A = ℕ} outSize 0)
 
 pub main-spec : {M : Type 1} → statement M
 main-spec =

@@ -4,8 +4,9 @@ use mathlib.Core.Path.{_≡_, refl, _∙_}
 use Prim.Native.Nat.{_+_, _-_, _*_, _≤_}
 use lib.ListN.{length, drop}
 use denote.Ref.{now}
-use Rattle.transcript.specs.Output.{orderLines}
-use Rattle.transcript.specs.OutputLaws.{orderRoom, order-room}
+use Rattle.engine.specs.Order.{orderSize}
+use Rattle.transcript.specs.Output.{orderLines, orderRoom}
+use Rattle.transcript.specs.OutputLaws.{order-room}
 use Rattle.transcript.proofs.OutLaws.{Left, left-all, left-after, left-none, ordersLeft, all-left, none-left, one-less}
 use Rattle.transcript.proofs.printing.order_lines.Statement.{statement}
 use Rattle.transcript.proofs.printing.order_lines.Tie as tie
@@ -22,7 +23,7 @@ loop-again c =
     let o = c .before .before .order-line in
     let b = c .before .before .before .before .before in
     let a = b .before .before .before .args in
-    let r = order-room (drop (b .loop .k * 8) (now (a .orders))) in (
+    let r = order-room (drop (b .loop .k * orderSize) (now (a .orders))) in (
       left-after (ordersLeft (a .n) (now (a .orders)) (b .loop .k + 1)) (b .loop .inv .0) (one-less (a .n) (now (a .orders)) (b .loop .k) (omega arith)) (o .ensures),
       o .kept .0 ∙ b .loop .inv .1,
       omega arith,

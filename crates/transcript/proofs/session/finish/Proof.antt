@@ -8,6 +8,7 @@ use lib.ListN.{length}
 use lib.Seq.{length-take-le}
 use denote.Ref.{now}
 use Rattle.transcript.specs.Machine.{isFit}
+use Rattle.transcript.specs.SetText.{keptSize}
 use Rattle.transcript.specs.SessionRoomLaws.{fit-parts}
 use Rattle.values.specs.PutLaws.{put-nothing}
 use Rattle.transcript.proofs.WorkLaws.{put-whole, size-within, finish-unfit, finish-text, finish-over, finish-new, finish-last}
@@ -24,7 +25,7 @@ finish-spec =
     (λ c κs. search needs)
     (λ c. put-whole (finish-unfit _ _ _ (sym (c .before .is-fit .ensures) ∙ not-true _ (c .if1 .taken))) put-nothing)
     (λ c κs. search needs)
-    (λ c. let s = c .before in let i = s .before .before .before .before in let e : length (now (i .before .before .args .text)) ≡ 4097 = search needs in sym (length-take-le _ (now (i .before .before .args .text)) (omega (arith, s .text-size .ensures, size-within _ (fit-parts _ (fit i))))))
+    (λ c. let s = c .before in let i = s .before .before .before .before in let e : length (now (i .before .before .args .text)) ≡ keptSize = search needs in sym (length-take-le _ (now (i .before .before .args .text)) (omega (arith, s .text-size .ensures, size-within _ (fit-parts _ (fit i))))))
     (λ c κs. search needs)
     (λ c.
     let s = c .before .before .before in

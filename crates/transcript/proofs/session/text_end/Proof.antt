@@ -5,6 +5,7 @@ use mathlib.Core.Path.{_≡_, sym, _∙_}
 use lib.ListN.{length}
 use lib.Seq.{length-take-le}
 use denote.Ref.{now}
+use Rattle.transcript.specs.SetText.{keptSize}
 use Rattle.transcript.proofs.StepLaws.{fed, fed-as, text-star, text-plain}
 use Rattle.values.specs.PutLaws.{put-nothing}
 use Rattle.transcript.proofs.session.text_end.Statement.{statement}
@@ -15,7 +16,7 @@ text-end-spec =
     tie.close
     (tie.spec
     (λ c κs. search needs)
-    (λ c. let f = c .before .before .before .before .before .before .before .pre .0 in let e : length (now (c .before .before .before .before .before .before .before .args .text)) ≡ 4097 = search needs in sym (length-take-le _ (now (c .before .before .before .before .before .before .before .args .text)) (omega (arith, f .start, f .size))))
+    (λ c. let f = c .before .before .before .before .before .before .before .pre .0 in let e : length (now (c .before .before .before .before .before .before .before .args .text)) ≡ keptSize = search needs in sym (length-take-le _ (now (c .before .before .before .before .before .before .before .args .text)) (omega (arith, f .start, f .size))))
     (λ c κs. search needs)
     (λ c. search needs)
     (λ c.
