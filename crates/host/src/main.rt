@@ -2,6 +2,7 @@
 // the terminals and hands the orders to the drives; this one has its inputs in `inputs_at` and writes the orders down. docs/HOST.md goes through it.
 use engine::Beaten;
 use engine::Called;
+use engine::ORDERS;
 use engine::State;
 use engine::beat;
 use engine::empty_set;
@@ -15,8 +16,6 @@ use values::codes::SHORT_BUFFER;
 use values::codes::UNSOUND;
 
 const BEATS: u32 = 10;
-// The order buffer: room for every order that a beat can give.
-const ORDERS: usize = 2048;
 
 fn main() {
     // R[100] may not be written: code 8, line 1.
@@ -81,6 +80,7 @@ fn called(text: &[u8], c: Called) -> State {
 // Beat k, in AUTOMATIC and with 14 numbers that are all 0. Its orders are carried out.
 fn one_beat(k: u32, set: &[u32; SIZE], state: State) -> Beaten {
     let numbers = [0i32; 14];
+    // Room for every order that a beat can give.
     let mut orders = [0u8; ORDERS];
     let b = beat(set, state, true, inputs_at(k), &numbers, &mut orders);
     tell(b"beat ", k as u64);

@@ -4,6 +4,7 @@
 //!   lent to be written what it equals;
 //! - `files`: no two files of definitions or laws have one name;
 //! - `order`: docs/DEFINITIONS.md has all files of definitions, each below those that it needs;
+//! - `limits`: no limit stands as a number outside its two homes;
 //! - `names`: every name that docs/PROMISES.md, docs/TRACE.md and docs/DEFINITIONS.md put in backquotes exists.
 //!
 //! usage: house ROOT. The last line is 'N passed, M failed', with exit status 1 if M is not 0.
@@ -11,6 +12,7 @@
 mod contracts;
 mod files;
 mod functions;
+mod limits;
 mod names;
 mod order;
 mod tree;
@@ -62,6 +64,8 @@ fn main() -> ExitCode {
     report.part("files of definitions and laws");
     order::check(&tree, &mut report);
     report.part("files in docs/DEFINITIONS.md");
+    limits::check(&tree, &mut report);
+    report.part("files without a limit as a number");
     names::check(&tree, &mut report);
     report.part("lines of documents that cite names");
     println!("{} passed, {} failed", report.passed, report.failed);
