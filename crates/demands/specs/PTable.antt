@@ -15,7 +15,7 @@ use Rattle.engine.specs.Order.{fourBytes, orderBytes}
 use Rattle.values.specs.Complement.{twosComplement}
 use Rattle.tokens.specs.Descent.{isIndex, indexOf, isIndexed, indexAt, joined, more, readProduct, readSum, readRest, readExpression, readVariable, operandFrom, readOperand, readClose, readTruth, sumAt, expressionAt}
 use Rattle.tokens.specs.Index.{isInside}
-use Rattle.working.specs.Variables.{cellOf, countAt, fifoValue, fifoAt, variableValue}
+use Rattle.working.specs.Variables.{cellOf, beatCount, fifoValue, fifoAt, variableValue}
 use Rattle.tokens.specs.SingleFault.{lower, opensTooMany, wantingFault, numberFault, readFault, isWritable, writeFault, codeFault, idFault, callFault}
 use Rattle.checking.specs.Fault.{joinSights, sight, countFault, numberOf, isRemoval, assignedAt, assignmentAt, commandAt, actionAt, actionsAt, lineParts, bodyAt, restAt, lineAt}
 use Rattle.working.specs.Operators.{joinLogic, joinTruths, joinValues}
@@ -161,5 +161,5 @@ cases =
 
 -- THE TABLE: each case gives what document 01 says
 pub table : map outcomeOf cases ≡ map expected cases
-unfolding joinLogic countAt fifoValue fifoAt fits appendAnswer appended shifted removeAnswer removed oldestOf newestOf sumFirst sumAll totalOf countOf cleared emptyAnswer emptied millisOf writtenTimer sumOf differenceOf productOf quotientOf negationOf feedOf signOf inRange valued lessThan equalTo wholeUnits outputOf grownTimer twosComplement fourBytes orderBytes isIndex indexOf isIndexed indexAt joined more readProduct readSum readRest readExpression readVariable operandFrom readOperand readClose readTruth sumAt expressionAt isInside cellOf variableValue lower opensTooMany wantingFault numberFault readFault joinSights sight isWritable writeFault codeFault idFault callFault countFault numberOf isRemoval assignedAt assignmentAt commandAt actionAt actionsAt lineParts bodyAt restAt lineAt joinTruths joinValues valueOver conditionValue rightValue linesFrom linesRead rankIn namesKnown allKnown namedLines soundLines emptySet powerOn grownCells inputCells beatCells allRanged isCell areCells allZero isFifoSound isFlag areFlags stateSound isSound changeAnswer changed changeFifo writeFifo writeCell writeInside writeTo alarmOf driveOrder driveOf lockOf takenAt assignmentOf commandOf actionOf actionsOf tries acts remembers takesTurn doTurn tryTurn turnOf turnsFrom areInputs beatBegun beatEnded wholeBeat beatAnswer beatBuffer foundAt found called lockedCall lockCall unlockCall cancelCall resetCancelled zeroed resetState resetCall run wordToken written isFit numberToken wordFirst behindPoint numberWith numberFirst signFirst firstToken tokensFrom tokensOf split withoutReturn withoutComment bodies isBlank numbered tokenLines numbersOf leastFrom leastAbove rising withoutMark placed setOf tokensFault faultBelow rowsFrom firstUnknown named outcome loadAnswer loadSet step runFrom cases areFifos withLine
+unfolding joinLogic beatCount fifoValue fifoAt fits appendAnswer appended shifted removeAnswer removed oldestOf newestOf sumFirst sumAll totalOf countOf cleared emptyAnswer emptied millisOf writtenTimer sumOf differenceOf productOf quotientOf negationOf feedOf signOf inRange valued lessThan equalTo wholeUnits outputOf grownTimer twosComplement fourBytes orderBytes isIndex indexOf isIndexed indexAt joined more readProduct readSum readRest readExpression readVariable operandFrom readOperand readClose readTruth sumAt expressionAt isInside cellOf variableValue lower opensTooMany wantingFault numberFault readFault joinSights sight isWritable writeFault codeFault idFault callFault countFault numberOf isRemoval assignedAt assignmentAt commandAt actionAt actionsAt lineParts bodyAt restAt lineAt joinTruths joinValues valueOver conditionValue rightValue linesFrom linesRead rankIn namesKnown allKnown namedLines soundLines emptySet powerOn grownCells inputCells beatCells allRanged isCell areCells allZero isFifoSound isFlag areFlags stateSound isSound changeAnswer changed changeFifo writeFifo writeCell writeInside writeTo alarmOf driveOrder driveOf lockOf takenAt assignmentOf commandOf actionOf actionsOf tries acts remembers takesTurn doTurn tryTurn turnOf turnsFrom areInputs beatBegun beatEnded wholeBeat beatAnswer beatBuffer foundAt found called lockedCall lockCall unlockCall cancelCall resetCancelled zeroed resetState resetCall run wordToken written isFit numberToken wordFirst behindPoint numberWith numberFirst signFirst firstToken tokensFrom tokensOf split withoutReturn withoutComment bodies isBlank numbered tokenLines numbersOf leastFrom leastAbove rising withoutMark placed setOf tokensFault faultBelow rowsFrom firstUnknown named outcome loadAnswer loadSet step runFrom cases areFifos withLine
 table = refl

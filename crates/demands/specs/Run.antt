@@ -18,6 +18,7 @@ use Rattle.engine.specs.declared.one_beat.Beaten.{Beaten}
 use Rattle.engine.specs.declared.calls.Called.{Called}
 use Rattle.engine.specs.Set.{noLine, rankIn, soundLines}
 use Rattle.engine.specs.State.{powerOn}
+use Rattle.working.specs.Variables.{inputCount}
 use Rattle.engine.specs.Sound.{isSound}
 use Rattle.engine.specs.Action.{World, fromValueOrAlarm}
 use Rattle.engine.specs.Turn.{Entry, beatIn, worked, locks, cancels, resets, Turned, doTurn}

@@ -12,6 +12,7 @@ use Rattle.tokens.specs.Descent.{Answer, good, stop, _>>=_}
 use Rattle.engine.specs.declared.action.Flags.{Flags}
 use Rattle.engine.specs.declared.one_beat.Beaten.{Beaten}
 use Rattle.engine.specs.declared.state.State.{State}
+use Rattle.working.specs.Variables.{inputCount}
 use Rattle.engine.specs.Set.{soundLines}
 use Rattle.engine.specs.Sound.{stateSound, isSound}
 use Rattle.engine.specs.Order.{orderSize}
@@ -70,7 +71,7 @@ module _ (st : State) (b : List ℕ) (y : Answer Turned) where
     written : length (take (orderSize * f .count) out) ≡ orderSize * f .count
     written = rw bytes at l
 
-    pub answers : {x : Beaten} {next : State} {kept : List ℤ} → x ≡ record { code = 0; orders = f .count; acted = f .acted; state = next } → next ≡ record { r = r; cells = kept; runs = f .runs; locked = f .locked; cancelled = st .cancelled; memory = f .memory } → kept ≡ drop 30 c → x ≡ turnedAnswer st y
+    pub answers : {x : Beaten} {next : State} {kept : List ℤ} → x ≡ record { code = 0; orders = f .count; acted = f .acted; state = next } → next ≡ record { r = r; cells = kept; runs = f .runs; locked = f .locked; cancelled = st .cancelled; memory = f .memory } → kept ≡ drop inputCount c → x ≡ turnedAnswer st y
     unfolding beatEnded
     answers p n k = let m : orderSize * f .count / orderSize ≡ f .count = omega arith in p ∙ rw (n, e, written, m, k)
 

@@ -17,6 +17,7 @@ use Rattle.engine.specs.declared.set.Lines.{Lines}
 use Rattle.engine.specs.declared.state.State.{State}
 use Rattle.engine.specs.declared.calls.Called.{Called}
 use Rattle.engine.specs.declared.named_line.Found.{Found}
+use Rattle.working.specs.Variables.{timerCount, markerAt, countAt}
 use Rattle.engine.specs.Set.{noLine, soundLines}
 use Rattle.engine.specs.Sound.{isSound}
 use Rattle.engine.specs.ResetLaws.{reset-keeps}
@@ -58,26 +59,26 @@ module _ (ls : List Line) (cs : List Bool) where
         let h : getD cs k false ≡ getD (resetCancelled ls cs k) k false = sym (reset-keeps ls cs k k (omega arith)) in
         rw (e, add-one k, z, or-false, h, set-getD)
 
--- cells from 16 on, zero up to place i
-module _ (c : List ℤ) where
+-- cells from one place on, zero up to place i
+module _ (from : ℕ) (c : List ℤ) where
   unfoldable pub zeroTo : ℕ → List ℤ
-  zeroTo i = take 16 c ++ (replicate (i - 16) (pos 0) ++ drop i c)
+  zeroTo i = take from c ++ (replicate (i - from) (pos 0) ++ drop i c)
 
-  pub zero-none : c ≡ zeroTo 16
+  pub zero-none : c ≡ zeroTo from
   unfolding zeroTo
-  zero-none = sym (take-append-drop 16 c)
+  zero-none = let e : from - from ≡ 0 = omega arith in rw e (sym (take-append-drop from c))
 
-  pub zero-all : zeroTo 88 ≡ zeroed c
-  unfolding zeroTo zeroed
-  zero-all = refl
-
-  pub zero-turn : (i : ℕ) (x : List ℤ) → x ≡ zeroTo i → 16 ≤ i → i < length c → set x i (pos 0) ≡ zeroTo (i + 1)
+  pub zero-turn : (i : ℕ) (x : List ℤ) → x ≡ zeroTo i → from ≤ i → i < length c → set x i (pos 0) ≡ zeroTo (i + 1)
   unfolding zeroTo
   zero-turn i x e h l =
-      let p = take 16 c ++ replicate (i - 16) (pos 0) in
-      let n : length p ≡ i = simp (length-append, length-replicate, length-take-le 16 c (omega arith)) (omega arith) in
-      let m : i + 1 - 16 ≡ i - 16 + 1 = omega arith in
+      let p = take from c ++ replicate (i - from) (pos 0) in
+      let n : length p ≡ i = simp (length-append, length-replicate, length-take-le from c (omega arith)) (omega arith) in
+      let m : i + 1 - from ≡ i - from + 1 = omega arith in
       rw (e, ← append-assoc) (put p i n c l (pos 0) (pos 0) ∙ rw (append-assoc, replicate-more, m))
+
+pub zero-all : (c : List ℤ) → zeroTo markerAt c countAt ≡ zeroed c
+unfolding zeroTo zeroed
+zero-all c = refl
 
 module _ (s : List ℕ) (st : State) where
   pub reset-unsound : isSound s st ≡ false → resetCall s st ≡ record { code = unsound; state = st }
@@ -86,6 +87,6 @@ module _ (s : List ℕ) (st : State) where
 
   -- the lines of the set are l, the cells cs and the cancelled lines xs
   pub reset-sound : isSound s st ≡ true → (l : Lines) → l ≡ soundLines s → (cs : List ℤ) → cs ≡ zeroed (st .cells) → (xs : List Bool) → xs ≡ resetCancelled (l .items) (st .cancelled) (l .count)
-      → resetCall s st ≡ record { code = 0; state = record { r = st .r; cells = cs; runs = replicate 8 false; locked = replicate maxLines false; cancelled = xs; memory = replicate maxLines false } }
+      → resetCall s st ≡ record { code = 0; state = record { r = st .r; cells = cs; runs = replicate timerCount false; locked = replicate maxLines false; cancelled = xs; memory = replicate maxLines false } }
   unfolding resetCall resetState
   reset-sound z l e cs g xs h = rw (h, g, e) (rw (resetCall, z))

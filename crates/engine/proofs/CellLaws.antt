@@ -38,29 +38,29 @@ module _ (word i rest : ℕ) (r : rest ≡ word / 2 ^ i) where
   unfolding inputCells
   input-turn d cs v e h q = rw (e, q, r) (put (inputCells word i) i (length-inputs word i) d h (inputCell word i) (pos 0) ∙ sym (rw (add-one i, append-snoc)))
 
--- ---- the cells of a beat, part by part
+-- ---- the cells of a beat, part by part: i input bits, n numbers and m cells of the state
 
-module _ (a b g z : List ℤ) (la : length a ≡ 16) (lb : length b ≡ 14) (lg : length g ≡ 92) (lz : length z ≡ 122) where
+module _ (i n m : ℕ) (a b g z : List ℤ) (la : length a ≡ i) (lb : length b ≡ n) (lg : length g ≡ m) (lz : length z ≡ i + n + m) where
   -- the inputs are put in front of z, then b and g are copied behind them
-  module _ (x : List ℤ) (ex : x ≡ a ++ drop 16 z) where
-    module _ (y : List ℤ) (ey : y ≡ take 16 x ++ (b ++ drop (16 + length b) x)) where
-      front : y ≡ (a ++ b) ++ drop (16 + length b) x
+  module _ (x : List ℤ) (ex : x ≡ a ++ drop i z) where
+    module _ (y : List ℤ) (ey : y ≡ take i x ++ (b ++ drop (i + length b) x)) where
+      front : y ≡ (a ++ b) ++ drop (i + length b) x
       front =
-          let t : take 16 x ≡ a = rw ex (take-at a (drop 16 z) 16 la) in
+          let t : take i x ≡ a = rw ex (take-at a (drop i z) i la) in
           ey ∙ rw (t, append-assoc)
 
-      long : length y ≡ 122
-      long = rw front (simp (length-append, length-drop, la, lb) (rw ex (simp (length-append, length-drop, la, lz))))
+      long : length y ≡ i + n + m
+      long = rw front (simp (length-append, length-drop, la, lb) (rw ex (simp (length-append, length-drop, la, lz) (omega arith))))
 
-      pub parts : take 30 y ++ (g ++ drop (30 + length g) y) ≡ a ++ (b ++ g)
+      pub parts : take (i + n) y ++ (g ++ drop (i + n + length g) y) ≡ a ++ (b ++ g)
       parts =
-          let t : take 30 y ≡ a ++ b = rw front (take-at (a ++ b) (drop (16 + length b) x) 30 (simp (length-append, la, lb))) in
-          let d : drop (30 + length g) y ≡ [] = drop-of-length-le y {i = 30 + length g} (omega (arith, long, lg)) in
+          let t : take (i + n) y ≡ a ++ b = rw front (take-at (a ++ b) (drop (i + length b) x) (i + n) (simp (length-append, la, lb))) in
+          let d : drop (i + n + length g) y ≡ [] = drop-of-length-le y {i = i + n + length g} (omega (arith, long, lg)) in
           rw (t, d, append-nil, append-assoc)
 
--- all behind the first 30 cells, copied over 92
-pub kept : (d z : List ℤ) → length d ≡ 122 → length z ≡ 92 → take 0 z ++ (take (length d - 30) (drop 30 d) ++ drop (0 + length (take (length d - 30) (drop 30 d))) z) ≡ drop 30 d
-kept d z ld lz =
-    let t : take (length d - 30) (drop 30 d) ≡ drop 30 d = take-all (length d - 30) (drop 30 d) (rw length-drop (omega arith)) in
-    let n : drop (0 + length (drop 30 d)) z ≡ [] = drop-of-length-le z {i = 0 + length (drop 30 d)} (rw length-drop (omega arith)) in
-    rw (t, n, append-nil)
+-- all behind the first n cells, copied over the rest
+pub kept : (n m : ℕ) (d z : List ℤ) → length d ≡ n + m → length z ≡ m → take 0 z ++ (take (length d - n) (drop n d) ++ drop (0 + length (take (length d - n) (drop n d))) z) ≡ drop n d
+kept n m d z ld lz =
+    let t : take (length d - n) (drop n d) ≡ drop n d = take-all (length d - n) (drop n d) (rw length-drop (omega arith)) in
+    let e : drop (0 + length (drop n d)) z ≡ [] = drop-of-length-le z {i = 0 + length (drop n d)} (rw length-drop (omega arith)) in
+    rw (t, e, append-nil)

@@ -6,16 +6,16 @@ use Prim.Native.Nat.{ℕ, zero, suc, _+_, _-_, _<_, _≤_}
 use native.Mathlib.Omega.{arith}
 use native.Mathlib.Nat.{sub-zero}
 use native.Mathlib.Numerals.{add-one}
-use lib.Dec.{eqb}
+use lib.Dec.{eqb, ltb}
 use lib.ListN.{length, drop, getD, set, replicate, drop-of-length-le}
 use lib.Seq.{drop-cons}
 use borrow.Author.Tests.{lt-ltb, le-ltb, eq-eqb, ne-eqb}
 use Rattle.checking.specs.declared.line.Line.{Line}
-use Rattle.tokens.specs.Token.{END, whole, maxLines, setSize}
+use Rattle.tokens.specs.Token.{END, whole, setSize, maxLines}
 use Rattle.checking.specs.Fault.{lineAt}
 use Rattle.engine.specs.declared.set.Lines.{Lines}
 use Rattle.values.specs.PutAt.{putAt}
-use Rattle.engine.specs.Set.{lineCount, withoutMark, withEnd, lineOf, noLine, noLines, linesFrom, linesRead, rankIn, isLock, namesKnown, allKnown, namedLines, soundLines}
+use Rattle.engine.specs.Set.{lineCount, startOf, withoutMark, withEnd, lineOf, noLine, noLines, linesFrom, linesRead, rankIn, isNaming, namesKnown, lockTable, allKnown, namedLines, soundLines}
 
 one-less : (k : ℕ) → suc k - 1 ≡ k
 one-less k = omega arith
@@ -48,63 +48,71 @@ module _ (ns : List ℕ) (n k : ℕ) where
   unfolding rankIn
   rank-none h = rw (drop-of-length-le ns {i = k} h)
 
--- ---- names of lines, from place p on with `left` places left; t is the token at p
+-- ---- the names of a line, from place p on with `left` places left; t is the token at p
 
-module _ (s ns : List ℕ) (p t : ℕ) (e : t ≡ getD s p 0) where
-  pub names-end : t ≡ END → (left : ℕ) → 0 < left → namesKnown s ns left p ≡ true
+module _ (s : List ℕ) (known : ℕ → ℕ → Bool) (p t : ℕ) (e : t ≡ getD s p 0) where
+  pub names-end : t ≡ END → (left : ℕ) → 0 < left → namesKnown s known left p ≡ true
   unfolding namesKnown
   names-end z zero l = absurd (omega arith)
   names-end z (suc m) l = rw (namesKnown, eq-eqb (getD s p 0) END (sym e ∙ z))
 
   module _ (f : t ≡ END → ⊥) where
-    pub names-other : isLock t ≡ false → (left : ℕ) → 0 < left → namesKnown s ns left p ≡ namesKnown s ns (left - 1) (p + 1)
+    pub names-other : isNaming t ≡ false → (left : ℕ) → 0 < left → namesKnown s known left p ≡ namesKnown s known (left - 1) (p + 1)
     unfolding namesKnown
     names-other h zero l = absurd (omega arith)
-    names-other h (suc m) l = rw (one-less m) (simp (namesKnown, ne-eqb (getD s p 0) END (λ z. f (e ∙ z)), ap isLock (sym e) ∙ h))
+    names-other h (suc m) l = rw (one-less m) (simp (namesKnown, ne-eqb (getD s p 0) END (λ z. f (e ∙ z)), ap isNaming (sym e) ∙ h))
 
-    -- y stands two places on, v is the number that it has, x that number's rank
-    module _ (h : isLock t ≡ true) (y v x : ℕ) (u : y ≡ getD s (p + 2) 0) (w : v ≡ whole y) (g : x ≡ rankIn ns v 0) where
-      named : x ≡ rankIn ns (whole (getD s (p + 2) 0)) 0
-      named = g ∙ ap (λ (n : ℕ). rankIn ns n 0) (w ∙ ap whole u)
-
-      pub names-unknown : maxLines ≤ x → (left : ℕ) → 0 < left → namesKnown s ns left p ≡ false
+    -- the table says x of the number two places on
+    module _ (h : isNaming t ≡ true) (x : Bool) (k : known (getD s p 0) (whole (getD s (p + 2) 0)) ≡ x) where
+      pub names-not : x ≡ false → (left : ℕ) → 0 < left → namesKnown s known left p ≡ false
       unfolding namesKnown
-      names-unknown k zero l = absurd (omega arith)
-      names-unknown k (suc m) l = simp (namesKnown, ne-eqb (getD s p 0) END (λ z. f (e ∙ z)), ap isLock (sym e) ∙ h, le-ltb (rankIn ns (whole (getD s (p + 2) 0)) 0) maxLines (rw named at k))
+      names-not z zero l = absurd (omega arith)
+      names-not z (suc m) l = simp (namesKnown, ne-eqb (getD s p 0) END (λ z. f (e ∙ z)), ap isNaming (sym e) ∙ h, k ∙ z)
 
-      pub names-lock : x < maxLines → (left : ℕ) → 0 < left → namesKnown s ns left p ≡ namesKnown s ns (left - 1) (p + 1)
+      pub names-on : x ≡ true → (left : ℕ) → 0 < left → namesKnown s known left p ≡ namesKnown s known (left - 1) (p + 1)
       unfolding namesKnown
-      names-lock k zero l = absurd (omega arith)
-      names-lock k (suc m) l = rw (one-less m) (simp (namesKnown, ne-eqb (getD s p 0) END (λ z. f (e ∙ z)), ap isLock (sym e) ∙ h, lt-ltb (rankIn ns (whole (getD s (p + 2) 0)) 0) maxLines (rw named at k)))
+      names-on z zero l = absurd (omega arith)
+      names-on z (suc m) l = rw (one-less m) (simp (namesKnown, ne-eqb (getD s p 0) END (λ z. f (e ∙ z)), ap isNaming (sym e) ∙ h, k ∙ z))
 
-pub names-none : (s ns : List ℕ) (p left : ℕ) → left ≤ 0 → namesKnown s ns left p ≡ true
+pub names-none : (s : List ℕ) (known : ℕ → ℕ → Bool) (p left : ℕ) → left ≤ 0 → namesKnown s known left p ≡ true
 unfolding namesKnown
-names-none s ns p zero h = refl
-names-none s ns p (suc m) h = absurd (omega arith)
+names-none s known p zero h = refl
+names-none s known p (suc m) h = absurd (omega arith)
+
+-- by the table of the numbers ns: y stands two places on, v is the number that it has, x that number's rank
+module _ (s ns : List ℕ) (p t : ℕ) (e : t ≡ getD s p 0) (f : t ≡ END → ⊥) (h : isNaming t ≡ true) (y v x : ℕ) (u : y ≡ getD s (p + 2) 0) (w : v ≡ whole y) (g : x ≡ rankIn ns v 0) where
+  named : rankIn ns (whole (getD s (p + 2) 0)) 0 ≡ x
+  named = sym (g ∙ ap (λ (n : ℕ). rankIn ns n 0) (w ∙ ap whole u))
+
+  pub names-unknown : maxLines ≤ x → (left : ℕ) → 0 < left → namesKnown s (lockTable ns) left p ≡ false
+  names-unknown k = names-not s (lockTable ns) p t e f h false (ap (λ (n : ℕ). ltb n maxLines) named ∙ le-ltb x maxLines k) refl
+
+  pub names-lock : x < maxLines → (left : ℕ) → 0 < left → namesKnown s (lockTable ns) left p ≡ namesKnown s (lockTable ns) (left - 1) (p + 1)
+  names-lock k = names-on s (lockTable ns) p t e f h true (ap (λ (n : ℕ). ltb n maxLines) named ∙ lt-ltb x maxLines k) refl
 
 -- ---- the names of the lines of n from rank k on; p is where that line begins
 
-module _ (s ns : List ℕ) (k n p : ℕ) (x : Bool) (e : p ≡ getD s (1 + k) 0) (g : x ≡ namesKnown s ns setSize p) (l : k < n) where
-  names : namesKnown s ns setSize (getD s (1 + k) 0) ≡ x
-  names = ap (namesKnown s ns setSize) (sym e) ∙ sym g
+module _ (s : List ℕ) (known : ℕ → ℕ → Bool) (k n p : ℕ) (x : Bool) (e : p ≡ startOf s k) (g : x ≡ namesKnown s known setSize p) (l : k < n) where
+  names : namesKnown s known setSize (startOf s k) ≡ x
+  names = ap (namesKnown s known setSize) (sym e) ∙ sym g
 
-  pub known-not : x ≡ false → allKnown s ns (n - k) k ≡ false
+  pub known-not : x ≡ false → allKnown s known (n - k) k ≡ false
   unfolding allKnown
   known-not z = rw (turn n k l) (simp (allKnown, names, z))
 
-  pub known-on : x ≡ true → allKnown s ns (n - k) k ≡ allKnown s ns (n - (k + 1)) (k + 1)
+  pub known-on : x ≡ true → allKnown s known (n - k) k ≡ allKnown s known (n - (k + 1)) (k + 1)
   unfolding allKnown
   known-on z = rw (turn n k l) (simp (allKnown, names, z))
 
-pub known-none : (s ns : List ℕ) (k m : ℕ) → m ≤ 0 → allKnown s ns m k ≡ true
+pub known-none : (s : List ℕ) (known : ℕ → ℕ → Bool) (k m : ℕ) → m ≤ 0 → allKnown s known m k ≡ true
 unfolding allKnown
-known-none s ns k zero h = refl
-known-none s ns k (suc m) h = absurd (omega arith)
+known-none s known k zero h = refl
+known-none s known k (suc m) h = absurd (omega arith)
 
 -- ---- the lines of n from rank k on; x is that line, which begins at p
 
 module _ (s : List ℕ) (k last n : ℕ) (ns : List ℕ) (ls : List Line) where
-  module _ (p : ℕ) (q : p ≡ getD s (1 + k) 0) (x : Line) (g : x ≡ lineAt s p) (l : k < n) where
+  module _ (p : ℕ) (q : p ≡ startOf s k) (x : Line) (g : x ≡ lineAt s p) (l : k < n) where
     this : x ≡ lineOf s k
     this = g ∙ ap (lineAt s) q
 
@@ -139,9 +147,9 @@ read-few s n e h = rw (sub-zero, e, linesRead, le-ltb maxLines (lineCount s) (rw
 
 -- ---- the lines of a set that passes each check
 
-module _ (s : List ℕ) (l : Lines) (b : Bool) (e : l ≡ linesRead s) (g : b ≡ allKnown s (l .numbers) (l .count) 0) where
-  all-named : allKnown s (linesRead s .numbers) (linesRead s .count) 0 ≡ b
-  all-named = ap (λ (y : Lines). allKnown s (y .numbers) (y .count) 0) (sym e) ∙ sym g
+module _ (s : List ℕ) (l : Lines) (b : Bool) (e : l ≡ linesRead s) (g : b ≡ allKnown s (lockTable (l .numbers)) (l .count) 0) where
+  all-named : allKnown s (lockTable (linesRead s .numbers)) (linesRead s .count) 0 ≡ b
+  all-named = ap (λ (y : Lines). allKnown s (lockTable (y .numbers)) (y .count) 0) (sym e) ∙ sym g
 
   pub named-not : b ≡ false → soundLines s ≡ noLines
   unfolding soundLines namedLines

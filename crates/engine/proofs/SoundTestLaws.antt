@@ -14,7 +14,7 @@ use Rattle.values.specs.Value.{inRange, equalTo, outputOf}
 use Rattle.values.specs.declared.arithmetic.Worked.the-variants.{Value, Alarm}
 use Rattle.engine.specs.Sound.{allRanged, isCell, areCells, allZero, isFifoSound, areFifos, isFlag, areFlags, stateSound, isSound}
 use Rattle.tokens.specs.Token.{maxLines}
-use Rattle.engine.specs.State.{fifos}
+use Rattle.working.specs.Variables.{fifos}
 use Rattle.engine.specs.Set.{soundLines}
 use Rattle.engine.specs.declared.set.Lines.{Lines}
 use Rattle.engine.specs.declared.state.State.{State}

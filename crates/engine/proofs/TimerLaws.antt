@@ -8,6 +8,7 @@ use lib.IntN.{ℤ, pos}
 use lib.ListN.{length, getD, set, length-set}
 use Rattle.values.specs.Time.{timer, grownTimer}
 use Rattle.values.specs.declared.time.Timer.{Timer}
+use Rattle.working.specs.Variables.{timerAt}
 use Rattle.engine.specs.Timers.{grownCells}
 
 module _ (runs : List Bool) (c : List ℤ) where
@@ -15,7 +16,7 @@ module _ (runs : List Bool) (c : List ℤ) where
   unfolding grownCells
   grown-none = refl
 
-  pub grown-turn : (i : ℕ) (cs : List ℤ) (t : Timer) (v : ℤ) → cs ≡ grownCells runs c i → t ≡ grownTimer (timer (getD cs (80 + i) (pos 0)) (getD runs i false)) → v ≡ t .time .0 → set cs (80 + i) v ≡ grownCells runs c (i + 1)
+  pub grown-turn : (i : ℕ) (cs : List ℤ) (t : Timer) (v : ℤ) → cs ≡ grownCells runs c i → t ≡ grownTimer (timer (getD cs (timerAt + i) (pos 0)) (getD runs i false)) → v ≡ t .time .0 → set cs (timerAt + i) v ≡ grownCells runs c (i + 1)
   unfolding grownCells
   grown-turn i cs t v e g h = rw (h, g, e, add-one i)
 

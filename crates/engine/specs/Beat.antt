@@ -12,7 +12,8 @@ use Rattle.engine.specs.declared.state.State.{State}
 use Rattle.engine.specs.declared.one_beat.Beaten.{Beaten}
 use Rattle.engine.specs.Set.{soundLines}
 use Rattle.engine.specs.Order.{orderSize, maxOrders}
-use Rattle.engine.specs.Cells.{inputCount, numberCount, beatCells}
+use Rattle.working.specs.Variables.{inputCount, numberCount}
+use Rattle.engine.specs.Cells.{beatCells}
 use Rattle.engine.specs.Sound.{isSound, allRanged}
 use Rattle.engine.specs.Action.{World}
 use Rattle.engine.specs.Turn.{beatIn, Turned, turnsFrom}

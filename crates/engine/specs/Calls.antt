@@ -12,7 +12,7 @@ use Rattle.engine.specs.declared.calls.Called.{Called}
 use Rattle.engine.specs.declared.named_line.Found.{Found}
 use Rattle.engine.specs.NamedLine.{found}
 use Rattle.tokens.specs.Token.{maxLines}
-use Rattle.engine.specs.State.{timerCount, markerCells, countCells}
+use Rattle.working.specs.Variables.{timerCount, markerAt, countAt}
 use Rattle.engine.specs.Set.{noLine, soundLines}
 use Rattle.engine.specs.Sound.{isSound}
 
@@ -53,7 +53,7 @@ resetCancelled ls cs (suc n) = set (resetCancelled ls cs n) n (getD cs n false |
 
 -- markers, parameters and timers 0
 unfoldable pub zeroed : List ℤ → List ℤ
-zeroed c = take markerCells c ++ (replicate (countCells - markerCells) (pos 0) ++ drop countCells c)
+zeroed c = take markerAt c ++ (replicate (countAt - markerAt) (pos 0) ++ drop countAt c)
 
 -- reset cancels every ID line, unlocks and clears the memory of IDS lines, zeroes markers and parameters, stops timers at 0; R, FIFOs and outputs stay
 unfoldable pub resetState : List Line → ℕ → State → State

@@ -1,22 +1,12 @@
 -- The cells of a beat: those of its inputs, then those of the state, whose running timers have grown. Definitions only.
 use mathlib.Core.Bool.{Bool, cond}
 use mathlib.Core.List.{List, [], _∷_, _++_}
-use Prim.Native.Nat.{ℕ, zero, suc, _+_, _/_, _%_, _^_}
+use Prim.Native.Nat.{ℕ, zero, suc, _/_, _%_, _^_}
 use lib.Dec.{eqb}
 use lib.IntN.{ℤ, pos}
 use Rattle.values.specs.Value.{unit}
-use Rattle.engine.specs.State.{timerCount}
+use Rattle.working.specs.Variables.{timerCount, bitCount}
 use Rattle.engine.specs.Timers.{grownCells}
-
--- the bits of the input word, and the numbers that the host lends
-abbrev pub bitCount : ℕ
-bitCount = 16
-
-abbrev pub numberCount : ℕ
-numberCount = 14
-
-abbrev pub inputCount : ℕ
-inputCount = bitCount + numberCount
 
 -- bit i-1 of the input word is $A_IN[i]
 abbrev pub inputCell : ℕ → ℕ → ℤ

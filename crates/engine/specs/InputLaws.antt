@@ -8,7 +8,8 @@ use borrow.Author.Tests.{eqb-true}
 use lib.IntN.{ℤ}
 use lib.ListN.{length, length-append}
 use Rattle.values.specs.Choice.{both}
-use Rattle.engine.specs.Cells.{numberCount, inputCells}
+use Rattle.working.specs.Variables.{numberCount}
+use Rattle.engine.specs.Cells.{inputCells}
 use Rattle.engine.specs.Beat.{areInputs}
 
 pub length-inputs : (word n : ℕ) → length (inputCells word n) ≡ n

@@ -2,6 +2,7 @@
 -- Set and state: Set, State, Sound. The host's calls: NamedLine, Calls. Orders and writes: Order, Drive, Write.
 -- Actions: Action, Actions. Turns: Keyword, Turn. The beat: Timers, Cells, Beat.
 pub mod Set
+pub mod TableLaws
 pub mod SetCountLaws
 pub mod SetLinesLaws
 pub mod State

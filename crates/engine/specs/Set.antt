@@ -2,26 +2,41 @@
 -- Definitions only.
 use mathlib.Core.Bool.{Bool, true, false}
 use mathlib.Core.List.{List, [], _∷_, _++_, map}
-use Prim.Native.Nat.{ℕ, zero, suc, _+_, _-_, _%_}
+use Prim.Native.Nat.{ℕ, zero, suc, _+_, _-_, _*_, _%_}
 use lib.Dec.{eqb, ltb}
 use lib.ListN.{getD, set, replicate}
 use Rattle.values.specs.PutAt.{putAt}
-use Rattle.tokens.specs.Token.{END, LOCK, UNLOCK, between, isNumber, whole, maxLines, setSize}
+use Rattle.tokens.specs.Token.{END, LOCK, UNLOCK, between, isNumber, whole, maxLines, maxCurves, maxListLines, tableSize, setSize}
 use Rattle.checking.specs.Fault.{lineAt, faultyLine}
 use Rattle.checking.specs.declared.line.Line.{Line}
 use Rattle.engine.specs.declared.set.Lines.{Lines}
 
 -- ---- the array
 
--- place 0 has the number of lines, the places from 1 on where each begins, those behind them the tokens
+-- the sections of its table: the number of lines, then where the line of each rank begins,
+abbrev pub countPlace : ℕ
+countPlace = 0
+
 abbrev pub startPlace : ℕ → ℕ
 startPlace k = 1 + k
 
+-- where curve n begins, from 1,
+abbrev pub curvePlace : ℕ → ℕ
+curvePlace n = startPlace maxLines + (n - 1)
+
+-- and for list n, from 1, how many lines it has and where its line j begins, from 0
+abbrev pub listPlace : ℕ → ℕ
+listPlace n = startPlace maxLines + maxCurves + (1 + maxListLines) * (n - 1)
+
+abbrev pub listLinePlace : ℕ → ℕ → ℕ
+listLinePlace n j = listPlace n + 1 + j
+
+-- the tokens stand behind the table
 abbrev pub firstPlace : ℕ
-firstPlace = startPlace maxLines
+firstPlace = tableSize
 
 abbrev pub lineCount : List ℕ → ℕ
-lineCount s = getD s 0 0
+lineCount s = getD s countPlace 0
 
 -- where the line of a rank begins
 abbrev pub startOf : List ℕ → ℕ → ℕ
@@ -42,11 +57,18 @@ withoutMark t = elim (isNumber t) [ true ↦ t - t % 2 | false ↦ t ]
 abbrev pub withEnd : List ℕ → List ℕ
 withEnd ts = ts ++ (END ∷ [])
 
--- one line more, of rank k: it begins at the place `at`, and from there on its tokens stand without marks, and their end; what would lie past the array is left off
+-- a count of lines, at the place of the table that has it
+abbrev pub withCount : List ℕ → ℕ → ℕ → List ℕ
+withCount s place n = set s place n
+
+-- one line more, with its slot, the place of the table that says where it begins: it begins at the place `at`, and from there on its tokens stand without marks, and their end; what would
+-- lie past the array is left off
 unfoldable pub withLine : List ℕ → ℕ → ℕ → List ℕ → List ℕ
-withLine s k at ts = putAt (set (set s 0 (k + 1)) (startPlace k) at) at (withEnd (map withoutMark ts))
+withLine s slot at ts = putAt (set s slot at) at (withEnd (map withoutMark ts))
 
 -- ---- the lines
+-- Of a set are asked: place 0, the starts of as many lines as it says, and from each start on the tokens up to the line's end. No other place is looked at: not the starts of further lines,
+-- not the places of curves and lists, not what lies between and behind the lines.
 
 abbrev pub noLine : Line
 noLine = faultyLine 0
@@ -81,27 +103,35 @@ isKnown ns n = ltb (rankIn ns n 0) maxLines
 abbrev pub isLock : ℕ → Bool
 isLock t = between LOCK UNLOCK t
 
--- 12: each LOCK and UNLOCK from place p to the line's end names a line of the set
-unfoldable pub namesKnown : List ℕ → List ℕ → ℕ → ℕ → Bool
-namesKnown s ns zero p = true
-namesKnown s ns (suc left) p =
+-- the words whose number in brackets is a name
+abbrev pub isNaming : ℕ → Bool
+isNaming t = isLock t
+
+-- 12: from place p to the line's end the number of each such word is known, by a table of the word and the number
+unfoldable pub namesKnown : List ℕ → (ℕ → ℕ → Bool) → ℕ → ℕ → Bool
+namesKnown s known zero p = true
+namesKnown s known (suc left) p =
     elim (eqb (getD s p 0) END) [
       | true ↦ true
       | false ↦
-          elim (isLock (getD s p 0)) [
-            | true ↦ elim (isKnown ns (whole (getD s (p + 2) 0))) [ true ↦ namesKnown s ns left (p + 1) | false ↦ false ]
-            | false ↦ namesKnown s ns left (p + 1)
+          elim (isNaming (getD s p 0)) [
+            | true ↦ elim (known (getD s p 0) (whole (getD s (p + 2) 0))) [ true ↦ namesKnown s known left (p + 1) | false ↦ false ]
+            | false ↦ namesKnown s known left (p + 1)
           ]
     ]
 
+-- the table of a set whose lines have the numbers ns: LOCK and UNLOCK name a line
+abbrev pub lockTable : List ℕ → ℕ → ℕ → Bool
+lockTable ns w n = isKnown ns n
+
 -- so for m lines from rank k on
-unfoldable pub allKnown : List ℕ → List ℕ → ℕ → ℕ → Bool
-allKnown s ns zero k = true
-allKnown s ns (suc m) k = elim (namesKnown s ns setSize (startOf s k)) [ true ↦ allKnown s ns m (k + 1) | false ↦ false ]
+unfoldable pub allKnown : List ℕ → (ℕ → ℕ → Bool) → ℕ → ℕ → Bool
+allKnown s known zero k = true
+allKnown s known (suc m) k = elim (namesKnown s known setSize (startOf s k)) [ true ↦ allKnown s known m (k + 1) | false ↦ false ]
 
 -- the lines of a set that passes each loading check from 4 on; else none
 unfoldable pub namedLines : List ℕ → Lines → Lines
-namedLines s l = elim (allKnown s (l .numbers) (l .count) 0) [ true ↦ l | false ↦ noLines ]
+namedLines s l = elim (allKnown s (lockTable (l .numbers)) (l .count) 0) [ true ↦ l | false ↦ noLines ]
 
 unfoldable pub soundLines : List ℕ → Lines
 soundLines s = namedLines s (linesRead s)

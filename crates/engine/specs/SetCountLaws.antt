@@ -10,7 +10,7 @@ use borrow.Author.Tests.{ltb-false}
 use Rattle.tokens.specs.Token.{maxLines}
 use Rattle.checking.specs.declared.line.Line.{Line}
 use Rattle.engine.specs.declared.set.Lines.{Lines}
-use Rattle.engine.specs.Set.{lineCount, lineOf, noLine, noLines, linesFrom, linesRead, allKnown, namedLines, soundLines}
+use Rattle.engine.specs.Set.{lineCount, lineOf, noLine, noLines, linesFrom, linesRead, lockTable, allKnown, namedLines, soundLines}
 
 abbrev choose : Bool → Lines → Lines → Lines
 choose b x y = elim b [ true ↦ x | false ↦ y ]
@@ -38,4 +38,4 @@ read-count s = go (ltb maxLines (lineCount s)) refl
 
 pub sound-count : (s : List ℕ) → soundLines s .count ≤ maxLines
 unfolding soundLines namedLines
-sound-count s = few (allKnown s (linesRead s .numbers) (linesRead s .count) 0) (linesRead s) noLines (read-count s) (omega arith)
+sound-count s = few (allKnown s (lockTable (linesRead s .numbers)) (linesRead s .count) 0) (linesRead s) noLines (read-count s) (omega arith)

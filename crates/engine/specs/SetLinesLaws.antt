@@ -14,7 +14,7 @@ use Rattle.values.specs.Numbers.{clash}
 use Rattle.tokens.specs.Token.{maxLines}
 use Rattle.checking.specs.declared.line.Line.{Line}
 use Rattle.engine.specs.declared.set.Lines.{Lines}
-use Rattle.engine.specs.Set.{lineCount, lineOf, noLine, noLines, linesFrom, linesRead, allKnown, namedLines, soundLines}
+use Rattle.engine.specs.Set.{lineCount, lineOf, noLine, noLines, linesFrom, linesRead, lockTable, allKnown, namedLines, soundLines}
 
 -- the first k lines of a set, as they stand in lists of 32
 pub record Listed (s : List ℕ) (k : ℕ) (ns : List ℕ) (ls : List Line) : Type 0 where
@@ -98,7 +98,7 @@ at-zero i = by-place (decLt i maxLines)
 pub lines-lined : (s : List ℕ) → Lined s (soundLines s)
 unfolding soundLines namedLines linesRead
 lines-lined s =
-    ifNot (Lined s) (allKnown s (linesRead s .numbers) (linesRead s .count) 0) (λ e. none-lined s) λ e.
+    ifNot (Lined s) (allKnown s (lockTable (linesRead s .numbers)) (linesRead s .count) 0) (λ e. none-lined s) λ e.
     either (Lined s) (ltb maxLines (lineCount s)) (λ p. none-lined s) λ p.
     from-lined s (lineCount s) 0 0 _ _ (omega (arith, ltb-false maxLines (lineCount s) p)) refl refl
     (record {

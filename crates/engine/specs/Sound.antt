@@ -1,16 +1,15 @@
 -- Sound, as document 01 lists it ("Codes"). Definitions only.
 use mathlib.Core.Bool.{Bool, true, false, cond, not, _&&_}
 use mathlib.Core.List.{List, [], _∷_}
-use Prim.Native.Nat.{ℕ, zero, suc, _+_, _*_}
+use Prim.Native.Nat.{ℕ, zero, suc, _+_}
 use lib.Dec.{eqb, leb, ltb}
 use lib.IntN.{ℤ, pos}
-use lib.ListN.{getD, take, drop}
+use lib.ListN.{getD, drop}
 use Rattle.values.specs.Value.{inRange, lessThan, equalTo, wholeUnits, outputOf, codeOf}
 use Rattle.values.specs.Fifo.{places}
-use Rattle.working.specs.Variables.{asCount}
+use Rattle.working.specs.Variables.{asCount, run, countIn, fifos, markerAt, paramAt, timerAt, countAt}
 use Rattle.engine.specs.declared.state.State.{State}
 use Rattle.tokens.specs.Token.{maxLines}
-use Rattle.engine.specs.State.{fifos, markerCells, paramCells, timerCells, countCells}
 use Rattle.engine.specs.Set.{soundLines}
 
 -- all values within range
@@ -25,10 +24,10 @@ isOutput v = eqb (codeOf (outputOf v)) 0
 unfoldable pub isCell : ℕ → ℤ → Bool
 isCell i v =
     inRange v &&
-    cond (ltb i markerCells) (isOutput v)
-    (cond (ltb i paramCells) (equalTo (wholeUnits v) v)
-    (cond (ltb i timerCells) true
-    (cond (ltb i countCells) (not (lessThan v (pos 0))) (leb (asCount v) places))))
+    cond (ltb i markerAt) (isOutput v)
+    (cond (ltb i paramAt) (equalTo (wholeUnits v) v)
+    (cond (ltb i timerAt) true
+    (cond (ltb i countAt) (not (lessThan v (pos 0))) (leb (asCount v) places))))
 
 unfoldable pub areCells : List ℤ → ℕ → Bool
 areCells [] i = true
@@ -38,12 +37,9 @@ unfoldable pub allZero : List ℤ → Bool
 allZero [] = true
 allZero (v ∷ vs) = equalTo v (pos 0) && allZero vs
 
-abbrev pub fifoRun : List ℤ → ℕ → List ℤ
-fifoRun r k = take places (drop (100 + places * k) r)
-
 -- unused places 0: of FIFO k, from 0, in R and with its count
 unfoldable pub isFifoSound : List ℤ → List ℤ → ℕ → Bool
-isFifoSound r c k = allZero (drop (asCount (getD c (countCells + k) (pos 0))) (fifoRun r k))
+isFifoSound r c k = allZero (drop (countIn c k) (run r k))
 
 -- so for m FIFOs from k on
 unfoldable pub areFifos : List ℤ → List ℤ → ℕ → ℕ → Bool
@@ -65,6 +61,6 @@ unfoldable pub stateSound : ℕ → State → Bool
 stateSound count st =
     allRanged (st .r) && (areCells (st .cells) 0 && (areFifos (st .r) (st .cells) fifos 0 && areFlags count (st .locked) (st .cancelled) (st .memory) maxLines 0))
 
--- a set and a state are sound
+-- a set and a state are sound: of the set are asked the places that its lines use (Set), of the state all places
 unfoldable pub isSound : List ℕ → State → Bool
 isSound s st = soundLines s .sound && stateSound (soundLines s .count) st

@@ -1,7 +1,7 @@
 -- What a write makes of the variables, each by its own rule (document 01, "Values and time"). Definitions only.
 use mathlib.Core.Bool.{Bool, true, false, cond}
 use mathlib.Core.List.{List, _++_}
-use Prim.Native.Nat.{ℕ, _+_, _-_}
+use Prim.Native.Nat.{ℕ, _+_}
 use lib.Dec.{eqb}
 use lib.IntN.{ℤ, pos}
 use lib.ListN.{getD, set, take, drop}
@@ -11,10 +11,10 @@ use Rattle.values.specs.Time.{timer, writtenTimer}
 use Rattle.values.specs.Fifo.{places, movedCode, appendAnswer, appended, removeAnswer, removed, emptyAnswer, emptied}
 use Rattle.values.specs.declared.fifo.Moved.{Moved}
 use Rattle.values.specs.declared.fifo.Moved.the-variants as M
-use Rattle.tokens.specs.Token.{OUT, MARKER, PARAM, R, TIMER, FIFO1, M, isFifo}
+use Rattle.tokens.specs.Token.{OUT, MARKER, PARAM, R, TIMER, M, isFifo}
 use Rattle.tokens.specs.Descent.{Answer, good, stop, _>>=_}
 use Rattle.tokens.specs.Index.{isInside}
-use Rattle.working.specs.Variables.{cellOf, counts, countAt, runStart, run}
+use Rattle.working.specs.Variables.{inputCount, countAt, cellOf, fifoOf, runAt, run, beatCount}
 use Rattle.working.specs.Operators.{fromWorked}
 
 -- the variables of a beat under way: R, the cells, which timers run
@@ -29,18 +29,15 @@ pub record Changed : Type 0 where
   pub r : List ℤ
   pub cells : List ℤ
 
--- the run of R from place a on, and R with that run replaced
-abbrev pub runAt : ℕ → List ℤ → List ℤ
-runAt a r = take places (drop a r)
+-- R with the run of FIFO k replaced
+abbrev pub withRun : List ℤ → ℕ → List ℤ → List ℤ
+withRun r k xs = take (runAt k) r ++ (xs ++ drop (runAt k + places) r)
 
-abbrev pub withRunAt : ℕ → List ℤ → List ℤ → List ℤ
-withRunAt a r xs = take a r ++ (xs ++ drop (a + places) r)
-
--- what a change of the FIFO with the word w gives, where xs is its part afterwards
+-- what a change of FIFO k gives, where xs is its run afterwards
 abbrev pub moved : List ℤ → List ℤ → ℕ → List ℤ → Moved → Answer Changed
-moved r c w xs (M.Done v n) = good (record { value = v; r = withRunAt (runStart w) r xs; cells = set c (counts + (w - FIFO1)) (pos n) })
-moved r c w xs (M.Alarm k) = stop (movedCode (M.Alarm k))
-moved r c w xs M.Unfit = stop (movedCode M.Unfit)
+moved r c k xs (M.Done v n) = good (record { value = v; r = withRun r k xs; cells = set c (inputCount + countAt + k) (pos n) })
+moved r c k xs (M.Alarm a) = stop (movedCode (M.Alarm a))
+moved r c k xs M.Unfit = stop (movedCode M.Unfit)
 
 -- a change of a FIFO: 0 appends, 1 removes, else empties by a written value
 unfoldable pub changeAnswer : ℕ → List ℤ → ℕ → ℤ → Moved
@@ -50,7 +47,10 @@ unfoldable pub changed : ℕ → List ℤ → ℕ → ℤ → List ℤ
 changed op xs n v = cond (eqb op 0) (appended xs n v) (cond (eqb op 1) (removed xs n) (emptied xs n v))
 
 unfoldable pub changeFifo : List ℤ → List ℤ → ℕ → ℕ → ℤ → Answer Changed
-changeFifo r c op w v = moved r c w (changed op (run r w) (countAt c w) v) (changeAnswer op (run r w) (countAt c w) v)
+changeFifo r c op w v =
+    let k = fifoOf w in
+    let n = beatCount c k in
+    moved r c k (changed op (run r k) n v) (changeAnswer op (run r k) n v)
 
 abbrev pub withChanged : Vars → Changed → Vars
 withChanged x a = record { r = a .r; cells = a .cells; runs = x .runs }

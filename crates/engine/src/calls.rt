@@ -3,7 +3,7 @@ ghost use mathlib.Core.Path.{_≡_};
 ghost use Prim.Native.Nat.{_≤_};
 ghost use lib.ListN.{length};
 ghost use Rattle.engine.specs.Calls.{lockCall, unlockCall, cancelCall, resetCancelled, resetCall, lockedCall, zeroed};
-ghost use Rattle.engine.specs.State.{countCells};
+ghost use Rattle.working.specs.Variables.{countAt};
 ghost use Rattle.tokens.specs.Token.{maxLines};
 use crate::named_line::find;
 use crate::set::Lines;
@@ -102,7 +102,7 @@ fn cancel_ids(lines: Lines, cancelled: [bool; LINES]) -> [bool; LINES]
 
 // Markers, parameters and timers are 0.
 fn zero_cells(cells: &mut [i32])
-    requires { ⌜ countCells ≤ length (now cells) ⌝ }
+    requires { ⌜ countAt ≤ length (now cells) ⌝ }
     ensures { λ x. ⌜ now (cells .exit) ≡ zeroed (now (cells .entry)) ⌝ }
 {
     let mut i = MARKER_AT;

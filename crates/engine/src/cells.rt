@@ -7,19 +7,15 @@ ghost use mathlib.Core.Bool.{cond};
 ghost use lib.Dec.{eqb};
 ghost use lib.IntN.{pos};
 ghost use Rattle.values.specs.Value.{unit};
-ghost use Rattle.engine.specs.Cells.{bitCount, numberCount, inputCount, inputCells, beatCells};
+ghost use Rattle.working.specs.Variables.{bitCount, numberCount, inputCount};
+ghost use Rattle.engine.specs.Cells.{inputCells, beatCells};
 use crate::timers::grow_timers;
 use values::arithmetic::UNIT;
+use working::variables::BITS;
 use working::variables::CELLS;
+use working::variables::INPUTS;
 use working::variables::STATE_CELLS;
 use working::variables::TIMERS;
-
-// The bits of the input word, and the numbers that the host lends.
-const BITS: usize = 16;
-
-pub const NUMBERS: usize = 14;
-
-const INPUTS: usize = BITS + NUMBERS;
 
 // All of `from` is copied to the places of `to` from `at` on.
 fn copy_at(to: &mut [i32], at: usize, from: &[i32])

@@ -3,12 +3,11 @@ ghost use mathlib.Core.Path.{_≡_};
 ghost use mathlib.Core.List.{_++_};
 ghost use Prim.Native.Nat.{_≤_};
 ghost use lib.ListN.{length, take, drop};
-ghost use Rattle.engine.specs.Cells.{numberCount};
 ghost use Rattle.engine.specs.Beat.{areInputs, allTurns, turnedAnswer, buffered, beatAnswer, beatBuffer, bufferSize};
+ghost use Rattle.working.specs.Variables.{numberCount};
 ghost use Rattle.engine.specs.Order.{maxOrders};
 ghost use Rattle.tokens.specs.Token.{maxLines};
 use crate::action::Flags;
-use crate::cells::NUMBERS;
 use crate::cells::beat_cells;
 use crate::cells::kept_cells;
 use crate::order::ORDER_BYTES;
@@ -25,6 +24,7 @@ use values::codes::SHORT_BUFFER;
 use values::codes::UNSOUND;
 use values::codes::WRONG_NUMBERS;
 use working::variables::RS;
+use working::variables::NUMBERS;
 use working::variables::STATE_CELLS;
 
 // What a beat answers: its code, the count of orders in the buffer, the word of the lines that acted, by rank, and the state.

@@ -4,7 +4,7 @@ ghost use mathlib.Core.List.{map};
 ghost use Prim.Native.Nat.{_≤_};
 ghost use lib.ListN.{set};
 ghost use Rattle.values.specs.PutAt.{putAt};
-ghost use Rattle.engine.specs.Set.{withEnd, withoutMark, withLine, noLine, noLines, linesRead, rankIn, isLock, namesKnown, allKnown, soundLines, emptySet};
+ghost use Rattle.engine.specs.Set.{withEnd, withoutMark, withCount, withLine, noLine, noLines, linesRead, rankIn, isNaming, namesKnown, lockTable, allKnown, soundLines, emptySet};
 ghost use Rattle.tokens.specs.Token.{setSize, maxLines};
 use checking::Line;
 use checking::line_at;
@@ -13,15 +13,18 @@ use tokens::token::LINES;
 use tokens::token::LOCK;
 use tokens::token::NUMBER;
 use tokens::token::SIZE;
+use tokens::token::TABLE_SIZE;
 use tokens::token::UNLOCK;
 use tokens::token::token_at;
 use tokens::token::whole_of;
 
-// The place where the first line's start stands; place 0 has the number of lines.
-const STARTS: usize = 1;
+// The place that has the number of lines, and the place that says where the line of rank 0 begins.
+pub const COUNT_PLACE: usize = 0;
 
-// The place of the first line's tokens.
-pub const FIRST_PLACE: usize = STARTS + LINES;
+pub const START_PLACE: usize = 1;
+
+// The place of the first line's tokens, behind the table.
+pub const FIRST_PLACE: usize = TABLE_SIZE;
 
 // The lines of a set as its tokens have them, by rising number, if they are sound; else none.
 pub struct Lines {
@@ -72,12 +75,18 @@ fn put_tokens(set: &mut [u32; SIZE], at: u32, tokens: &[u32])
     put(set, p, END);
 }
 
-// One line more, of a rank: it begins at the place `at`. What would lie past the array is left off.
-pub fn put_line(set: &mut [u32; SIZE], rank: u8, at: u32, tokens: &[u32])
-    ensures { λ x. ⌜ now (set .exit) ≡ withLine (now (set .entry)) rank at (now (tokens .entry)) ⌝ }
+// A count of lines, at the place of the table that has it.
+pub fn put_count(set: &mut [u32; SIZE], place: usize, n: u32)
+    ensures { λ x. ⌜ now (set .exit) ≡ withCount (now (set .entry)) place n ⌝ }
 {
-    set[0] = rank as u32 + 1;
-    set[STARTS + rank as usize] = at;
+    put(set, place, n);
+}
+
+// One line more, with its slot, the place of the table that says where it begins: it begins at the place `at`. What would lie past the array is left off.
+pub fn put_line(set: &mut [u32; SIZE], slot: usize, at: u32, tokens: &[u32])
+    ensures { λ x. ⌜ now (set .exit) ≡ withLine (now (set .entry)) slot at (now (tokens .entry)) ⌝ }
+{
+    put(set, slot, at);
     put_tokens(set, at, tokens);
 }
 
@@ -112,7 +121,7 @@ fn no_lines() -> Lines
 fn read_lines(set: &[u32; SIZE]) -> Lines
     ensures { λ x. ⌜ x ≡ linesRead (now (set .entry)) ⌝ }
 {
-    let count = token_at(set, 0) as usize;
+    let count = token_at(set, COUNT_PLACE) as usize;
     if LINES < count {
         return no_lines();
     }
@@ -121,7 +130,7 @@ fn read_lines(set: &[u32; SIZE]) -> Lines
     let mut last: u8 = 0;
     let mut k: usize = 0;
     while k < count {
-        let start = token_at(set, STARTS + k) as usize;
+        let start = token_at(set, START_PLACE + k) as usize;
         let l = line_at(set, start);
         let fault = l.fault;
         if fault != 0 {
@@ -159,8 +168,9 @@ pub fn rank_in(numbers: &[u8; LINES], n: u32) -> usize
     k
 }
 
-fn is_lock(t: u32) -> bool
-    ensures { λ x. ⌜ x ≡ isLock t ⌝ }
+// Whether the number in the brackets of a word is a name: LOCK and UNLOCK.
+fn is_naming(t: u32) -> bool
+    ensures { λ x. ⌜ x ≡ isNaming t ⌝ }
 {
     if t < LOCK {
         return false;
@@ -170,7 +180,7 @@ fn is_lock(t: u32) -> bool
 
 // Whether each LOCK and UNLOCK of the line at a place names a line of the set.
 pub fn names_known(set: &[u32; SIZE], numbers: &[u8; LINES], start: usize) -> bool
-    ensures { λ x. ⌜ x ≡ namesKnown (now (set .entry)) (now (numbers .entry)) setSize start ⌝ }
+    ensures { λ x. ⌜ x ≡ namesKnown (now (set .entry)) (lockTable (now (numbers .entry))) setSize start ⌝ }
 {
     let mut p = start;
     let mut left: usize = SIZE;
@@ -179,7 +189,7 @@ pub fn names_known(set: &[u32; SIZE], numbers: &[u8; LINES], start: usize) -> bo
         if t == END {
             return true;
         }
-        if is_lock(t) {
+        if is_naming(t) {
             if LINES <= rank_in(numbers, whole_of(token_at(set, p + 2))) {
                 return false;
             }
@@ -193,11 +203,11 @@ pub fn names_known(set: &[u32; SIZE], numbers: &[u8; LINES], start: usize) -> bo
 // The same of every line of the set.
 fn all_known(set: &[u32; SIZE], numbers: &[u8; LINES], count: usize) -> bool
     requires { ⌜ count ≤ maxLines ⌝ }
-    ensures { λ x. ⌜ x ≡ allKnown (now (set .entry)) (now (numbers .entry)) count 0 ⌝ }
+    ensures { λ x. ⌜ x ≡ allKnown (now (set .entry)) (lockTable (now (numbers .entry))) count 0 ⌝ }
 {
     let mut k: usize = 0;
     while k < count {
-        if !names_known(set, numbers, token_at(set, STARTS + k) as usize) {
+        if !names_known(set, numbers, token_at(set, START_PLACE + k) as usize) {
             return false;
         }
         k += 1;

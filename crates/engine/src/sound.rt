@@ -3,7 +3,7 @@ ghost use mathlib.Core.Path.{_≡_};
 ghost use Prim.Native.Nat.{_<_};
 ghost use lib.ListN.{drop};
 ghost use Rattle.engine.specs.Sound.{allRanged, isOutput, isCell, areCells, allZero, isFifoSound, areFifos, isFlag, areFlags, stateSound, isSound};
-ghost use Rattle.engine.specs.State.{fifos};
+ghost use Rattle.working.specs.Variables.{fifos};
 ghost use Rattle.tokens.specs.Token.{maxLines};
 use crate::set::sound_lines;
 use crate::state::State;
@@ -17,16 +17,14 @@ use values::arithmetic::output;
 use values::arithmetic::whole_units;
 use values::fifo::PLACES;
 use working::variables::COUNT_AT;
+use working::variables::FIFOS;
 use working::variables::MARKER_AT;
+use working::variables::PARAM_AT;
 use working::variables::RS;
-use working::variables::RUNS;
+use working::variables::RUN_AT;
 use working::variables::STATE_CELLS;
 use working::variables::TIMER_AT;
 use working::variables::count_of;
-
-const PARAM_AT: usize = 48;
-
-const FIFOS: usize = 4;
 
 // Whether all are values.
 pub fn all_ranged(xs: &[i32]) -> bool
@@ -105,7 +103,7 @@ fn is_fifo_sound(r: &[i32; RS], cells: &[i32; STATE_CELLS], k: usize) -> bool
     requires { ⌜ k < fifos ⌝ }
     ensures { λ x. ⌜ x ≡ isFifoSound (now (r .entry)) (now (cells .entry)) k ⌝ }
 {
-    let start = RUNS + PLACES * k;
+    let start = RUN_AT + PLACES * k;
     let end = start + PLACES;
     let count = count_of(cells[COUNT_AT + k]) as usize;
     let all = &r[..];

@@ -1,7 +1,7 @@
 // The timers among the cells of a state.
 ghost use mathlib.Core.Path.{_≡_};
 ghost use Prim.Native.Nat.{_+_};
-ghost use Rattle.engine.specs.State.{timerCount};
+ghost use Rattle.working.specs.Variables.{timerCount};
 ghost use Rattle.engine.specs.Timers.{grownCells};
 use values::time::Millis;
 use values::time::Timer;

@@ -2,17 +2,16 @@
 ghost use mathlib.Core.Path.{_≡_};
 ghost use mathlib.Core.Bool.{true, false};
 ghost use Prim.Native.Nat.{_+_, _≤_, _<_};
-ghost use lib.IntN.{pos};
 ghost use lib.ListN.{length};
+ghost use lib.IntN.{pos};
 ghost use Rattle.tokens.specs.Token as T;
 ghost use Rattle.tokens.specs.Token.{isFifo};
 ghost use Rattle.tokens.specs.Index.{isInside};
 ghost use Rattle.tokens.specs.Descent.{good};
-ghost use Rattle.working.specs.Variables.{cellCount};
-ghost use Rattle.engine.specs.State.{timerCount};
-ghost use Rattle.engine.specs.Write.{changeAnswer, changed, runAt, withRunAt, changeFifo, writeFifo, writeTimer, writeCell, writeTo};
-ghost use Rattle.engine.specs.WriteAnswers.{varsOf, IsChanged, IsCelled, IsWritten};
+ghost use Rattle.working.specs.Variables.{cellCount, timerCount, runAt, run};
+ghost use Rattle.engine.specs.Write.{changeAnswer, changed, withRun, changeFifo, writeFifo, writeTimer, writeCell, writeTo};
 ghost use Rattle.values.specs.Fifo.{places};
+ghost use Rattle.engine.specs.WriteAnswers.{varsOf, IsChanged, IsCelled, IsWritten};
 use tokens::index::is_inside;
 use tokens::token::FIFO1;
 use tokens::token::MARKER;
@@ -36,7 +35,7 @@ use values::time::written;
 use working::variables::CELLS;
 use working::variables::COUNT_CELLS;
 use working::variables::RS;
-use working::variables::RUNS;
+use working::variables::RUN_AT;
 use working::variables::TIMERS;
 use working::variables::cell_of;
 use working::variables::count_of;
@@ -62,12 +61,13 @@ fn change(part: &mut [i32], op: u8, count: u8, v: i32) -> Moved
     empty(part, count, v)
 }
 
-// The run of R from place `start` on is changed so.
-fn change_run(r: &mut [i32], start: usize, op: u8, count: u8, v: i32) -> Moved
-    requires { ⌜ start + places ≤ length (now r) ⌝ }
-    ensures { λ x. ⌜ x ≡ changeAnswer op (runAt start (now (r .entry))) count v ⌝ }
-    ensures { λ x. ⌜ now (r .exit) ≡ withRunAt start (now (r .entry)) (changed op (runAt start (now (r .entry))) count v) ⌝ }
+// The run of FIFO k, from 0, is changed so.
+fn change_run(r: &mut [i32], k: usize, op: u8, count: u8, v: i32) -> Moved
+    requires { ⌜ runAt k + places ≤ length (now r) ⌝ }
+    ensures { λ x. ⌜ x ≡ changeAnswer op (run (now (r .entry)) k) count v ⌝ }
+    ensures { λ x. ⌜ now (r .exit) ≡ withRun (now (r .entry)) k (changed op (run (now (r .entry)) k) count v) ⌝ }
 {
+    let start = RUN_AT + PLACES * k;
     let end = start + PLACES;
     change(&mut r[start..end], op, count, v)
 }
@@ -80,7 +80,7 @@ fn change_fifo(r: &mut [i32; RS], cells: &mut [i32; CELLS], op: u8, w: u32, v: i
     let k = (w - FIFO1) as usize;
     let at = COUNT_CELLS + k;
     let count = count_of(cells[at]);
-    match change_run(r, RUNS + PLACES * k, op, count, v) {
+    match change_run(r, k, op, count, v) {
         Moved::Done(u, n) => {
             cells[at] = n as i32;
             Worked::Value(u)

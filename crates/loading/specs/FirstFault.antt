@@ -1,6 +1,6 @@
 -- What a code of 3 to 12 says: the first faulty line with its code of 3 to 11, or, where no line has one, the first that names a line which the text has not. Theorems; nothing is assumed.
 use mathlib.Core.Path.{_≡_, refl, sym, ap, subst, _∙_}
-use mathlib.Core.Bool.{false}
+use mathlib.Core.Bool.{Bool, false}
 use mathlib.Core.List.{List, [], _∷_, _++_, map, append-assoc, append-nil}
 use mathlib.Core.Logic.{_↔_}
 use Prim.Native.Nat.{ℕ, zero, suc, _≤_}
@@ -10,7 +10,7 @@ use Rattle.values.specs.Codes.{tooLong, tooManyLines, notInSet}
 use Rattle.values.specs.Choice.{choice, chosen, refused as not-chosen}
 use Rattle.values.specs.Numbers.{clash}
 use Rattle.tokens.specs.Token.{setSize, maxLines, textSize}
-use Rattle.engine.specs.Set.{namesKnown}
+use Rattle.engine.specs.Set.{namesKnown, lockTable}
 use Rattle.text.specs.Tokens.{tokensOf}
 use Rattle.text.specs.Lines.{Numbered, tokenLines}
 use Rattle.reader.specs.Row.{Row, numbersOf}
@@ -86,34 +86,34 @@ first-refused ls rs c k f =
 
 -- ---- the first line that names what the text has not
 
--- the first of some lines with a LOCK or UNLOCK of a number that is none of ns: it stands at the place k of the text
-pub record FirstUnknown (ns : List ℕ) (rs : List Row) (k : ℕ) : Type 0 where
+-- the first of some lines with a name that the table does not know: it stands at the place k of the text
+pub record FirstUnknown (table : ℕ → ℕ → Bool) (rs : List Row) (k : ℕ) : Type 0 where
   pub before : List Row
   pub unknown : Row
   pub behind : List Row
   pub split : rs ≡ before ++ (unknown ∷ behind)
-  pub known : All (Named ns) before
-  pub unnamed : namesKnown (alone (unknown .tokens)) ns setSize 0 ≡ false
+  pub known : All (Named table) before
+  pub unnamed : namesKnown (alone (unknown .tokens)) table setSize 0 ≡ false
   pub place : unknown .place ≡ k
 
-found-unknown : (ns : List ℕ) (rs : List Row) (k : ℕ) → firstUnknown ns rs ≡ suc k → FirstUnknown ns rs (suc k)
+found-unknown : (table : ℕ → ℕ → Bool) (rs : List Row) (k : ℕ) → firstUnknown table rs ≡ suc k → FirstUnknown table rs (suc k)
 unfolding firstUnknown
-found-unknown ns [] k h = absurd (omega arith)
-found-unknown ns (r ∷ rs) k h =
-    choice _ (namesKnown (alone (r .tokens)) ns setSize 0) (firstUnknown ns rs) (r .place) (suc k) h
+found-unknown table [] k h = absurd (omega arith)
+found-unknown table (r ∷ rs) k h =
+    choice _ (namesKnown (alone (r .tokens)) table setSize 0) (firstUnknown table rs) (r .place) (suc k) h
     (λ t e.
-    let i = found-unknown ns rs k e in
+    let i = found-unknown table rs k e in
     record { before = r ∷ i .before; unknown = i .unknown; behind = i .behind; split = ap {B = List Row} (λ m. r ∷ m) (i .split); known = (t, i .known); unnamed = i .unnamed; place = i .place })
     (λ t e. record { before = []; unknown = r; behind = rs; split = refl; known = tt; unnamed = t; place = e })
 
-known-behind : (ns : List ℕ) (ks rs : List Row) → All (Named ns) ks → firstUnknown ns (ks ++ rs) ≡ firstUnknown ns rs
+known-behind : (table : ℕ → ℕ → Bool) (ks rs : List Row) → All (Named table) ks → firstUnknown table (ks ++ rs) ≡ firstUnknown table rs
 unfolding firstUnknown
-known-behind ns [] rs h = refl
-known-behind ns (r ∷ ks) rs h = chosen _ _ _ (h .0) ∙ known-behind ns ks rs (h .1)
+known-behind table [] rs h = refl
+known-behind table (r ∷ ks) rs h = chosen _ _ _ (h .0) ∙ known-behind table ks rs (h .1)
 
-unknown-found : (ns : List ℕ) (rs : List Row) (k : ℕ) → FirstUnknown ns rs k → firstUnknown ns rs ≡ k
+unknown-found : (table : ℕ → ℕ → Bool) (rs : List Row) (k : ℕ) → FirstUnknown table rs k → firstUnknown table rs ≡ k
 unfolding firstUnknown
-unknown-found ns rs k f = ap (firstUnknown ns) (f .split) ∙ known-behind ns (f .before) (f .unknown ∷ f .behind) (f .known) ∙ not-chosen _ _ _ (f .unnamed) ∙ f .place
+unknown-found table rs k f = ap (firstUnknown table) (f .split) ∙ known-behind table (f .before) (f .unknown ∷ f .behind) (f .known) ∙ not-chosen _ _ _ (f .unnamed) ∙ f .place
 
 all-inner : (P : Row → Type 0) (ks rs : List Row) (r : Row) → All P (ks ++ (r ∷ rs)) → P r
 all-inner P [] rs r h = h .0
@@ -138,7 +138,7 @@ module _ (t : List ℕ) where
       (λ l m rs j f g h. clash (cc))
       (λ l m rs h. absurd (refused-not-taken rs c k e h))
 
-  unknown-answer : (rs : List Row) (k : ℕ) → Small → rowsFrom [] (tokenLines t) ≡ taken rs → firstUnknown (numbersOf rs) rs ≡ suc k → (loadAnswer t .code ≡ notInSet) × (loadAnswer t .line ≡ suc k)
+  unknown-answer : (rs : List Row) (k : ℕ) → Small → rowsFrom [] (tokenLines t) ≡ taken rs → firstUnknown (lockTable (numbersOf rs)) rs ≡ suc k → (loadAnswer t .code ≡ notInSet) × (loadAnswer t .line ≡ suc k)
   unknown-answer rs k x e f =
       by-load _ t
       (λ m h. absurd (omega (arith, x)))
@@ -147,13 +147,13 @@ module _ (t : List ℕ) where
       (λ l m qs j g u h.
       let z = refused-answer t notInSet (suc j) h in
       let p : qs ≡ rs = cc in
-      let q : suc j ≡ suc k = sym u ∙ ap (λ (r : List Row). firstUnknown (numbersOf r) r) p ∙ f in
+      let q : suc j ≡ suc k = sym u ∙ ap (λ (r : List Row). firstUnknown (lockTable (numbersOf r)) r) p ∙ f in
       (z .0, z .1 ∙ q))
       (λ l m qs h.
       let y = taking t qs h in
       let g = y .rows in
       let p : qs ≡ rs = cc in
-      let q : 0 ≡ suc k = sym (y .known) ∙ ap (λ (r : List Row). firstUnknown (numbersOf r) r) p ∙ f in
+      let q : 0 ≡ suc k = sym (y .known) ∙ ap (λ (r : List Row). firstUnknown (lockTable (numbersOf r)) r) p ∙ f in
       absurd (omega arith))
 
   -- CODES 3 TO 11, c AND THE LINE k: the text is no longer than 4,096 bytes, has at most 32 lines with tokens, and the first that has a fault stands at k and has the lowest fault c
@@ -177,7 +177,7 @@ module _ (t : List ℕ) where
   -- CODE 12 AND THE LINE k: no line has such a fault, and the first with a LOCK or UNLOCK of a number that no line of the text has stands at k
   pub code-12 : (k : ℕ) →
       ((loadAnswer t .code ≡ notInSet) × (loadAnswer t .line ≡ k))
-      ↔ ((length t ≤ textSize) × (length (tokenLines t) ≤ maxLines) × ((rs : List Row) × (rowsFrom [] (tokenLines t) ≡ taken rs) × FirstUnknown (numbersOf rs) rs k))
+      ↔ ((length t ≤ textSize) × (length (tokenLines t) ≤ maxLines) × ((rs : List Row) × (rowsFrom [] (tokenLines t) ≡ taken rs) × FirstUnknown (lockTable (numbersOf rs)) rs k))
   code-12 k = (
     (λ x. by-load _ t
         (λ m h. let z = refused-answer t tooLong 0 h .0 in let w = x .0 in absurd (omega arith))
@@ -186,16 +186,16 @@ module _ (t : List ℕ) where
         (λ l m rs j f g h.
         let z = refused-answer t notInSet (suc j) h in
         let q : suc j ≡ k = sym (z .1) ∙ x .1 in
-        (l, m, (rs, f, subst (λ (n : ℕ). FirstUnknown (numbersOf rs) rs n) q (found-unknown (numbersOf rs) rs j g))))
+        (l, m, (rs, f, subst (λ (n : ℕ). FirstUnknown (lockTable (numbersOf rs)) rs n) q (found-unknown (lockTable (numbersOf rs)) rs j g))))
         (λ l m rs h. let z = taken-answer t rs h .0 in let w = x .0 in absurd (omega arith))),
     (λ x.
         let (l, m, y) = x in
         let (rs, e, u) = y in
         let f = text-fine t rs e in
         let p = all-inner Fine (u .before) (u .behind) (u .unknown) (rw (u .split) at f) .place in
-        by-place rs (u .unknown .place) k (u .place) p (l, m) e (unknown-found (numbersOf rs) rs k u)),
+        by-place rs (u .unknown .place) k (u .place) p (l, m) e (unknown-found (lockTable (numbersOf rs)) rs k u)),
   )
     where
-      by-place : (rs : List Row) (n j : ℕ) → n ≡ j → 1 ≤ n → Small → rowsFrom [] (tokenLines t) ≡ taken rs → firstUnknown (numbersOf rs) rs ≡ j → (loadAnswer t .code ≡ notInSet) × (loadAnswer t .line ≡ j)
+      by-place : (rs : List Row) (n j : ℕ) → n ≡ j → 1 ≤ n → Small → rowsFrom [] (tokenLines t) ≡ taken rs → firstUnknown (lockTable (numbersOf rs)) rs ≡ j → (loadAnswer t .code ≡ notInSet) × (loadAnswer t .line ≡ j)
       by-place rs n zero e l s h f = absurd (omega arith)
       by-place rs n (suc j) e l s h f = unknown-answer rs j s h f

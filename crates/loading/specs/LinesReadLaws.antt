@@ -1,6 +1,6 @@
 -- Laws of the lines that are read from a set in which some rows are laid: the set passes each check from 4 on. Nothing is assumed.
 use mathlib.Core.Path.{_≡_, refl, sym, _∙_}
-use mathlib.Core.Bool.{true}
+use mathlib.Core.Bool.{Bool, true}
 use mathlib.Core.List.{List, [], _∷_}
 use Prim.Native.Nat.{ℕ, zero, suc, _+_, _≤_, _<_}
 use native.Mathlib.Omega.{arith}
@@ -12,8 +12,8 @@ use Rattle.values.specs.Choice.{decide, chosen, refused}
 use Rattle.tokens.specs.Token.{setSize, maxLines}
 use Rattle.checking.specs.declared.line.Line.{Line}
 use Rattle.engine.specs.declared.set.Lines.{Lines}
-use Rattle.engine.specs.Set.{lineCount, lineOf, noLine, linesFrom, linesRead, rankIn, isKnown, allKnown, namedLines, soundLines}
-use Rattle.reader.specs.Row.{Row, noRow}
+use Rattle.engine.specs.Set.{lineCount, startOf, lineOf, noLine, linesFrom, linesRead, rankIn, isKnown, lockTable, allKnown, namedLines, soundLines}
+use Rattle.reader.specs.Row.{Row, noRow, ranked}
 use Rattle.loading.specs.PlacedLaws.{heldTokens, Laid}
 use Rattle.loading.specs.StoredLineLaws.{written, held, names-held}
 use Rattle.loading.specs.TakenLaws.{All, Fine, Named}
@@ -28,11 +28,11 @@ module _ (s : List ℕ) where
   ReadAs (r ∷ rs) k last =
       (lineOf s k .fault ≡ 0) × (lineOf s k .number ≡ r .number) × (last < lineOf s k .number) × ReadAs rs (k + 1) (lineOf s k .number)
 
-  laid-read : (rs : List Row) (k n last : ℕ) → length s ≤ setSize → All Fine rs → All (λ r. length (r .tokens) < setSize) rs → Laid s rs k → Rises n rs → last ≡ n → ReadAs rs k last
+  laid-read : (rs : List Row) (k n last : ℕ) → length s ≤ setSize → All Fine rs → All (λ r. length (r .tokens) < setSize) rs → Laid s (ranked rs k) → Rises n rs → last ≡ n → ReadAs rs k last
   laid-read [] k n last size f l p h e = tt
   laid-read (r ∷ rs) k n last size f l p h e =
       let w = written (r .tokens) (f .0 .real) (l .0) (f .0 .clean) in
-      let (a, b, c, x) = held (r .tokens) w (f .0 .real) (l .0) s (getD s (1 + k) 0) (getD s (1 + k) 0 + length (heldTokens r)) size (p .0) in
+      let (a, b, c, x) = held (r .tokens) w (f .0 .real) (l .0) s (startOf s k) (startOf s k + length (heldTokens (r .tokens))) size (p .0) in
       let d : lineOf s k .number ≡ r .number = c ∙ sym (w .number) ∙ sym (f .0 .number) in
       let o = h .0 in
       (b, d, omega arith, laid-read rs (k + 1) (r .number) (lineOf s k .number) size (f .1) (l .1) (p .1) (h .1) d)
@@ -68,29 +68,29 @@ module _ (s : List ℕ) where
 
   -- ---- 12
 
-  all-names : (rs : List Row) (k : ℕ) (ns ns′ : List ℕ) → All Fine rs → All (λ r. length (r .tokens) < setSize) rs → All (Named ns′) rs → Laid s rs k →
-      ((n : ℕ) → isKnown ns′ n ≡ true → isKnown ns n ≡ true) → allKnown s ns (length rs) k ≡ true
+  all-names : (rs : List Row) (k : ℕ) (known known′ : ℕ → ℕ → Bool) → All Fine rs → All (λ r. length (r .tokens) < setSize) rs → All (Named known′) rs → Laid s (ranked rs k) →
+      ((w n : ℕ) → known′ w n ≡ true → known w n ≡ true) → allKnown s known (length rs) k ≡ true
   unfolding allKnown
-  all-names [] k ns ns′ f l a p g = refl
-  all-names (r ∷ rs) k ns ns′ f l a p g =
+  all-names [] k known known′ f l a p g = refl
+  all-names (r ∷ rs) k known known′ f l a p g =
       let w = written (r .tokens) (f .0 .real) (l .0) (f .0 .clean) in
-      let h = names-held (r .tokens) w (f .0 .real) (l .0) s ns ns′ (getD s (1 + k) 0) (getD s (1 + k) 0 + length (heldTokens r)) (p .0) g (a .0) in
-      chosen _ _ _ h ∙ all-names rs (k + 1) ns ns′ (f .1) (l .1) (a .1) (p .1) g
+      let h = names-held (r .tokens) w (f .0 .real) (l .0) s known known′ (startOf s k) (startOf s k + length (heldTokens (r .tokens))) (p .0) g (a .0) in
+      chosen _ _ _ h ∙ all-names rs (k + 1) known known′ (f .1) (l .1) (a .1) (p .1) g
 
   -- ---- the set
 
-  -- A SET IN WHICH ROWS ARE LAID is read as they are, and is sound: they have no fault, their numbers rise, and they name only numbers that the set has
-  pub rows-read : (rs : List Row) (ns′ : List ℕ) → lineCount s ≡ length rs → length s ≤ setSize → length rs ≤ maxLines → All Fine rs → All (λ r. length (r .tokens) < setSize) rs →
-      All (Named ns′) rs → Laid s rs 0 → Rises 0 rs →
-      ((l : Lines) → ReadLines rs 0 (replicate maxLines 0) l → (n : ℕ) → isKnown ns′ n ≡ true → isKnown (l .numbers) n ≡ true) → ReadLines rs 0 (replicate maxLines 0) (soundLines s)
+  -- A SET IN WHICH ROWS ARE LAID is read as they are, and is sound: they have no fault, their numbers rise, and they name only what the set has
+  pub rows-read : (rs : List Row) (known′ : ℕ → ℕ → Bool) → lineCount s ≡ length rs → length s ≤ setSize → length rs ≤ maxLines → All Fine rs → All (λ r. length (r .tokens) < setSize) rs →
+      All (Named known′) rs → Laid s (ranked rs 0) → Rises 0 rs →
+      ((l : Lines) → ReadLines rs 0 (replicate maxLines 0) l → (w n : ℕ) → known′ w n ≡ true → lockTable (l .numbers) w n ≡ true) → ReadLines rs 0 (replicate maxLines 0) (soundLines s)
   unfolding soundLines namedLines linesRead
-  rows-read rs ns′ c size few f l a p h g =
+  rows-read rs known′ c size few f l a p h g =
       let zeros = replicate {A = ℕ} maxLines 0 in
       let r = read-lines rs 0 0 zeros (replicate maxLines noLine) (let z = length-replicate {A = ℕ} maxLines 0 in omega arith) (laid-read rs 0 0 0 size f l p h refl) in
       let e : linesRead s ≡ linesFrom s (length rs) 0 0 zeros (replicate maxLines noLine) = refused _ _ _ (le-ltb maxLines (lineCount s) (omega arith)) ∙ rw c in
       let r′ : ReadLines rs 0 zeros (linesRead s) = rw e r in
       let m : linesRead s .count ≡ length rs = let z = r′ .count in omega arith in
-      let k : allKnown s (linesRead s .numbers) (linesRead s .count) 0 ≡ true = rw m (all-names rs 0 (linesRead s .numbers) ns′ f l a p (g (linesRead s) r′)) in
+      let k : allKnown s (lockTable (linesRead s .numbers)) (linesRead s .count) 0 ≡ true = rw m (all-names rs 0 (lockTable (linesRead s .numbers)) known′ f l a p (g (linesRead s) r′)) in
       let x : soundLines s ≡ linesRead s = chosen _ _ _ k in
       rw x r′
 

@@ -20,7 +20,7 @@ use Rattle.checking.specs.Fault.{lineAt}
 use Rattle.grammar.specs.TreeFault.{lineFault, Proper}
 use Rattle.grammar.specs.TreeFaultLaws.{line-proper}
 use Rattle.grammar.specs.AgreementLine.{line-found, line-fault}
-use Rattle.engine.specs.Set.{isKnown, emptySet}
+use Rattle.engine.specs.Set.{isKnown, lockTable, emptySet}
 use Rattle.text.specs.Byte.{run}
 use Rattle.text.specs.Tokens.{Tokens, tokensOf}
 use Rattle.text.specs.Lines.{Numbered, tokenLines, numbered, bodies, split, withoutComment, isBlank}
@@ -122,7 +122,7 @@ module _ (P : Type 0) (t : List ℕ) where
       (textSize < length t → outcome t ≡ refused tooLong 0 → P) →
       (length t ≤ textSize → maxLines < length (tokenLines t) → outcome t ≡ refused tooManyLines 0 → P) →
       (length t ≤ textSize → length (tokenLines t) ≤ maxLines → (c k : ℕ) → 3 ≤ c → c ≤ 11 → rowsFrom [] (tokenLines t) ≡ refused c k → outcome t ≡ refused c k → P) →
-      (length t ≤ textSize → length (tokenLines t) ≤ maxLines → (rs : List Row) (k : ℕ) → rowsFrom [] (tokenLines t) ≡ taken rs → firstUnknown (numbersOf rs) rs ≡ suc k → outcome t ≡ refused notInSet (suc k) → P) →
+      (length t ≤ textSize → length (tokenLines t) ≤ maxLines → (rs : List Row) (k : ℕ) → rowsFrom [] (tokenLines t) ≡ taken rs → firstUnknown (lockTable (numbersOf rs)) rs ≡ suc k → outcome t ≡ refused notInSet (suc k) → P) →
       (length t ≤ textSize → length (tokenLines t) ≤ maxLines → (rs : List Row) → outcome t ≡ taken rs → P) → P
   unfolding outcome named
   by-load long many faulty unknown all =
@@ -135,11 +135,11 @@ module _ (P : Type 0) (t : List ℕ) where
       by-rows (rowsFrom [] (tokenLines t)) refl (faulty l f) (unknown l f) (all l f) (λ c k h. rows-code (tokenLines t) [] c k (omega arith) h) e
     where
       by-rows : (o : Outcome) → rowsFrom [] (tokenLines t) ≡ o → ((c k : ℕ) → 3 ≤ c → c ≤ 11 → rowsFrom [] (tokenLines t) ≡ refused c k → outcome t ≡ refused c k → P) →
-          ((rs : List Row) (k : ℕ) → rowsFrom [] (tokenLines t) ≡ taken rs → firstUnknown (numbersOf rs) rs ≡ suc k → outcome t ≡ refused notInSet (suc k) → P) →
+          ((rs : List Row) (k : ℕ) → rowsFrom [] (tokenLines t) ≡ taken rs → firstUnknown (lockTable (numbersOf rs)) rs ≡ suc k → outcome t ≡ refused notInSet (suc k) → P) →
           ((rs : List Row) → outcome t ≡ taken rs → P) → ((c k : ℕ) → rowsFrom [] (tokenLines t) ≡ refused c k → (3 ≤ c) × (c ≤ 11)) → outcome t ≡ named (rowsFrom [] (tokenLines t)) → P
-      by-rows (taken rs) e faulty unknown all code h = by-first (firstUnknown (numbersOf rs) rs) refl
+      by-rows (taken rs) e faulty unknown all code h = by-first (firstUnknown (lockTable (numbersOf rs)) rs) refl
         where
-          by-first : (k : ℕ) → firstUnknown (numbersOf rs) rs ≡ k → P
+          by-first : (k : ℕ) → firstUnknown (lockTable (numbersOf rs)) rs ≡ k → P
           by-first zero u = all rs (h ∙ rw (e, u, named))
           by-first (suc k) u = unknown rs k e u (h ∙ rw (e, u, named))
       by-rows (refused c k) e faulty unknown all code h = let (a, b) = code c k e in faulty c k a b e (h ∙ rw (e, named))

@@ -7,12 +7,12 @@ use native.Mathlib.Decide.{decLt}
 use native.Mathlib.Omega.{arith}
 use lib.ListN.{length, getD, replicate, length-replicate, List·getD-eq-default, getD-replicate}
 use borrow.Author.Tests.{ltb-true}
-use Rattle.tokens.specs.Token.{setSize, maxLines, textSize}
+use Rattle.tokens.specs.Token.{textSize, setSize, maxLines}
 use Rattle.engine.specs.declared.set.Lines.{Lines}
-use Rattle.engine.specs.Set.{rankIn, isKnown, soundLines}
+use Rattle.engine.specs.Set.{rankIn, isKnown, lockTable, soundLines}
 use Rattle.soundness.specs.SetSoundLaws.{rank-number}
 use Rattle.text.specs.Lines.{tokenLines}
-use Rattle.reader.specs.Row.{Row, numbersOf, total, noRow, byNumber, setOf}
+use Rattle.reader.specs.Row.{Row, numbersOf, total, noRow, byNumber, ranked, setOf}
 use Rattle.reader.specs.Load.{taken, outcome}
 use Rattle.reader.specs.Draft.{Apart}
 use Rattle.reader.specs.RisingLaws.{number-at, numbers-length, taken-apart}
@@ -45,15 +45,15 @@ module _ (t : List ℕ) (rs : List Row) (h : outcome t ≡ taken rs) where
   each-by P a = all-of P rs (byNumber rs) a (by-of rs few apart)
 
   -- the rows are laid in the set
-  pub taken-laid : Laid (setOf (byNumber rs)) (byNumber rs) 0
+  pub taken-laid : Laid (setOf (byNumber rs)) (ranked (byNumber rs) 0)
   taken-laid = let l = by-length rs few apart in let m = by-total rs few apart in let n = rows-room in let f = few in set-laid (byNumber rs) (omega arith) (omega arith)
 
   pub taken-short : All (λ r. length (r .tokens) < setSize) rs
   taken-short = all-short rs setSize (let n = rows-room in omega arith)
 
   -- a number that a row may name is one that the set has
-  names-found : (l : Lines) → ReadLines (setOf (byNumber rs)) (byNumber rs) 0 (replicate maxLines 0) l → (n : ℕ) → isKnown (numbersOf rs) n ≡ true → isKnown (l .numbers) n ≡ true
-  names-found l r n e =
+  names-found : (l : Lines) → ReadLines (setOf (byNumber rs)) (byNumber rs) 0 (replicate maxLines 0) l → (w n : ℕ) → lockTable (numbersOf rs) w n ≡ true → lockTable (l .numbers) w n ≡ true
+  names-found l r w n e =
       let i = rankIn (numbersOf rs) n 0 in
       let b : i < maxLines = ltb-true i maxLines e in
       let a = sym (number-at rs i few) ∙ rank-number (numbersOf rs) n (numbers-length rs) b in
@@ -82,6 +82,6 @@ module _ (t : List ℕ) (rs : List Row) (h : outcome t ≡ taken rs) where
       let l = by-length rs few apart in
       let f = few in
       let n = set-length (byNumber rs) in
-      rows-read (setOf (byNumber rs)) (byNumber rs) (numbersOf rs) (set-count (byNumber rs)) (omega arith) (omega arith)
-      (each-by Fine (taken-fine t rs h)) (each-by (λ r. length (r .tokens) < setSize) taken-short) (each-by (Named (numbersOf rs)) (taken-named t rs h))
+      rows-read (setOf (byNumber rs)) (byNumber rs) (lockTable (numbersOf rs)) (set-count (byNumber rs)) (omega arith) (omega arith)
+      (each-by Fine (taken-fine t rs h)) (each-by (λ r. length (r .tokens) < setSize) taken-short) (each-by (Named (lockTable (numbersOf rs))) (taken-named t rs h))
       taken-laid (by-rises rs few apart) names-found

@@ -11,7 +11,7 @@ use Rattle.grammar.specs.AgreementLaws.{stands-place}
 use Rattle.grammar.specs.TreeFault.{lineFault, partsFrom}
 use Rattle.engine.specs.Set.{lineCount, startOf, lineOf, withEnd}
 use Rattle.text.specs.Lines.{tokenLines}
-use Rattle.reader.specs.Row.{Row, noRow, byNumber, setOf}
+use Rattle.reader.specs.Row.{Row, noRow, byNumber, ranked, setOf}
 use Rattle.reader.specs.Load.{taken, rowOf, outcome, loadSet}
 use Rattle.loading.specs.Unmarked.{unmarkedTree}
 use Rattle.loading.specs.LoadAnswers.{taken-answer}
@@ -52,7 +52,7 @@ pub record HoldsAll (s : List ℕ) (rs : List Row) : Type 0 where
   pub everyRow : (j : ℕ) → j < length rs → (k : ℕ) × (k < length rs) × (rowOfRank k ≡ getD rs j noRow)
 
 -- rows that are laid in a set from rank m on are held by it
-laid-holds : (s : List ℕ) (rs : List Row) (m k : ℕ) → length s ≤ setSize → All Fine rs → All (λ r. length (r .tokens) < setSize) rs → Laid s rs m → k < length rs → HoldsLine s (m + k) (getD rs k noRow)
+laid-holds : (s : List ℕ) (rs : List Row) (m k : ℕ) → length s ≤ setSize → All Fine rs → All (λ r. length (r .tokens) < setSize) rs → Laid s (ranked rs m) → k < length rs → HoldsLine s (m + k) (getD rs k noRow)
 laid-holds s [] m k size f l p h = absurd (omega arith)
 laid-holds s (r ∷ rs) m (suc k) size f l p h =
     let e : m + suc k ≡ m + 1 + k = omega arith in
@@ -60,7 +60,7 @@ laid-holds s (r ∷ rs) m (suc k) size f l p h =
 laid-holds s (r ∷ rs) m zero size f l p h =
     let z : m + 0 ≡ m = omega arith in
     let w = written (r .tokens) (f .0 .real) (l .0) (f .0 .clean) in
-    let q = startOf s m + length (heldTokens r) in
+    let q = startOf s m + length (heldTokens (r .tokens)) in
     let (a, b, c, x) = held (r .tokens) w (f .0 .real) (l .0) s (startOf s m) q size (p .0) in
     let e = stands-place s (lineTokens (unmarkedTree (w .tree))) (startOf s m) q a in
     rw z (record {

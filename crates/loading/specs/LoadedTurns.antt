@@ -11,7 +11,7 @@ use Rattle.tokens.specs.Descent.{good, _>>=_}
 use Rattle.grammar.specs.Tree.{Line, lineTokens}
 use Rattle.grammar.specs.Meaning.{Stands}
 use Rattle.engine.specs.declared.state.State.{State}
-use Rattle.engine.specs.Set.{soundLines, withoutMark, withEnd}
+use Rattle.engine.specs.Set.{startOf, soundLines, withoutMark, withEnd}
 use Rattle.engine.specs.Sound.{isSound}
 use Rattle.engine.specs.Action.{World}
 use Rattle.engine.specs.Turn.{beatIn, turnsFrom}
@@ -20,7 +20,7 @@ use Rattle.soundness.specs.Call.{Call, afterAll}
 use Rattle.turn_trees.specs.TurnTree.{namesOf, turnsTree}
 use Rattle.turn_trees.specs.SoundTurns.{TreesFrom, TreesOf, sound-turns, beat-by-trees}
 use Rattle.turn_trees.specs.TurnNumbersTo.{turns-to, names-to}
-use Rattle.reader.specs.Row.{Row, byNumber, setOf}
+use Rattle.reader.specs.Row.{Row, byNumber, ranked, setOf}
 use Rattle.reader.specs.Load.{taken, outcome, loadAnswer, loadSet}
 use Rattle.loading.specs.Unmarked.{unmarked, unmarkedTree}
 use Rattle.loading.specs.UnmarkedLaws.{unmarked-keeps, unmarked-tokens}
@@ -53,17 +53,17 @@ have-trees (r ∷ rs) f s =
     (w .tree ∷ ls, (w .tokens, t))
 
 -- the tokens of a tree without marks are those that a set has of its line
-held-tree : (l : Line) (r : Row) → lineTokens l ≡ withEnd (r .tokens) → heldTokens r ≡ lineTokens (unmarkedTree l)
+held-tree : (l : Line) (r : Row) → lineTokens l ≡ withEnd (r .tokens) → heldTokens (r .tokens) ≡ lineTokens (unmarkedTree l)
 held-tree l r e = ended-unmarked (r .tokens) ∙ ap (map withoutMark) (sym e) ∙ unmarked-tokens l
 
 -- lines that are laid in a set: it has the trees without marks
-laid-trees : (s : List ℕ) (ls : List Line) (rs : List Row) (k : ℕ) → AreTrees ls rs → Laid s rs k → TreesFrom s k (map unmarkedTree ls)
+laid-trees : (s : List ℕ) (ls : List Line) (rs : List Row) (k : ℕ) → AreTrees ls rs → Laid s (ranked rs k) → TreesFrom s k (map unmarkedTree ls)
 laid-trees s [] [] k h p = tt
 laid-trees s [] (r ∷ rs) k h p = absurd h
 laid-trees s (l ∷ ls) [] k h p = absurd h
 laid-trees s (l ∷ ls) (r ∷ rs) k h p =
-    let q = getD s (1 + k) 0 + length (heldTokens r) in
-    ((q, subst (λ (x : List ℕ). Stands s (getD s (1 + k) 0) x q) (held-tree l r (h .0)) (p .0)), laid-trees s ls rs (k + 1) (h .1) (p .1))
+    let q = startOf s k + length (heldTokens (r .tokens)) in
+    ((q, subst (λ (x : List ℕ). Stands s (startOf s k) x q) (held-tree l r (h .0)) (p .0)), laid-trees s ls rs (k + 1) (h .1) (p .1))
 
 module _ (t : List ℕ) (rs : List Row) (h : outcome t ≡ taken rs) where
   -- THE LINES OF A TEXT THAT IS TAKEN HAVE TREES, here by rising number

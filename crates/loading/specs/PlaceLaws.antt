@@ -20,7 +20,7 @@ use Rattle.grammar.specs.AgreementLaws.{bounds}
 use Rattle.grammar.specs.ClosedTokens.{Closed, front-closed}
 use Rattle.grammar.specs.AgreementLine.{line-written, line-told, line-found, fault-five}
 use Rattle.grammar.specs.StandsLaws.{stands-self, opens-stands, same-tokens, line-stood, line-standing}
-use Rattle.engine.specs.Set.{withEnd, isKnown, isLock, namesKnown}
+use Rattle.engine.specs.Set.{withEnd, namesKnown, isNaming}
 
 -- ---- one line at two places
 
@@ -75,26 +75,32 @@ behind-first s [] p q n h = absurd (omega arith)
 behind-first s (u ∷ []) p q n h = h .1 .0
 behind-first s (u ∷ v ∷ l) p q n h = h .1 .0
 
--- one step of the check, by what stands two places behind LOCK or UNLOCK
-names-step : (ns : List ℕ) (t u v : ℕ) (x y : Bool) → (isLock t ≡ true → u ≡ v) → x ≡ y →
-    _≡_ {A = Bool} (elim (isLock t) as (λ _. Bool) [ true ↦ elim (isKnown ns (whole u)) as (λ _. Bool) [ true ↦ x | false ↦ false ] | false ↦ x ])
-    (elim (isLock t) as (λ _. Bool) [ true ↦ elim (isKnown ns (whole v)) as (λ _. Bool) [ true ↦ y | false ↦ false ] | false ↦ y ])
-names-step ns t u v x y h e =
-    let step : ℕ → Bool → Bool = λ w b. elim (isKnown ns (whole w)) as (λ _. Bool) [ true ↦ b | false ↦ false ] in
-    eitherBoth (λ (a b : Bool). a ≡ b) (isLock t) (λ k. ap (λ (w : ℕ). step w x) (h k) ∙ ap (step v) e) (λ _. e)
+-- one step of the check at a token t: w stands two places behind it, b is what is found behind it
+abbrev namesStep : (ℕ → ℕ → Bool) → ℕ → ℕ → Bool → Bool
+namesStep known t w b = elim (isNaming t) as (λ _. Bool) [ true ↦ elim (known t (whole w)) as (λ _. Bool) [ true ↦ b | false ↦ false ] | false ↦ b ]
 
--- THE NAMES OF ONE LINE AT TWO PLACES
-pub names-same : (s z ns : List ℕ) (left : ℕ) (ts : List ℕ) (p q i j : ℕ) → Closed ts → Stands s p (withEnd ts) q → Stands z i (withEnd ts) j → namesKnown s ns left p ≡ namesKnown z ns left i
+-- it goes by what stands two places behind a word that names
+names-step : (known : ℕ → ℕ → Bool) (t u v : ℕ) (x y : Bool) → (isNaming t ≡ true → u ≡ v) → x ≡ y → namesStep known t u x ≡ namesStep known t v y
+names-step known t u v x y h e =
+    let step : ℕ → Bool → Bool = λ w b. elim (known t (whole w)) as (λ _. Bool) [ true ↦ b | false ↦ false ] in
+    eitherBoth (λ (a b : Bool). a ≡ b) (isNaming t) (λ k. ap (λ (w : ℕ). step w x) (h k) ∙ ap (step v) e) (λ _. e)
+
+-- THE NAMES OF ONE LINE AT TWO PLACES, by any table
+pub names-same : (s z : List ℕ) (known : ℕ → ℕ → Bool) (left : ℕ) (ts : List ℕ) (p q i j : ℕ) → Closed ts → Stands s p (withEnd ts) q → Stands z i (withEnd ts) j → namesKnown s known left p ≡ namesKnown z known left i
 unfolding namesKnown
-names-same s z ns zero ts p q i j c h g = refl
-names-same s z ns (suc left) [] p q i j c h g = chosen _ _ _ (eq-eqb (getD s p 0) END (h .0)) ∙ sym (chosen _ _ _ (eq-eqb (getD z i 0) END (g .0)))
-names-same s z ns (suc left) (t ∷ ts) p q i j c h g =
+names-same s z known zero ts p q i j c h g = refl
+names-same s z known (suc left) [] p q i j c h g = chosen _ _ _ (eq-eqb (getD s p 0) END (h .0)) ∙ sym (chosen _ _ _ (eq-eqb (getD z i 0) END (g .0)))
+names-same s z known (suc left) (t ∷ ts) p q i j c h g =
     let off : eqb t END ≡ false = ne-eqb t END (λ e. let z = c .0 in omega arith) in
     let x : eqb (getD s p 0) END ≡ false = rw (h .0) off in
     let y : eqb (getD z i 0) END ≡ false = rw (g .0) off in
-    let again = names-same s z ns left ts (p + 1) q (i + 1) j (c .2) (h .1) (g .1) in
+    let again = names-same s z known left ts (p + 1) q (i + 1) j (c .2) (h .1) (g .1) in
     let two : p + 1 + 1 ≡ p + 2 = omega arith in
     let also : i + 1 + 1 ≡ i + 2 = omega arith in
-    let named : isLock t ≡ true → getD s (p + 2) 0 ≡ getD z (i + 2) 0 =
+    let named : isNaming t ≡ true → getD s (p + 2) 0 ≡ getD z (i + 2) 0 =
     λ k. let b = bounds LOCK UNLOCK t (told-so _ k) in let n = c .1 (b .0) (b .1) in rw (← two, ← also) (behind-first s ts (p + 1) q n (h .1) ∙ sym (behind-first z ts (i + 1) j n (g .1))) in
-    refused _ _ _ x ∙ rw (h .0, g .0) (names-step ns t (getD s (p + 2) 0) (getD z (i + 2) 0) _ _ named again) ∙ sym (refused _ _ _ y)
+    refused _ _ _ x
+    ∙ ap (λ (w : ℕ). namesStep known w (getD s (p + 2) 0) (namesKnown s known left (p + 1))) (h .0)
+    ∙ names-step known t (getD s (p + 2) 0) (getD z (i + 2) 0) _ _ named again
+    ∙ sym (ap (λ (w : ℕ). namesStep known w (getD z (i + 2) 0) (namesKnown z known left (i + 1))) (g .0))
+    ∙ sym (refused _ _ _ y)

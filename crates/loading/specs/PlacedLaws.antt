@@ -1,113 +1,138 @@
--- Laws of the set that holds some lines: its size, how many lines it has, and the tokens that stand where each begins. Nothing is assumed.
-use mathlib.Core.Path.{_≡_, refl, _∙_}
+-- Laws of lines that are placed in a set, by their slots: its size, its places, and the tokens that stand where each slot says. So of the set that holds some numbered lines. Nothing is assumed.
+use mathlib.Core.Path.{_≡_, refl, sym, _∙_}
 use mathlib.Core.List.{List, [], _∷_, map}
-use Prim.Native.Nat.{ℕ, zero, suc, _+_, _≤_, _<_}
+use Prim.Native.Nat.{ℕ, _+_, _≤_, _<_}
 use native.Mathlib.Omega.{arith}
 use lib.ListN.{length, getD, set, length-set, length-append, length-map}
 use lib.Seq.{getD-set-same, getD-set-other}
-use Rattle.tokens.specs.Token.{END, setSize, maxLines, textSize}
+use Rattle.tokens.specs.Token.{END, textSize, setSize, maxLines}
 use Rattle.grammar.specs.Meaning.{Stands}
-use Rattle.engine.specs.Set.{emptySet, firstPlace, startPlace, startOf, lineCount, withoutMark, withEnd, withLine}
+use Rattle.engine.specs.Set.{emptySet, firstPlace, startPlace, lineCount, withoutMark, withEnd, withLine, countPlace, withCount}
 use Rattle.grammar.specs.StandsLaws.{stands-same}
 use Rattle.values.specs.PutLaws.{put-length, put-before}
 use Rattle.loading.specs.StandLaws.{put-stands, empty-length}
-use Rattle.reader.specs.Row.{Row, total, placed, setOf}
+use Rattle.reader.specs.Row.{Row, total, Slotted, placed, ranked, withRows, setOf}
+
+-- ---- lines and their slots
+
+-- the tokens of a line as a set has them
+abbrev pub heldTokens : List ℕ → List ℕ
+heldTokens ts = withEnd (map withoutMark ts)
+
+pub held-length : (ts : List ℕ) → length (heldTokens ts) ≡ length ts + 1
+held-length ts = let a = length-append (map withoutMark ts) (END ∷ []) in let b = length-map ts withoutMark in omega arith
+
+-- the places that some lines take, one for the end of each
+unfoldable pub spread : List Slotted → ℕ
+spread [] = 0
+spread (x ∷ xs) = length (x .tokens) + 1 + spread xs
+
+-- no line of some has the slot i
+abbrev pub Free : ℕ → List Slotted → Type 0
+Free i [] = Unit {0}
+Free i (x ∷ xs) = (i ≡ x .slot → ⊥) × Free i xs
+
+-- each slot stands in the table, and no two lines have one
+abbrev pub SlotsApart : List Slotted → Type 0
+SlotsApart [] = Unit {0}
+SlotsApart (x ∷ xs) = (x .slot < firstPlace) × Free (x .slot) xs × SlotsApart xs
+
+-- each of some lines stands in a set where its slot says that it begins
+abbrev pub Laid : List ℕ → List Slotted → Type 0
+Laid s [] = Unit {0}
+Laid s (x ∷ xs) = (let p = getD s (x .slot) 0 in Stands s p (heldTokens (x .tokens)) (p + length (heldTokens (x .tokens)))) × Laid s xs
 
 -- ---- lines that are placed
 
--- the tokens of a line as a set has them
-abbrev pub heldTokens : Row → List ℕ
-heldTokens r = withEnd (map withoutMark (r .tokens))
-
-pub held-length : (r : Row) → length (heldTokens r) ≡ length (r .tokens) + 1
-held-length r = let a = length-append (map withoutMark (r .tokens)) (END ∷ []) in let b = length-map (r .tokens) withoutMark in omega arith
-
--- the array with the count and the start of a line
-abbrev begun : ℕ → ℕ → List ℕ → List ℕ
-begun k at s = set (set s 0 (k + 1)) (startPlace k) at
-
-begun-length : (k at : ℕ) (s : List ℕ) → length (begun k at s) ≡ length s
-begun-length k at s = length-set (set s 0 (k + 1)) (startPlace k) at ∙ length-set s 0 (k + 1)
-
-with-length : (r : Row) (k at : ℕ) (s : List ℕ) → length (withLine s k at (r .tokens)) ≡ length s
+with-length : (x : Slotted) (at : ℕ) (s : List ℕ) → length (withLine s (x .slot) at (x .tokens)) ≡ length s
 unfolding withLine
-with-length r k at s = put-length (heldTokens r) (begun k at s) at ∙ begun-length k at s
+with-length x at s = put-length (heldTokens (x .tokens)) (set s (x .slot) at) at ∙ length-set s (x .slot) at
 
-pub placed-length : (rs : List Row) (k at : ℕ) (s : List ℕ) → length (placed rs k at s) ≡ length s
+pub placed-length : (xs : List Slotted) (at : ℕ) (s : List ℕ) → length (placed xs at s) ≡ length s
 unfolding placed
-placed-length [] k at s = refl
-placed-length (r ∷ rs) k at s = placed-length rs (k + 1) _ (withLine s k at (r .tokens)) ∙ with-length r k at s
+placed-length [] at s = refl
+placed-length (x ∷ xs) at s = placed-length xs _ (withLine s (x .slot) at (x .tokens)) ∙ with-length x at s
 
--- a place before the tokens that has neither the count nor a start of these lines stays
-pub placed-keeps : (rs : List Row) (k at : ℕ) (s : List ℕ) (i : ℕ) → 0 < i → i < at → ((j : ℕ) → k ≤ j → j < k + length rs → i ≡ startPlace j → ⊥) → getD (placed rs k at s) i 0 ≡ getD s i 0
+-- a place before the tokens that is no slot of these lines stays
+pub placed-keeps : (xs : List Slotted) (at : ℕ) (s : List ℕ) (i : ℕ) → i < at → Free i xs → getD (placed xs at s) i 0 ≡ getD s i 0
 unfolding placed withLine
-placed-keeps [] k at s i n h g = refl
-placed-keeps (r ∷ rs) k at s i n h g =
-    placed-keeps rs (k + 1) (at + length (r .tokens) + 1) (withLine s k at (r .tokens)) i n (omega arith) (λ j a b e. g j (omega arith) (omega arith) e)
-    ∙ put-before (heldTokens r) (begun k at s) at i h
-    ∙ getD-set-other (set s 0 (k + 1)) (startPlace k) i at 0 (λ e. g k (omega arith) (omega arith) e)
-    ∙ getD-set-other s 0 i (k + 1) 0 (λ e. omega arith)
+placed-keeps [] at s i h f = refl
+placed-keeps (x ∷ xs) at s i h f =
+    placed-keeps xs (at + length (x .tokens) + 1) (withLine s (x .slot) at (x .tokens)) i (omega arith) (f .1)
+    ∙ put-before (heldTokens (x .tokens)) (set s (x .slot) at) at i h
+    ∙ getD-set-other s (x .slot) i at 0 (f .0)
 
--- so many lines there are then
-placed-count : (rs : List Row) (k at : ℕ) (s : List ℕ) → 0 < at → 0 < length s → lineCount s ≡ k → lineCount (placed rs k at s) ≡ k + length rs
+-- so does a place that no slot reaches
+free-behind : (xs : List Slotted) (i : ℕ) → SlotsApart xs → firstPlace ≤ i → Free i xs
+free-behind [] i a h = tt
+free-behind (x ∷ xs) i a h = let l = a .0 in (λ e. omega arith, free-behind xs i (a .2) h)
+
+-- the first of some lines is there, behind the table
+line-laid : (x : Slotted) (xs : List Slotted) (at : ℕ) (s : List ℕ) → SlotsApart (x ∷ xs) → firstPlace ≤ at → at + length (heldTokens (x .tokens)) ≤ length s →
+    let s′ = placed (x ∷ xs) at s in let p = getD s′ (x .slot) 0 in Stands s′ p (heldTokens (x .tokens)) (p + length (heldTokens (x .tokens)))
 unfolding placed withLine
-placed-count [] k at s h n e = omega arith
-placed-count (r ∷ rs) k at s h n e =
-    let l = with-length r k at s in
-    let c : lineCount (withLine s k at (r .tokens)) ≡ k + 1 =
-    put-before (heldTokens r) (begun k at s) at 0 h ∙ getD-set-other (set s 0 (k + 1)) (startPlace k) 0 at 0 (λ e. omega arith) ∙ getD-set-same s 0 (k + 1) 0 n in
-    let i = placed-count rs (k + 1) (at + length (r .tokens) + 1) (withLine s k at (r .tokens)) (omega arith) (omega arith) c in
-    omega arith
+line-laid x xs at s apart first room =
+    let w = withLine s (x .slot) at (x .tokens) in
+    let at′ = at + length (x .tokens) + 1 in
+    let n = held-length (x .tokens) in
+    let l = length-set s (x .slot) at in
+    let m = apart .0 in
+    let e : getD (placed xs at′ w) (x .slot) 0 ≡ at =
+    placed-keeps xs at′ w (x .slot) (omega arith) (apart .1)
+    ∙ put-before (heldTokens (x .tokens)) (set s (x .slot) at) at (x .slot) (omega arith)
+    ∙ getD-set-same s (x .slot) at 0 (omega arith) in
+    rw e (stands-same w (placed xs at′ w) (heldTokens (x .tokens)) at (at + length (heldTokens (x .tokens)))
+    (λ i a b. placed-keeps xs at′ w i (omega arith) (free-behind xs i (apart .2) (omega arith)))
+    (put-stands (heldTokens (x .tokens)) (set s (x .slot) at) at (at + length (heldTokens (x .tokens))) refl (omega arith)))
 
--- from rank k on, each of some lines stands in a set where the set says that it begins
-abbrev pub Laid : List ℕ → List Row → ℕ → Type 0
-Laid s [] k = Unit {0}
-Laid s (r ∷ rs) k = Stands s (startOf s k) (heldTokens r) (startOf s k + length (heldTokens r)) × Laid s rs (k + 1)
-
--- that one line is there, behind all places that say where lines begin
-line-laid : (r : Row) (rs : List Row) (k at : ℕ) (s : List ℕ) → k + suc (length rs) ≤ maxLines → firstPlace ≤ at → at + length (heldTokens r) ≤ length s →
-    let s′ = placed (r ∷ rs) k at s in Stands s′ (startOf s′ k) (heldTokens r) (startOf s′ k + length (heldTokens r))
-unfolding placed withLine
-line-laid r rs k at s few first room =
-    let w = withLine s k at (r .tokens) in
-    let at′ = at + length (r .tokens) + 1 in
-    let n = held-length r in
-    let l = begun-length k at s in
-    let m = length-set s 0 (k + 1) in
-    let e : getD (placed rs (k + 1) at′ w) (startPlace k) 0 ≡ at =
-    placed-keeps rs (k + 1) at′ w (startPlace k) (omega arith) (omega arith) (λ j a b e. omega arith)
-    ∙ put-before (heldTokens r) (begun k at s) at (startPlace k) (omega arith)
-    ∙ getD-set-same (set s 0 (k + 1)) (startPlace k) at 0 (omega arith) in
-    rw e (stands-same w (placed rs (k + 1) at′ w) (heldTokens r) at (at + length (heldTokens r))
-    (λ i a b. placed-keeps rs (k + 1) at′ w i (omega arith) (omega arith) (λ j c d e. omega arith))
-    (put-stands (heldTokens r) (begun k at s) at (at + length (heldTokens r)) refl (omega arith)))
-
-pub placed-laid : (rs : List Row) (k at : ℕ) (s : List ℕ) → k + length rs ≤ maxLines → firstPlace ≤ at → at + total rs ≤ length s → Laid (placed rs k at s) rs k
-unfolding placed total
-placed-laid [] k at s few first room = tt
-placed-laid (r ∷ rs) k at s few first room =
-    let n = held-length r in
-    let l = with-length r k at s in (
-      line-laid r rs k at s (omega arith) first (omega arith),
-      placed-laid rs (k + 1) (at + length (r .tokens) + 1) (withLine s k at (r .tokens)) (omega arith) (omega arith) (omega arith),
+-- LINES THAT ARE PLACED are there, each where its slot says, if no two have one slot and there is room for their tokens
+pub placed-laid : (xs : List Slotted) (at : ℕ) (s : List ℕ) → SlotsApart xs → firstPlace ≤ at → at + spread xs ≤ length s → Laid (placed xs at s) xs
+unfolding placed spread
+placed-laid [] at s apart first room = tt
+placed-laid (x ∷ xs) at s apart first room =
+    let n = held-length (x .tokens) in
+    let l = with-length x at s in (
+      line-laid x xs at s apart first (omega arith),
+      placed-laid xs (at + length (x .tokens) + 1) (withLine s (x .slot) at (x .tokens)) (apart .2) (omega arith) (omega arith),
     )
+
+-- ---- numbered lines, from rank k on
+
+ranked-spread : (rs : List Row) (k : ℕ) → spread (ranked rs k) ≡ total rs
+unfolding spread total
+ranked-spread [] k = refl
+ranked-spread (r ∷ rs) k = let i = ranked-spread rs (k + 1) in omega arith
+
+-- a place before their starts is none of their slots
+ranked-free : (rs : List Row) (k i : ℕ) → i < startPlace k → Free i (ranked rs k)
+ranked-free [] k i h = tt
+ranked-free (r ∷ rs) k i h = (λ e. omega arith, ranked-free rs (k + 1) i (omega arith))
+
+ranked-apart : (rs : List Row) (k : ℕ) → k + length rs ≤ maxLines → SlotsApart (ranked rs k)
+ranked-apart [] k h = tt
+ranked-apart (r ∷ rs) k h = (omega arith, ranked-free rs (k + 1) (startPlace k) (omega arith), ranked-apart rs (k + 1) (omega arith))
 
 -- ---- the set of some lines
 
+begun-length : (n : ℕ) → length (withCount emptySet countPlace n) ≡ setSize
+begun-length n = length-set emptySet countPlace n ∙ empty-length
+
 pub set-length : (rs : List Row) → length (setOf rs) ≡ setSize
 unfolding setOf
-set-length rs = placed-length rs 0 firstPlace emptySet ∙ empty-length
-
-empty-count : lineCount emptySet ≡ 0
-unfolding emptySet
-empty-count = refl
+set-length rs = placed-length (ranked rs 0) firstPlace (withCount emptySet countPlace (length rs)) ∙ begun-length (length rs)
 
 -- it has their count
-pub set-count : (rs : List Row) → getD (setOf rs) 0 0 ≡ length rs
+pub set-count : (rs : List Row) → lineCount (setOf rs) ≡ length rs
 unfolding setOf
-set-count rs = let e = empty-length in let n = placed-count rs 0 firstPlace emptySet (omega arith) (omega arith) empty-count in omega arith
+set-count rs =
+    let e = empty-length in
+    placed-keeps (ranked rs 0) firstPlace (withCount emptySet countPlace (length rs)) countPlace (omega arith) (ranked-free rs 0 countPlace (omega arith))
+    ∙ getD-set-same emptySet countPlace (length rs) 0 (omega arith)
 
 -- and each of them, by its rank, if there is room for their tokens
-pub set-laid : (rs : List Row) → length rs ≤ maxLines → total rs ≤ textSize + 1 → Laid (setOf rs) rs 0
+pub set-laid : (rs : List Row) → length rs ≤ maxLines → total rs ≤ textSize + 1 → Laid (setOf rs) (ranked rs 0)
 unfolding setOf
-set-laid rs few room = let e = empty-length in placed-laid rs 0 firstPlace emptySet (omega arith) (omega arith) (omega arith)
+set-laid rs few room =
+    let e = begun-length (length rs) in
+    let t = ranked-spread rs 0 in
+    placed-laid (ranked rs 0) firstPlace (withCount emptySet countPlace (length rs)) (ranked-apart rs 0 (omega arith)) (omega arith) (omega arith)

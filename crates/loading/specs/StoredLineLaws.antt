@@ -1,6 +1,6 @@
 -- Laws of a line that is taken: it is a line of the grammar, and the check tells the same of it where it stands in a set, without its marks. Nothing is assumed.
 use mathlib.Core.Path.{_≡_, refl, sym, ap, subst, _∙_}
-use mathlib.Core.Bool.{true, false}
+use mathlib.Core.Bool.{Bool, true, false}
 use mathlib.Core.List.{List, [], _∷_, map, map-append}
 use Prim.Native.Nat.{ℕ, _≤_, _<_}
 use native.Mathlib.Omega.{arith}
@@ -16,7 +16,7 @@ use Rattle.grammar.specs.NumbersTo.{numbersTo}
 use Rattle.grammar.specs.NumbersToLaws.{to-all-real, to-opens}
 use Rattle.grammar.specs.ClosedTokens.{Closed, front, front-end, front-closed, same-row}
 use Rattle.grammar.specs.AgreementLine.{line-found, line-fault, line-parts, not-deep, parts-number}
-use Rattle.engine.specs.Set.{emptySet, withoutMark, withEnd, isKnown, namesKnown}
+use Rattle.engine.specs.Set.{emptySet, withoutMark, withEnd, namesKnown}
 use Rattle.values.specs.PutLaws.{put-length}
 use Rattle.reader.specs.Load.{alone}
 use Rattle.grammar.specs.StandsLaws.{stands-self}
@@ -39,9 +39,10 @@ ended-unmarked l = sym (map-append withoutMark l (END ∷ []))
 opens-unmarked : (l : List ℕ) (n : ℕ) → opensTooMany (map withoutMark l) n ≡ opensTooMany l n
 opens-unmarked l n = rw (without-marks l) (to-opens unmarked unmarked-keeps l n)
 
--- and it names only numbers of ns, if it named only such as are all in ns
-names-unmarked : (l ns ns′ : List ℕ) → ((n : ℕ) → isKnown ns′ n ≡ true → isKnown ns n ≡ true) → namesKnown (withEnd l) ns′ setSize 0 ≡ true → namesKnown (withEnd (map withoutMark l)) ns setSize 0 ≡ true
-names-unmarked l ns ns′ f e = rw (ended-unmarked l, without-marks (withEnd l)) (to-names unmarked unmarked-keeps setSize (withEnd l) ns ns′ 0 f e)
+-- and it names only what is known by one table, if it named only what is known by another, and all that is known by the first
+names-unmarked : (l : List ℕ) (known known′ : ℕ → ℕ → Bool) → ((w n : ℕ) → known′ w n ≡ true → known w n ≡ true) → namesKnown (withEnd l) known′ setSize 0 ≡ true →
+    namesKnown (withEnd (map withoutMark l)) known setSize 0 ≡ true
+names-unmarked l known known′ f e = rw (ended-unmarked l, without-marks (withEnd l)) (to-names unmarked unmarked-keeps setSize (withEnd l) known known′ 0 f e)
 
 -- ---- a line that is taken
 
@@ -102,10 +103,10 @@ module _ (ts : List ℕ) (w : Written ts) (real : AllReal ts) (short : length ts
       let (x, y) = line-parts s size l p q (not-deep s p c) g (unmarked-fault (w .tree) ∙ w .faultless) in
       (g, c, ap (λ (z : Parts). z .number) x ∙ parts-number p l ∙ unmarked-number (w .tree), x)
 
-  -- and it names only numbers of ns, if it named only such as are all in ns
-  pub names-held : (s ns ns′ : List ℕ) (p q : ℕ) → Stands s p (withEnd (map withoutMark ts)) q →
-      ((n : ℕ) → isKnown ns′ n ≡ true → isKnown ns n ≡ true) → namesKnown (alone ts) ns′ setSize 0 ≡ true → namesKnown s ns setSize p ≡ true
-  names-held s ns ns′ p q h f e =
+  -- and it names only what is known, if it named only such as is known
+  pub names-held : (s : List ℕ) (known known′ : ℕ → ℕ → Bool) (p q : ℕ) → Stands s p (withEnd (map withoutMark ts)) q →
+      ((w n : ℕ) → known′ w n ≡ true → known w n ≡ true) → namesKnown (alone ts) known′ setSize 0 ≡ true → namesKnown s known setSize p ≡ true
+  names-held s known known′ p q h f e =
       let z = withEnd (map withoutMark ts) in
-      names-same s z ns setSize (map withoutMark ts) p q 0 (length z) (faultless-closed (map withoutMark ts) (unmarked-all-real ts real) held-clean) h (stands-self z)
-      ∙ names-unmarked ts ns ns′ f (sym (names-same (alone ts) (withEnd ts) ns′ setSize ts 0 _ 0 _ (w .closed) (alone-stands ts short) (stands-self (withEnd ts))) ∙ e)
+      names-same s z known setSize (map withoutMark ts) p q 0 (length z) (faultless-closed (map withoutMark ts) (unmarked-all-real ts real) held-clean) h (stands-self z)
+      ∙ names-unmarked ts known known′ f (sym (names-same (alone ts) (withEnd ts) known′ setSize ts 0 _ 0 _ (w .closed) (alone-stands ts short) (stands-self (withEnd ts))) ∙ e)

@@ -1,6 +1,6 @@
 -- Laws of a text that is taken: its lines with tokens are the rows, each without a fault, and they name only lines of the text. Nothing is assumed.
 use mathlib.Core.Path.{_≡_, refl, sym, _∙_}
-use mathlib.Core.Bool.{true}
+use mathlib.Core.Bool.{Bool, true}
 use mathlib.Core.List.{List, [], _∷_, _++_, map, append-assoc, append-nil}
 use Prim.Native.Nat.{ℕ, zero, suc, _≤_, _<_}
 use native.Mathlib.Omega.{arith}
@@ -12,7 +12,7 @@ use Rattle.values.specs.Choice.{decide, choice}
 use Rattle.values.specs.Numbers.{clash}
 use Rattle.tokens.specs.Token.{setSize, AllReal, maxLines, textSize}
 use Rattle.checking.specs.Fault.{lineAt}
-use Rattle.engine.specs.Set.{namesKnown}
+use Rattle.engine.specs.Set.{namesKnown, lockTable}
 use Rattle.text.specs.Tokens.{tokensOf}
 use Rattle.text.specs.TokensLaws.{tokens-real}
 use Rattle.text.specs.Lines.{Numbered, textLines, bodies, isBlank, numbered, tokenLines}
@@ -42,13 +42,13 @@ pub record Taking (t : List ℕ) (rs : List Row) : Type 0 where
   pub short : length t ≤ textSize
   pub few : length (tokenLines t) ≤ maxLines
   pub rows : rowsFrom [] (tokenLines t) ≡ taken rs
-  pub known : firstUnknown (numbersOf rs) rs ≡ 0
+  pub known : firstUnknown (lockTable (numbersOf rs)) rs ≡ 0
 
-named-taken : (o : Outcome) (rs : List Row) → named o ≡ taken rs → (o ≡ taken rs) × (firstUnknown (numbersOf rs) rs ≡ 0)
+named-taken : (o : Outcome) (rs : List Row) → named o ≡ taken rs → (o ≡ taken rs) × (firstUnknown (lockTable (numbersOf rs)) rs ≡ 0)
 unfolding named
-named-taken (taken qs) rs h = go (firstUnknown (numbersOf qs) qs) refl
+named-taken (taken qs) rs h = go (firstUnknown (lockTable (numbersOf qs)) qs) refl
   where
-    go : (k : ℕ) → firstUnknown (numbersOf qs) qs ≡ k → (taken qs ≡ taken rs) × (firstUnknown (numbersOf rs) rs ≡ 0)
+    go : (k : ℕ) → firstUnknown (lockTable (numbersOf qs)) qs ≡ k → (taken qs ≡ taken rs) × (firstUnknown (lockTable (numbersOf rs)) rs ≡ 0)
     go zero e = let f : taken qs ≡ taken rs = rw (e, named) at h in let g : qs ≡ rs = cc in (f, rw (← g) e)
     go (suc k) e = let f : refused notInSet (suc k) ≡ taken rs = rw (e, named) at h in clash (cc)
 named-taken (refused c k) rs h = clash (cc)
@@ -135,20 +135,20 @@ taken-fine t rs h = text-fine t rs (taking t rs h .rows)
 
 -- ---- 12
 
--- each of some rows names only the numbers ns
-abbrev pub Named : List ℕ → Row → Type 0
-Named ns r = namesKnown (alone (r .tokens)) ns setSize 0 ≡ true
+-- a row names only what is known
+abbrev pub Named : (ℕ → ℕ → Bool) → Row → Type 0
+Named known r = namesKnown (alone (r .tokens)) known setSize 0 ≡ true
 
-first-named : (ns : List ℕ) (rs : List Row) → All Fine rs → firstUnknown ns rs ≡ 0 → All (Named ns) rs
+first-named : (known : ℕ → ℕ → Bool) (rs : List Row) → All Fine rs → firstUnknown known rs ≡ 0 → All (Named known) rs
 unfolding firstUnknown
-first-named ns [] f h = tt
-first-named ns (r ∷ rs) f h =
-    choice _ (namesKnown (alone (r .tokens)) ns setSize 0) (firstUnknown ns rs) (r .place) 0 h
-    (λ t e. (t, first-named ns rs (f .1) e))
+first-named known [] f h = tt
+first-named known (r ∷ rs) f h =
+    choice _ (namesKnown (alone (r .tokens)) known setSize 0) (firstUnknown known rs) (r .place) 0 h
+    (λ t e. (t, first-named known rs (f .1) e))
     (λ _ e. let p = f .0 .place in absurd (omega arith))
 
-pub taken-named : (t : List ℕ) (rs : List Row) → outcome t ≡ taken rs → All (Named (numbersOf rs)) rs
-taken-named t rs h = first-named (numbersOf rs) rs (taken-fine t rs h) (taking t rs h .known)
+pub taken-named : (t : List ℕ) (rs : List Row) → outcome t ≡ taken rs → All (Named (lockTable (numbersOf rs))) rs
+taken-named t rs h = first-named (lockTable (numbersOf rs)) rs (taken-fine t rs h) (taking t rs h .known)
 
 -- ---- room
 

@@ -8,11 +8,11 @@ use lib.ListN.{length}
 use Rattle.values.specs.Codes.{tooLong, tooManyLines, notInSet}
 use Rattle.values.specs.Choice.{chosen, refused as not-chosen}
 use Rattle.tokens.specs.Token.{maxLines, textSize}
-use Rattle.engine.specs.Set.{emptySet, firstPlace}
+use Rattle.engine.specs.Set.{lockTable, emptySet}
 use Rattle.text.specs.Lines.{tokenLines}
 use Rattle.reader.specs.declared.draft.Draft.{Draft}
 use Rattle.reader.specs.declared.load_text.Loaded.{Loaded}
-use Rattle.reader.specs.Row.{Row, numbersOf, byNumber, placed, setOf}
+use Rattle.reader.specs.Row.{Row, numbersOf, byNumber, withRows, setOf}
 use Rattle.reader.specs.Load.{Outcome, taken, refused, rowsFrom, firstUnknown, named, outcome, answered, loadAnswer, loadSet}
 use Rattle.reader.specs.Draft.{rowsIn, Held, Says, Apart}
 use Rattle.reader.specs.RisingLaws.{taken-apart}
@@ -63,15 +63,15 @@ module _ (t : List ℕ) where
             go (refused c k) e w = let p = w .2 in let q = w .0 in absurd (omega arith)
 
       -- the lines rs are taken; u is where the first of them stands with an unknown name
-      module _ (rs : List Row) (e : rowsFrom [] (tokenLines t) ≡ taken rs) (u : ℕ) (g : u ≡ firstUnknown (numbersOf rs) rs) where
+      module _ (rs : List Row) (e : rowsFrom [] (tokenLines t) ≡ taken rs) (u : ℕ) (g : u ≡ firstUnknown (lockTable (numbersOf rs)) rs) where
         pub text-unknown : (u ≡ 0 → ⊥) → Loads (answered notInSet u) emptySet
         unfolding named
         text-unknown f = go u f (sym g)
           where
-            go : (v : ℕ) → (v ≡ 0 → ⊥) → firstUnknown (numbersOf rs) rs ≡ v → Loads (answered notInSet v) emptySet
+            go : (v : ℕ) → (v ≡ 0 → ⊥) → firstUnknown (lockTable (numbersOf rs)) rs ≡ v → Loads (answered notInSet v) emptySet
             go zero f z = absurd (f refl)
             go (suc k) f z = loads-refused notInSet (suc k) (by-names ∙ ap named e ∙ ap (λ (v : ℕ). elim v as (λ _. Outcome) [ zero ↦ taken rs | suc j ↦ refused notInSet (suc j) ]) z)
 
-        pub text-good : u ≡ 0 → (s : List ℕ) → s ≡ placed (byNumber rs) 0 firstPlace emptySet → Loads (answered 0 0) s
+        pub text-good : u ≡ 0 → (s : List ℕ) → s ≡ withRows emptySet (byNumber rs) → Loads (answered 0 0) s
         unfolding named setOf
         text-good z s w = rw w (loads-taken rs (by-names ∙ ap named e ∙ ap (λ (v : ℕ). elim v as (λ _. Outcome) [ zero ↦ taken rs | suc j ↦ refused notInSet (suc j) ]) (sym g ∙ z)))

@@ -1,5 +1,5 @@
 -- Loading: text to code, line and set (document 01, "Lines of text" and "Codes"). Definitions only.
-use mathlib.Core.Bool.{true, false}
+use mathlib.Core.Bool.{Bool, true, false}
 use mathlib.Core.List.{List, [], _∷_, _++_}
 use Prim.Native.Nat.{ℕ, zero, suc}
 use lib.Dec.{ltb}
@@ -8,7 +8,7 @@ use Rattle.values.specs.Codes.{tooLong, tooManyLines, makesNoToken, usedAbove, 
 use Rattle.values.specs.PutAt.{putAt}
 use Rattle.checking.specs.Fault.{lineAt}
 use Rattle.tokens.specs.Token.{setSize, maxLines, textSize}
-use Rattle.engine.specs.Set.{isKnown, namesKnown, emptySet}
+use Rattle.engine.specs.Set.{isKnown, namesKnown, lockTable, emptySet}
 use Rattle.engine.specs.State.{powerOn}
 use Rattle.text.specs.Tokens.{Tokens, tokensOf}
 use Rattle.text.specs.Lines.{Numbered, tokenLines}
@@ -57,13 +57,13 @@ rowsFrom rs (l ∷ ls) =
       | suc k ↦ refused (suc k) (l .place)
     ]
 
--- 12: the place of the first line with a LOCK or UNLOCK of a number that is none of ns; 0 if there is none
-unfoldable pub firstUnknown : List ℕ → List Row → ℕ
-firstUnknown ns [] = 0
-firstUnknown ns (r ∷ rs) = elim (namesKnown (alone (r .tokens)) ns setSize 0) [ true ↦ firstUnknown ns rs | false ↦ r .place ]
+-- 12: the place of the first line with a name that is not known; 0 if there is none
+unfoldable pub firstUnknown : (ℕ → ℕ → Bool) → List Row → ℕ
+firstUnknown known [] = 0
+firstUnknown known (r ∷ rs) = elim (namesKnown (alone (r .tokens)) known setSize 0) [ true ↦ firstUnknown known rs | false ↦ r .place ]
 
 unfoldable pub named : Outcome → Outcome
-named (taken rs) = elim (firstUnknown (numbersOf rs) rs) [ zero ↦ taken rs | suc k ↦ refused notInSet (suc k) ]
+named (taken rs) = elim (firstUnknown (lockTable (numbersOf rs)) rs) [ zero ↦ taken rs | suc k ↦ refused notInSet (suc k) ]
 named (refused c k) = refused c k
 
 -- 1 and 2 with line 0, first; then the first faulty line; then 12

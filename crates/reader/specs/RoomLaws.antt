@@ -1,4 +1,4 @@
--- The room of a text: the lines that are taken from 4,096 bytes, one place more for the end of each, fit 4,097 places. Assumes nothing.
+-- The room of a text: the lines that are taken from it, one place more for the end of each, fit one place more than its bytes. Assumes nothing.
 use mathlib.Core.Path.{_≡_}
 use mathlib.Core.List.{List, [], _∷_, _++_}
 use Prim.Native.Nat.{ℕ, suc, _+_, _≤_}

@@ -5,7 +5,7 @@ ghost use lib.ListN.{length, replicate};
 ghost use Rattle.values.specs.PutAt.{putAt};
 ghost use Rattle.tokens.specs.Token.{setSize};
 ghost use Rattle.checking.specs.Fault.{lineAt};
-ghost use Rattle.engine.specs.Set.{namesKnown, emptySet};
+ghost use Rattle.engine.specs.Set.{namesKnown, lockTable, emptySet};
 ghost use Rattle.reader.specs.Load.{alone};
 use checking::Line;
 use checking::line_at;
@@ -51,7 +51,7 @@ pub fn line_alone(row: &mut [u32; SIZE], tokens: &[u32]) -> Line
 // Whether each name of a line in it is one of some numbers.
 pub fn names_alone(row: &mut [u32; SIZE], numbers: &[u8; LINES], tokens: &[u32]) -> bool
     requires { ⌜ (now row ≡ emptySet) × (length (now tokens) ≤ setSize) ⌝ }
-    ensures { λ x. ⌜ (x ≡ namesKnown (alone (now (tokens .entry))) (now (numbers .entry)) setSize 0) × (now (row .exit) ≡ emptySet) ⌝ }
+    ensures { λ x. ⌜ (x ≡ namesKnown (alone (now (tokens .entry))) (lockTable (now (numbers .entry))) setSize 0) × (now (row .exit) ≡ emptySet) ⌝ }
 {
     lay(row, tokens);
     let known = names_known(row, numbers, 0);

@@ -2,7 +2,7 @@
 ghost use mathlib.Core.Path.{_≡_};
 ghost use Rattle.reader.specs.Load.{answered, loadAnswer, loadSet};
 use crate::by_number::first_unknown;
-use crate::by_number::put_by_number;
+use crate::by_number::put_rows;
 use crate::line_count::count_lines;
 use crate::lines::read_lines;
 use engine::State;
@@ -54,6 +54,6 @@ pub fn load(text: &[u8], set: &mut [u32; SIZE]) -> Loaded
     if k != 0 {
         return answered(NOT_IN_SET, k);
     }
-    put_by_number(&s, d, set);
+    put_rows(&s, d, set);
     answered(0, 0)
 }

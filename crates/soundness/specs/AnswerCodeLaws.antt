@@ -23,7 +23,7 @@ use Rattle.tokens.specs.Index.{isInside}
 use Rattle.checking.specs.Fault.{isRemoval}
 use Rattle.checking.specs.declared.line.Line.{Line}
 use Rattle.working.specs.Operators.{fromWorked, joinValues}
-use Rattle.working.specs.Variables.{run, countAt, fromFifoValue, fifoValue, fifoAt, variableValue}
+use Rattle.working.specs.Variables.{fifoOf, run, beatCount, fromFifoValue, fifoValue, fifoAt, variableValue}
 use Rattle.working.specs.Working.{told, valueOver, conditionValue, rightValue}
 use Rattle.engine.specs.Set.{noLine, rankIn}
 use Rattle.engine.specs.Write.{Vars, Celled, moved, changeAnswer, changeFifo, writeFifo, writeCell, writeInside, writeTo}
@@ -183,7 +183,7 @@ fifo-by xs n i =
 variable-by : (r c : List ℤ) (w i : ℕ) → WorkedBy (variableValue r c w i)
 unfolding variableValue fifoAt
 variable-by r c w i =
-    either WorkedBy (isInside w i) (λ e. either WorkedBy (eqb w R) (λ e. tt) (λ e. either WorkedBy (isFifo w) (λ e. fifo-by (run r w) (countAt c w) i) (λ e. tt))) (λ e. is-22)
+    either WorkedBy (isInside w i) (λ e. either WorkedBy (eqb w R) (λ e. tt) (λ e. either WorkedBy (isFifo w) (λ e. fifo-by (run r (fifoOf w)) (beatCount c (fifoOf w)) i) (λ e. tt))) (λ e. is-22)
 
 quotient-by : (a b : ℤ) → WorkedBy (quotientOf a b)
 unfolding quotientOf
@@ -235,14 +235,14 @@ change-by op xs n v =
     (either-cond MovedBy (eqb op 1) _ _ (either-cond MovedBy f _ _ (either-cond MovedBy (eqb n 0) _ _ is-32 tt) tt)
     (either-cond MovedBy f _ _ (either-cond MovedBy (equalTo v (pos 0)) _ _ tt is-34) tt))
 
-moved-by : (r c : List ℤ) (w : ℕ) (xs : List ℤ) (m : Moved) → MovedBy m → StopsBy TurnCode (moved r c w xs m)
-moved-by r c w xs (M.Done v n) h = tt
-moved-by r c w xs (M.Alarm k) h = h
-moved-by r c w xs M.Unfit h = is-22
+moved-by : (r c : List ℤ) (k : ℕ) (xs : List ℤ) (m : Moved) → MovedBy m → StopsBy TurnCode (moved r c k xs m)
+moved-by r c k xs (M.Done v n) h = tt
+moved-by r c k xs (M.Alarm a) h = h
+moved-by r c k xs M.Unfit h = is-22
 
 fifo-change-by : (r c : List ℤ) (op w : ℕ) (v : ℤ) → StopsBy TurnCode (changeFifo r c op w v)
 unfolding changeFifo
-fifo-change-by r c op w v = moved-by r c w _ (changeAnswer op (run r w) (countAt c w) v) (change-by op (run r w) (countAt c w) v)
+fifo-change-by r c op w v = moved-by r c (fifoOf w) _ (changeAnswer op (run r (fifoOf w)) (beatCount c (fifoOf w)) v) (change-by op (run r (fifoOf w)) (beatCount c (fifoOf w)) v)
 
 write-by : (x : Vars) (w i : ℕ) (v : ℤ) → StopsBy TurnCode (writeTo x w i v)
 unfolding writeTo writeInside writeFifo writeCell outputOf

@@ -20,7 +20,7 @@ use Rattle.engine.specs.declared.calls.Called.{Called}
 use Rattle.engine.specs.declared.named_line.Found.{Found}
 use Rattle.tokens.specs.Token.{maxLines}
 use Rattle.engine.specs.Set.{rankIn, soundLines}
-use Rattle.engine.specs.State.{stateCells}
+use Rattle.working.specs.Variables.{markerAt, countAt, stateCells}
 use Rattle.engine.specs.Sound.{isSound, isCell, isFlag}
 use Rattle.engine.specs.NamedLine.{foundAt, found}
 use Rattle.engine.specs.Calls.{withLocked, withCancelled, called, lockedCall, lockCall, unlockCall, cancelCall, resetCancelled, zeroed, resetState, resetCall}
@@ -90,56 +90,56 @@ reset-flags count ls a cs b h k l = rw (same-each maxLines k false) (by-place (d
     by-place (yes m) = flag-clear count k _ m
     by-place (no m) = rw (reset-keeps ls cs count k (omega (arith, m)), flag-beyond count k _ _ _ (omega (arith, m)) (h k l)) (flag-none count k)
 
--- 72 cells from 16 on are put in: each cell stays, or one of those stands there
-middle-place : (c z : List ℤ) (i : ℕ) → length z ≡ 72 → ((j : ℕ) → getD z j (pos 0) ≡ pos 0) →
-    (getD (take 16 c ++ (z ++ drop 88 c)) i (pos 0) ≡ getD c i (pos 0)) ⊎ ((getD (take 16 c ++ (z ++ drop 88 c)) i (pos 0) ≡ pos 0) × (i < 88))
-middle-place c z i lz zs = by-place (decLt i n) (decLt (i - n) 72) (decLt (length c) 16) (decLt i 88)
+-- cells from the markers up to the counts are put in: each cell stays, or one of those stands there
+middle-place : (c z : List ℤ) (i : ℕ) → length z ≡ (countAt - markerAt) → ((j : ℕ) → getD z j (pos 0) ≡ pos 0) →
+    (getD (take markerAt c ++ (z ++ drop countAt c)) i (pos 0) ≡ getD c i (pos 0)) ⊎ ((getD (take markerAt c ++ (z ++ drop countAt c)) i (pos 0) ≡ pos 0) × (i < countAt))
+middle-place c z i lz zs = by-place (decLt i n) (decLt (i - n) (countAt - markerAt)) (decLt (length c) markerAt) (decLt i countAt)
   where
     n : ℕ
-    n = length (take 16 c)
+    n = length (take markerAt c)
 
-    size : n ≡ min 16 (length c)
-    size = length-take 16 c
+    size : n ≡ min markerAt (length c)
+    size = length-take markerAt c
 
-    behind : n ≤ i → getD (take 16 c ++ (z ++ drop 88 c)) i (pos 0) ≡ getD (z ++ drop 88 c) (i - n) (pos 0)
-    behind l = append-behind (take 16 c) (z ++ drop 88 c) i (pos 0) l
+    behind : n ≤ i → getD (take markerAt c ++ (z ++ drop countAt c)) i (pos 0) ≡ getD (z ++ drop countAt c) (i - n) (pos 0)
+    behind l = append-behind (take markerAt c) (z ++ drop countAt c) i (pos 0) l
 
-    inside : n ≤ i → i - n < 72 → getD (take 16 c ++ (z ++ drop 88 c)) i (pos 0) ≡ pos 0
-    inside l m = behind l ∙ List·getD-append z (drop 88 c) (pos 0) (i - n) (omega arith) ∙ zs (i - n)
+    inside : n ≤ i → i - n < (countAt - markerAt) → getD (take markerAt c ++ (z ++ drop countAt c)) i (pos 0) ≡ pos 0
+    inside l m = behind l ∙ List·getD-append z (drop countAt c) (pos 0) (i - n) (omega arith) ∙ zs (i - n)
 
-    beyond : n ≤ i → 72 ≤ i - n → getD (take 16 c ++ (z ++ drop 88 c)) i (pos 0) ≡ getD c (88 + (i - n - 72)) (pos 0)
+    beyond : n ≤ i → (countAt - markerAt) ≤ i - n → getD (take markerAt c ++ (z ++ drop countAt c)) i (pos 0) ≡ getD c (countAt + (i - n - (countAt - markerAt))) (pos 0)
     beyond l m =
-        let e : i - n - length z ≡ i - n - 72 = omega arith in
-        behind l ∙ append-behind z (drop 88 c) (i - n) (pos 0) (omega arith) ∙ rw e (getD-drop 88 c (i - n - 72) (pos 0))
+        let e : i - n - length z ≡ i - n - (countAt - markerAt) = omega arith in
+        behind l ∙ append-behind z (drop countAt c) (i - n) (pos 0) (omega arith) ∙ rw e (getD-drop countAt c (i - n - (countAt - markerAt)) (pos 0))
 
     none : (j : ℕ) → length c ≤ j → getD c j (pos 0) ≡ pos 0
     none j l = List·getD-eq-default c (pos 0) {n = j} l
 
-    by-place : Dec (i < n) → Dec (i - n < 72) → Dec (length c < 16) → Dec (i < 88) →
-        (getD (take 16 c ++ (z ++ drop 88 c)) i (pos 0) ≡ getD c i (pos 0)) ⊎ ((getD (take 16 c ++ (z ++ drop 88 c)) i (pos 0) ≡ pos 0) × (i < 88))
-    by-place (yes l) a b e = inl (List·getD-append (take 16 c) (z ++ drop 88 c) (pos 0) i l ∙ getD-take 16 c i (pos 0) (omega (arith, size)))
+    by-place : Dec (i < n) → Dec (i - n < (countAt - markerAt)) → Dec (length c < markerAt) → Dec (i < countAt) →
+        (getD (take markerAt c ++ (z ++ drop countAt c)) i (pos 0) ≡ getD c i (pos 0)) ⊎ ((getD (take markerAt c ++ (z ++ drop countAt c)) i (pos 0) ≡ pos 0) × (i < countAt))
+    by-place (yes l) a b e = inl (List·getD-append (take markerAt c) (z ++ drop countAt c) (pos 0) i l ∙ getD-take markerAt c i (pos 0) (omega (arith, size)))
     by-place (no l) (yes a) b (yes e) = inr (inside (omega (arith, l)) a, e)
     by-place (no l) (yes a) b (no e) = inl (inside (omega (arith, l)) a ∙ sym (none i (omega (arith, l, e, size))))
     by-place (no l) (no a) (yes b) e = inl (beyond (omega (arith, l)) (omega (arith, a)) ∙ none _ (omega arith) ∙ sym (none i (omega (arith, l, a, size))))
     by-place (no l) (no a) (no b) e =
-        let q : 88 + (i - n - 72) ≡ i = omega (arith, l, a, b, size) in
+        let q : countAt + (i - n - (countAt - markerAt)) ≡ i = omega (arith, l, a, b, size) in
         inl (rw q at (beyond (omega (arith, l)) (omega (arith, a))))
 
-zeroed-place : (c : List ℤ) (i : ℕ) → (getD (zeroed c) i (pos 0) ≡ getD c i (pos 0)) ⊎ ((getD (zeroed c) i (pos 0) ≡ pos 0) × (i < 88))
+zeroed-place : (c : List ℤ) (i : ℕ) → (getD (zeroed c) i (pos 0) ≡ getD c i (pos 0)) ⊎ ((getD (zeroed c) i (pos 0) ≡ pos 0) × (i < countAt))
 unfolding zeroed
-zeroed-place c i = middle-place c (replicate 72 (pos 0)) i refl (λ j. same-each 72 j (pos 0))
+zeroed-place c i = middle-place c (replicate (countAt - markerAt) (pos 0)) i refl (λ j. same-each (countAt - markerAt) j (pos 0))
 
 zeroed-right : (c : List ℤ) → CellsRight c → CellsRight (zeroed c)
 zeroed-right c h i = by-place (zeroed-place c i)
   where
-    by-place : (getD (zeroed c) i (pos 0) ≡ getD c i (pos 0)) ⊎ ((getD (zeroed c) i (pos 0) ≡ pos 0) × (i < 88)) → isCell i (getD (zeroed c) i (pos 0)) ≡ true
+    by-place : (getD (zeroed c) i (pos 0) ≡ getD c i (pos 0)) ⊎ ((getD (zeroed c) i (pos 0) ≡ pos 0) × (i < countAt)) → isCell i (getD (zeroed c) i (pos 0)) ≡ true
     by-place (inl e) = rw e (h i)
     by-place (inr e) = rw (e .0) (zero-cell i)
 
-zeroed-count : (c : List ℤ) (k : ℕ) → getD (zeroed c) (88 + k) (pos 0) ≡ getD c (88 + k) (pos 0)
-zeroed-count c k = by-place (zeroed-place c (88 + k))
+zeroed-count : (c : List ℤ) (k : ℕ) → getD (zeroed c) (countAt + k) (pos 0) ≡ getD c (countAt + k) (pos 0)
+zeroed-count c k = by-place (zeroed-place c (countAt + k))
   where
-    by-place : (getD (zeroed c) (88 + k) (pos 0) ≡ getD c (88 + k) (pos 0)) ⊎ ((getD (zeroed c) (88 + k) (pos 0) ≡ pos 0) × (88 + k < 88)) → getD (zeroed c) (88 + k) (pos 0) ≡ getD c (88 + k) (pos 0)
+    by-place : (getD (zeroed c) (countAt + k) (pos 0) ≡ getD c (countAt + k) (pos 0)) ⊎ ((getD (zeroed c) (countAt + k) (pos 0) ≡ pos 0) × (countAt + k < countAt)) → getD (zeroed c) (countAt + k) (pos 0) ≡ getD c (countAt + k) (pos 0)
     by-place (inl e) = e
     by-place (inr e) = absurd (omega (arith, e .1))
 
@@ -203,7 +203,7 @@ pub resetCall-length : (s : List ℕ) (st : State) → length (st .cells) ≡ st
 unfolding resetCall resetState zeroed
 resetCall-length s st l =
     either (λ (c : Called). length (c .state .cells) ≡ stateCells) (isSound s st)
-    (λ p. omega (arith, length-append (take 16 (st .cells)) (replicate 72 (pos 0) ++ drop 88 (st .cells)), length-append (replicate 72 (pos 0)) (drop 88 (st .cells)), length-take 16 (st .cells), length-drop 88 (st .cells)))
+    (λ p. omega (arith, length-append (take markerAt (st .cells)) (replicate (countAt - markerAt) (pos 0) ++ drop countAt (st .cells)), length-append (replicate (countAt - markerAt) (pos 0)) (drop countAt (st .cells)), length-take markerAt (st .cells), length-drop countAt (st .cells)))
     (λ p. l)
 
 -- and its code is not 22

@@ -2,7 +2,7 @@
 use mathlib.Core.Path.{_≡_, refl, sym, ap, _∙_}
 use mathlib.Core.Bool.{Bool, true, false, cond, not, _&&_}
 use mathlib.Core.List.{List, [], _∷_, _++_}
-use Prim.Native.Nat.{ℕ, zero, suc, _+_, _*_, _-_, _≤_, _<_}
+use Prim.Native.Nat.{ℕ, zero, suc, _+_, _-_, _≤_, _<_}
 use native.Mathlib.Decide.{ℕ-discrete, decLt}
 use native.Mathlib.Omega.{arith}
 use lib.Dec.{ltb}
@@ -18,12 +18,12 @@ use Rattle.values.specs.Fifo.{places, Unused}
 use Rattle.values.specs.FifoLaws.{PlacesRanged, set-each, same-each, zero-in-range}
 use Rattle.values.specs.Numbers.{clash}
 use Rattle.tokens.specs.Token.{maxLines}
-use Rattle.working.specs.Variables.{asCount}
+use Rattle.working.specs.Variables.{fifos, runAt, markerAt, paramAt, timerAt, countAt, stateCells, run, asCount, countIn}
 use Rattle.engine.specs.declared.state.State.{State}
 use Rattle.engine.specs.Set.{soundLines}
-use Rattle.engine.specs.State.{fifos, stateCells, powerOn}
-use Rattle.engine.specs.Sound.{allRanged, isOutput, isCell, areCells, allZero, fifoRun, isFifoSound, areFifos, isFlag, areFlags, stateSound, isSound}
-use Rattle.engine.specs.Write.{withRunAt}
+use Rattle.engine.specs.State.{powerOn}
+use Rattle.engine.specs.Sound.{allRanged, isOutput, isCell, areCells, allZero, isFifoSound, areFifos, isFlag, areFlags, stateSound, isSound}
+use Rattle.engine.specs.Write.{withRun}
 
 -- ---- lists, place by place
 
@@ -60,7 +60,7 @@ by-kind false false false false = refl
 -- 0 is right in every cell
 pub zero-cell : (i : ℕ) → isCell i (pos 0) ≡ true
 unfolding isCell inRange outputOf wholeUnits equalTo lessThan
-zero-cell i = by-kind (ltb i 16) (ltb i 48) (ltb i 80) (ltb i 88)
+zero-cell i = by-kind (ltb i markerAt) (ltb i paramAt) (ltb i timerAt) (ltb i countAt)
 
 cells-from : (xs : List ℤ) (j : ℕ) → areCells xs j ≡ true → (i k : ℕ) → k ≡ j + i → isCell k (getD xs i (pos 0)) ≡ true
 unfolding areCells
@@ -91,44 +91,44 @@ unfolding isCell
 cell-ranged i v h = both (inRange v) _ h .0
 
 -- a timer's is a time
-pub timer-cell : (i : ℕ) (v : ℤ) → 80 ≤ i → i < 88 → isCell i v ≡ true → Timed v
+pub timer-cell : (i : ℕ) (v : ℤ) → timerAt ≤ i → i < countAt → isCell i v ≡ true → Timed v
 unfolding isCell
 timer-cell i v l m h =
-    let e = rw (le-ltb i 16 (omega arith), le-ltb i 48 (omega arith), le-ltb i 80 l, lt-ltb i 88 m) at (both (inRange v) _ h .1) in
+    let e = rw (le-ltb i markerAt (omega arith), le-ltb i paramAt (omega arith), le-ltb i timerAt l, lt-ltb i countAt m) at (both (inRange v) _ h .1) in
     (not-true (lessThan v (pos 0)) e, both (inRange v) _ h .0)
 
 -- a count's is a count
-pub count-cell : (i : ℕ) (v : ℤ) → 88 ≤ i → isCell i v ≡ true → asCount v ≤ places
+pub count-cell : (i : ℕ) (v : ℤ) → countAt ≤ i → isCell i v ≡ true → asCount v ≤ places
 unfolding isCell
 count-cell i v l h =
-    let e = rw (le-ltb i 16 (omega arith), le-ltb i 48 (omega arith), le-ltb i 80 (omega arith), le-ltb i 88 l) at (both (inRange v) _ h .1) in
+    let e = rw (le-ltb i markerAt (omega arith), le-ltb i paramAt (omega arith), le-ltb i timerAt (omega arith), le-ltb i countAt l) at (both (inRange v) _ h .1) in
     leb-true (asCount v) places e
 
 -- and what is right in a cell: 0 or 1 in an output's
-pub right-output : (i : ℕ) (v : ℤ) → i < 16 → inRange v ≡ true → isOutput v ≡ true → isCell i v ≡ true
+pub right-output : (i : ℕ) (v : ℤ) → i < markerAt → inRange v ≡ true → isOutput v ≡ true → isCell i v ≡ true
 unfolding isCell
-right-output i v l r e = rw (r, lt-ltb i 16 l) e
+right-output i v l r e = rw (r, lt-ltb i markerAt l) e
 
 -- whole units in a marker's
-pub right-marker : (i : ℕ) (v : ℤ) → 16 ≤ i → i < 48 → inRange v ≡ true → wholeUnits v ≡ v → isCell i v ≡ true
+pub right-marker : (i : ℕ) (v : ℤ) → markerAt ≤ i → i < paramAt → inRange v ≡ true → wholeUnits v ≡ v → isCell i v ≡ true
 unfolding isCell
-right-marker i v l m r e = rw (r, le-ltb i 16 l, lt-ltb i 48 m) (same-equal e)
+right-marker i v l m r e = rw (r, le-ltb i markerAt l, lt-ltb i paramAt m) (same-equal e)
 
 -- any value in a parameter's
-pub right-parameter : (i : ℕ) (v : ℤ) → 48 ≤ i → i < 80 → inRange v ≡ true → isCell i v ≡ true
+pub right-parameter : (i : ℕ) (v : ℤ) → paramAt ≤ i → i < timerAt → inRange v ≡ true → isCell i v ≡ true
 unfolding isCell
-right-parameter i v l m r = rw (r, le-ltb i 16 (omega arith), le-ltb i 48 l, lt-ltb i 80 m)
+right-parameter i v l m r = rw (r, le-ltb i markerAt (omega arith), le-ltb i paramAt l, lt-ltb i timerAt m)
 
 -- a time in a timer's
-pub right-timer : (i : ℕ) (v : ℤ) → 80 ≤ i → i < 88 → Timed v → isCell i v ≡ true
+pub right-timer : (i : ℕ) (v : ℤ) → timerAt ≤ i → i < countAt → Timed v → isCell i v ≡ true
 unfolding isCell
-right-timer i v l m t = rw (t .1, le-ltb i 16 (omega arith), le-ltb i 48 (omega arith), le-ltb i 80 l, lt-ltb i 88 m, t .0)
+right-timer i v l m t = rw (t .1, le-ltb i markerAt (omega arith), le-ltb i paramAt (omega arith), le-ltb i timerAt l, lt-ltb i countAt m, t .0)
 
 -- a count in a count's
-pub right-count : (i : ℕ) (n : ℕ) → 88 ≤ i → n ≤ places → isCell i (pos n) ≡ true
+pub right-count : (i : ℕ) (n : ℕ) → countAt ≤ i → n ≤ places → isCell i (pos n) ≡ true
 unfolding isCell
 right-count i n l h =
-    rw (abs-range (pos n) (omega arith), le-ltb i 16 (omega arith), le-ltb i 48 (omega arith), le-ltb i 80 (omega arith), le-ltb i 88 l, le-leb n places h) (le-leb n places h)
+    rw (abs-range (pos n) (omega arith), le-ltb i markerAt (omega arith), le-ltb i paramAt (omega arith), le-ltb i timerAt (omega arith), le-ltb i countAt l, le-leb n places h) (le-leb n places h)
 
 -- ---- unused places of FIFOs
 
@@ -143,21 +143,17 @@ unfolding allZero
 each-zero [] h = refl
 each-zero (v ∷ vs) h = and-true (same-equal (h 0)) (each-zero vs (λ i. h (suc i)))
 
--- the count of FIFO k, from 0, as the state has it
-abbrev pub fifoCount : List ℤ → ℕ → ℕ
-fifoCount c k = asCount (getD c (88 + k) (pos 0))
-
 -- the test says it of every unused place
-pub fifo-each : (r c : List ℤ) (k : ℕ) → isFifoSound r c k ≡ true → Unused (fifoRun r k) (fifoCount c k)
+pub fifo-each : (r c : List ℤ) (k : ℕ) → isFifoSound r c k ≡ true → Unused (run r k) (countIn c k)
 unfolding isFifoSound
 fifo-each r c k h i l =
-    let e : fifoCount c k + (i - fifoCount c k) ≡ i = omega arith in
-    rw (getD-drop, e) at (zero-each (drop (fifoCount c k) (fifoRun r k)) h (i - fifoCount c k))
+    let e : countIn c k + (i - countIn c k) ≡ i = omega arith in
+    rw (getD-drop, e) at (zero-each (drop (countIn c k) (run r k)) h (i - countIn c k))
 
 -- and every unused place makes the test true
-pub each-fifo : (r c : List ℤ) (k : ℕ) → Unused (fifoRun r k) (fifoCount c k) → isFifoSound r c k ≡ true
+pub each-fifo : (r c : List ℤ) (k : ℕ) → Unused (run r k) (countIn c k) → isFifoSound r c k ≡ true
 unfolding isFifoSound
-each-fifo r c k h = each-zero (drop (fifoCount c k) (fifoRun r k)) (λ i. getD-drop (fifoCount c k) (fifoRun r k) i (pos 0) ∙ h (fifoCount c k + i) (omega arith))
+each-fifo r c k h = each-zero (drop (countIn c k) (run r k)) (λ i. getD-drop (countIn c k) (run r k) i (pos 0) ∙ h (countIn c k + i) (omega arith))
 
 -- ---- the flags of every line
 
@@ -190,19 +186,19 @@ each-flags count a b c h = from-flags count a b c maxLines 0 (λ k l m. h k (ome
 pub record CellsSound (r c : List ℤ) : Type 0 where
   pub ranged : PlacesRanged r
   pub right : CellsRight c
-  pub unused : (k : ℕ) → k < 4 → Unused (fifoRun r k) (fifoCount c k)
+  pub unused : (k : ℕ) → k < fifos → Unused (run r k) (countIn c k)
 
 -- a sound state
 pub record StateRight (count : ℕ) (st : State) : Type 0 where
   pub cells : CellsSound (st .r) (st .cells)
   pub flags : FlagsRight count (st .locked) (st .cancelled) (st .memory)
 
-below-four : (P : ℕ → Type 0) → P 0 → P 1 → P 2 → P 3 → (k : ℕ) → k < 4 → P k
-below-four P a b c d zero l = a
-below-four P a b c d (suc zero) l = b
-below-four P a b c d (suc (suc zero)) l = c
-below-four P a b c d (suc (suc (suc zero))) l = d
-below-four P a b c d (suc (suc (suc (suc k)))) l = absurd (omega arith)
+each-below : (P : ℕ → Type 0) → P 0 → P 1 → P 2 → P 3 → (k : ℕ) → k < fifos → P k
+each-below P a b c d zero l = a
+each-below P a b c d (suc zero) l = b
+each-below P a b c d (suc (suc zero)) l = c
+each-below P a b c d (suc (suc (suc zero))) l = d
+each-below P a b c d (suc (suc (suc (suc k)))) l = absurd (omega arith)
 
 -- what the computed test says
 pub sound-right : (count : ℕ) (st : State) → stateSound count st ≡ true → StateRight count st
@@ -218,7 +214,7 @@ sound-right count st h =
       cells = record {
         ranged = ranged-each (st .r) (both (allRanged (st .r)) _ h .0);
         right = cells-each (st .cells) (both (areCells (st .cells) 0) _ h1 .0);
-        unused = below-four (λ k. Unused (fifoRun (st .r) k) (fifoCount (st .cells) k))
+        unused = each-below (λ k. Unused (run (st .r) k) (countIn (st .cells) k))
             (fifo-each (st .r) (st .cells) 0 (both (isFifoSound (st .r) (st .cells) 0) _ f0 .0))
             (fifo-each (st .r) (st .cells) 1 (both (isFifoSound (st .r) (st .cells) 1) _ f1 .0))
             (fifo-each (st .r) (st .cells) 2 (both (isFifoSound (st .r) (st .cells) 2) _ f2 .0))
@@ -339,110 +335,110 @@ module _ (count : ℕ) (locked cancelled memory : List Bool) (h : FlagsRight cou
 -- ---- what keeps it: R and the cells
 
 -- the run of a FIFO goes by its sixteen places
-pub run-place : (r : List ℤ) (k i : ℕ) → i < places → getD (fifoRun r k) i (pos 0) ≡ getD r (100 + places * k + i) (pos 0)
-run-place r k i l = getD-take places (drop (100 + places * k) r) i (pos 0) l ∙ getD-drop (100 + places * k) r i (pos 0)
+pub run-place : (r : List ℤ) (k i : ℕ) → i < places → getD (run r k) i (pos 0) ≡ getD r (runAt k + i) (pos 0)
+run-place r k i l = getD-take places (drop (runAt k) r) i (pos 0) l ∙ getD-drop (runAt k) r i (pos 0)
 
 -- behind them it reads 0
-pub run-behind : (r : List ℤ) (k i : ℕ) → places ≤ i → getD (fifoRun r k) i (pos 0) ≡ pos 0
-run-behind r k i l = List·getD-eq-default (fifoRun r k) (pos 0) {n = i} (omega (arith, length-take places (drop (100 + places * k) r)))
+pub run-behind : (r : List ℤ) (k i : ℕ) → places ≤ i → getD (run r k) i (pos 0) ≡ pos 0
+run-behind r k i l = List·getD-eq-default (run r k) (pos 0) {n = i} (omega (arith, length-take places (drop (runAt k) r)))
 
 -- a run of an R in range is in range
-pub run-ranged : (r : List ℤ) (k : ℕ) → PlacesRanged r → PlacesRanged (fifoRun r k)
+pub run-ranged : (r : List ℤ) (k : ℕ) → PlacesRanged r → PlacesRanged (run r k)
 run-ranged r k h i = by-place (decLt i places)
   where
-    by-place : Dec (i < places) → inRange (getD (fifoRun r k) i (pos 0)) ≡ true
-    by-place (yes l) = rw (run-place r k i l) (h (100 + places * k + i))
+    by-place : Dec (i < places) → inRange (getD (run r k) i (pos 0)) ≡ true
+    by-place (yes l) = rw (run-place r k i l) (h (runAt k + i))
     by-place (no l) = rw (run-behind r k i (omega (arith, l))) zero-in-range
 
 module _ (r c : List ℤ) (h : CellsSound r c) where
   -- a value in range is written to R below the FIFOs
-  pub r-keeps : (i : ℕ) (v : ℤ) → i < 100 → inRange v ≡ true → CellsSound (set r i v) c
+  pub r-keeps : (i : ℕ) (v : ℤ) → i < runAt 0 → inRange v ≡ true → CellsSound (set r i v) c
   r-keeps i v l e = record {
     ranged = set-each (λ j z. inRange z ≡ true) r i v (pos 0) e (h .ranged);
     right = h .right;
-    unused = λ k m. rw (drop-set-lt (100 + places * k) r i v (omega arith)) (h .unused k m);
+    unused = λ k m. rw (drop-set-lt (runAt k) r i v (omega arith)) (h .unused k m);
   }
 
   -- a cell below the counts is written with a value that is right there
-  pub cell-keeps : (i : ℕ) (v : ℤ) → i < 88 → isCell i v ≡ true → CellsSound r (set c i v)
+  pub cell-keeps : (i : ℕ) (v : ℤ) → i < countAt → isCell i v ≡ true → CellsSound r (set c i v)
   cell-keeps i v l e = record {
     ranged = h .ranged;
     right = set-each (λ j z. isCell j z ≡ true) c i v (pos 0) e (h .right);
-    unused = λ k m. rw (getD-set-other c i (88 + k) v (pos 0) (λ q. omega arith)) (h .unused k m);
+    unused = λ k m. rw (getD-set-other c i (countAt + k) v (pos 0) (λ q. omega arith)) (h .unused k m);
   }
 
 -- other cells, as right as these and with the same counts
-pub cells-swapped : (r c d : List ℤ) → CellsSound r c → CellsRight d → ((k : ℕ) → getD d (88 + k) (pos 0) ≡ getD c (88 + k) (pos 0)) → CellsSound r d
+pub cells-swapped : (r c d : List ℤ) → CellsSound r c → CellsRight d → ((k : ℕ) → getD d (countAt + k) (pos 0) ≡ getD c (countAt + k) (pos 0)) → CellsSound r d
 cells-swapped r c d h e q = record { ranged = h .ranged; right = e; unused = λ k m. rw (q k) (h .unused k m) }
 
 -- ---- what keeps it: a FIFO's run replaced, with its count
 
--- R with sixteen places from a on replaced: before, inside and behind them
-module _ (a : ℕ) (r ys : List ℤ) (l : a + places ≤ length r) (ly : length ys ≡ places) where
-  front : length (take a r) ≡ a
-  front = length-take-le a r (omega arith)
+-- R with the run of FIFO k replaced: before, inside and behind it
+module _ (k : ℕ) (r ys : List ℤ) (l : runAt k + places ≤ length r) (ly : length ys ≡ places) where
+  front : length (take (runAt k) r) ≡ runAt k
+  front = length-take-le (runAt k) r (omega arith)
 
-  replaced-before : (m : ℕ) → m < a → getD (withRunAt a r ys) m (pos 0) ≡ getD r m (pos 0)
-  replaced-before m n = List·getD-append (take a r) (ys ++ drop (a + places) r) (pos 0) m (omega (arith, front)) ∙ getD-take a r m (pos 0) n
+  replaced-before : (m : ℕ) → m < runAt k → getD (withRun r k ys) m (pos 0) ≡ getD r m (pos 0)
+  replaced-before m n = List·getD-append (take (runAt k) r) (ys ++ drop (runAt k + places) r) (pos 0) m (omega (arith, front)) ∙ getD-take (runAt k) r m (pos 0) n
 
-  replaced-from : (i : ℕ) → getD (withRunAt a r ys) (a + i) (pos 0) ≡ getD (ys ++ drop (a + places) r) i (pos 0)
-  replaced-from i = sym (getD-drop a (withRunAt a r ys) i (pos 0)) ∙ ap (λ (z : List ℤ). getD z i (pos 0)) (drop-at (take a r) (ys ++ drop (a + places) r) a front)
+  replaced-from : (i : ℕ) → getD (withRun r k ys) (runAt k + i) (pos 0) ≡ getD (ys ++ drop (runAt k + places) r) i (pos 0)
+  replaced-from i = sym (getD-drop (runAt k) (withRun r k ys) i (pos 0)) ∙ ap (λ (z : List ℤ). getD z i (pos 0)) (drop-at (take (runAt k) r) (ys ++ drop (runAt k + places) r) (runAt k) front)
 
-  replaced-inside : (i : ℕ) → i < places → getD (withRunAt a r ys) (a + i) (pos 0) ≡ getD ys i (pos 0)
-  replaced-inside i n = replaced-from i ∙ List·getD-append ys (drop (a + places) r) (pos 0) i (omega arith)
+  replaced-inside : (i : ℕ) → i < places → getD (withRun r k ys) (runAt k + i) (pos 0) ≡ getD ys i (pos 0)
+  replaced-inside i n = replaced-from i ∙ List·getD-append ys (drop (runAt k + places) r) (pos 0) i (omega arith)
 
-  replaced-behind : (m : ℕ) → a + places ≤ m → getD (withRunAt a r ys) m (pos 0) ≡ getD r m (pos 0)
+  replaced-behind : (m : ℕ) → runAt k + places ≤ m → getD (withRun r k ys) m (pos 0) ≡ getD r m (pos 0)
   replaced-behind m n =
-      let e : a + (m - a) ≡ m = omega arith in
-      let f : a + places + (m - a - length ys) ≡ m = omega arith in
-      rw e at (replaced-from (m - a))
-      ∙ append-behind ys (drop (a + places) r) (m - a) (pos 0) (omega arith)
-      ∙ getD-drop (a + places) r (m - a - length ys) (pos 0)
-      ∙ ap (λ (k : ℕ). getD r k (pos 0)) f
+      let e : runAt k + (m - runAt k) ≡ m = omega arith in
+      let f : runAt k + places + (m - runAt k - length ys) ≡ m = omega arith in
+      rw e at (replaced-from (m - runAt k))
+      ∙ append-behind ys (drop (runAt k + places) r) (m - runAt k) (pos 0) (omega arith)
+      ∙ getD-drop (runAt k + places) r (m - runAt k - length ys) (pos 0)
+      ∙ ap (λ (j : ℕ). getD r j (pos 0)) f
 
   -- as long as before
-  pub replaced-length : length (withRunAt a r ys) ≡ length r
-  replaced-length = omega (arith, length-append (take a r) (ys ++ drop (a + places) r), length-append ys (drop (a + places) r), length-drop (a + places) r, front)
+  pub replaced-length : length (withRun r k ys) ≡ length r
+  replaced-length = omega (arith, length-append (take (runAt k) r) (ys ++ drop (runAt k + places) r), length-append ys (drop (runAt k + places) r), length-drop (runAt k + places) r, front)
 
   -- what holds of every place of both holds of all
-  replaced-each : (P : ℤ → Type 0) → ((i : ℕ) → P (getD r i (pos 0))) → ((i : ℕ) → P (getD ys i (pos 0))) → (m : ℕ) → P (getD (withRunAt a r ys) m (pos 0))
-  replaced-each P p q m = by-place (decLt m a) (decLt m (a + places))
+  replaced-each : (P : ℤ → Type 0) → ((i : ℕ) → P (getD r i (pos 0))) → ((i : ℕ) → P (getD ys i (pos 0))) → (m : ℕ) → P (getD (withRun r k ys) m (pos 0))
+  replaced-each P p q m = by-place (decLt m (runAt k)) (decLt m (runAt k + places))
     where
-      by-place : Dec (m < a) → Dec (m < a + places) → P (getD (withRunAt a r ys) m (pos 0))
+      by-place : Dec (m < runAt k) → Dec (m < runAt k + places) → P (getD (withRun r k ys) m (pos 0))
       by-place (yes n) d = rw (replaced-before m n) (p m)
-      by-place (no n) (yes d) = let e : a + (m - a) ≡ m = omega (arith, n) in rw (← e, replaced-inside (m - a) (omega (arith, n))) (q (m - a))
+      by-place (no n) (yes d) = let e : runAt k + (m - runAt k) ≡ m = omega (arith, n) in rw (← e, replaced-inside (m - runAt k) (omega (arith, n))) (q (m - runAt k))
       by-place (no n) (no d) = rw (replaced-behind m (omega (arith, d))) (p m)
 
-module _ (r c : List ℤ) (k : ℕ) (ys : List ℤ) (n : ℕ) (lk : k < 4) (lc : length c ≡ stateCells) (lr : 100 + places * k + places ≤ length r)
+module _ (r c : List ℤ) (k : ℕ) (ys : List ℤ) (n : ℕ) (lk : k < fifos) (lc : length c ≡ stateCells) (lr : runAt k + places ≤ length r)
     (ly : length ys ≡ places) (ln : n ≤ places) (u : Unused ys n) where
-  run-own : (i : ℕ) → n ≤ i → getD (fifoRun (withRunAt (100 + places * k) r ys) k) i (pos 0) ≡ pos 0
+  run-own : (i : ℕ) → n ≤ i → getD (run (withRun r k ys) k) i (pos 0) ≡ pos 0
   run-own i m = by-place (decLt i places)
     where
-      by-place : Dec (i < places) → getD (fifoRun (withRunAt (100 + places * k) r ys) k) i (pos 0) ≡ pos 0
-      by-place (yes l) = run-place (withRunAt (100 + places * k) r ys) k i l ∙ replaced-inside (100 + places * k) r ys lr ly i l ∙ u i m
-      by-place (no l) = run-behind (withRunAt (100 + places * k) r ys) k i (omega (arith, l))
+      by-place : Dec (i < places) → getD (run (withRun r k ys) k) i (pos 0) ≡ pos 0
+      by-place (yes l) = run-place (withRun r k ys) k i l ∙ replaced-inside k r ys lr ly i l ∙ u i m
+      by-place (no l) = run-behind (withRun r k ys) k i (omega (arith, l))
 
-  run-other : (j i : ℕ) → (j ≡ k → ⊥) → getD (fifoRun (withRunAt (100 + places * k) r ys) j) i (pos 0) ≡ getD (fifoRun r j) i (pos 0)
+  run-other : (j i : ℕ) → (j ≡ k → ⊥) → getD (run (withRun r k ys) j) i (pos 0) ≡ getD (run r j) i (pos 0)
   run-other j i q = by-place (decLt i places) (decLt j k)
     where
-      by-place : Dec (i < places) → Dec (j < k) → getD (fifoRun (withRunAt (100 + places * k) r ys) j) i (pos 0) ≡ getD (fifoRun r j) i (pos 0)
+      by-place : Dec (i < places) → Dec (j < k) → getD (run (withRun r k ys) j) i (pos 0) ≡ getD (run r j) i (pos 0)
       by-place (yes l) (yes m) =
-          run-place (withRunAt (100 + places * k) r ys) j i l ∙ replaced-before (100 + places * k) r ys lr ly (100 + places * j + i) (omega arith) ∙ sym (run-place r j i l)
+          run-place (withRun r k ys) j i l ∙ replaced-before k r ys lr ly (runAt j + i) (omega arith) ∙ sym (run-place r j i l)
       by-place (yes l) (no m) =
-          run-place (withRunAt (100 + places * k) r ys) j i l ∙ replaced-behind (100 + places * k) r ys lr ly (100 + places * j + i) (omega (arith, q, m)) ∙ sym (run-place r j i l)
-      by-place (no l) d = run-behind (withRunAt (100 + places * k) r ys) j i (omega (arith, l)) ∙ sym (run-behind r j i (omega (arith, l)))
+          run-place (withRun r k ys) j i l ∙ replaced-behind k r ys lr ly (runAt j + i) (omega (arith, q, m)) ∙ sym (run-place r j i l)
+      by-place (no l) d = run-behind (withRun r k ys) j i (omega (arith, l)) ∙ sym (run-behind r j i (omega (arith, l)))
 
-  count-own : fifoCount (set c (88 + k) (pos n)) k ≡ n
-  count-own = rw (getD-set-same c (88 + k) (pos n) (pos 0) (omega arith), le-leb n places ln)
+  count-own : countIn (set c (countAt + k) (pos n)) k ≡ n
+  count-own = rw (getD-set-same c (countAt + k) (pos n) (pos 0) (omega arith), le-leb n places ln)
 
   -- FIFO k has new places and a new count
-  pub fifo-keeps : CellsSound r c → PlacesRanged ys → CellsSound (withRunAt (100 + places * k) r ys) (set c (88 + k) (pos n))
+  pub fifo-keeps : CellsSound r c → PlacesRanged ys → CellsSound (withRun r k ys) (set c (countAt + k) (pos n))
   fifo-keeps h p = record {
-    ranged = replaced-each (100 + places * k) r ys lr ly (λ z. inRange z ≡ true) (h .ranged) p;
-    right = set-each (λ j z. isCell j z ≡ true) c (88 + k) (pos n) (pos 0) (right-count (88 + k) n (omega arith) ln) (h .right);
+    ranged = replaced-each k r ys lr ly (λ z. inRange z ≡ true) (h .ranged) p;
+    right = set-each (λ j z. isCell j z ≡ true) c (countAt + k) (pos n) (pos 0) (right-count (countAt + k) n (omega arith) ln) (h .right);
     unused = λ j m. unused′ j m (ℕ-discrete j k);
   }
     where
-      unused′ : (j : ℕ) → j < 4 → Dec (j ≡ k) → Unused (fifoRun (withRunAt (100 + places * k) r ys) j) (fifoCount (set c (88 + k) (pos n)) j)
+      unused′ : (j : ℕ) → j < fifos → Dec (j ≡ k) → Unused (run (withRun r k ys) j) (countIn (set c (countAt + k) (pos n)) j)
       unused′ j m (yes q) = rw (q, count-own) run-own
-      unused′ j m (no q) = λ i b. run-other j i q ∙ h .unused j m i (rw (getD-set-other c (88 + k) (88 + j) (pos n) (pos 0) (λ e. q (omega arith))) at b)
+      unused′ j m (no q) = λ i b. run-other j i q ∙ h .unused j m i (rw (getD-set-other c (countAt + k) (countAt + j) (pos n) (pos 0) (λ e. q (omega arith))) at b)

@@ -13,7 +13,7 @@ use Rattle.values.specs.Numbers.{clash}
 use Rattle.tokens.specs.Token.{END, EQUALS, OPEN, CLOSE, LEFT, RIGHT, TRUE, FALSE, MINUS, NOT, FIFO1, FIFO4, M, NUMBER, X, W, IN, IM, POS, MOV, LOCK, UNLOCK, SETAL, between, isNumber, isVariable, hasAxis, isAxis, isDrive, isCall, isFifo, isFactor, isTerm, isCompare, isLogic, isWhole, numberCarried, whole, setSize}
 use Rattle.tokens.specs.Descent.{token, Answer, good, stop, Read, read, ends, then, upTo, Meaning, isRow, isIndex, isIndexed, indexAt, joined, more, readProduct, readSum, readRest, readExpression, readClose, readVariable, readTruth, operandFrom, readOperand, sumAt, expressionAt}
 use Rattle.checking.specs.Fault.{Sight, sight, faultFor, isRemoval, assignedAt, assignmentAt, commandAt, actionAt}
-use Rattle.engine.specs.Set.{isKnown, isLock, namesKnown}
+use Rattle.engine.specs.Set.{isNaming, namesKnown}
 
 -- a token that does not end a line
 abbrev pub NoEnd : ℕ → Type 0
@@ -232,35 +232,35 @@ module _ (s : List ℕ) where
 
   -- ---- the names in a line
 
-  -- a LOCK or UNLOCK at q names a line, where the names from p on were found known and no line ends before q
-  names-from : (ns : List ℕ) (left p q : ℕ) → namesKnown s ns left p ≡ true → Passed p q → q < p + left → isLock (token s q) ≡ true → isKnown ns (whole (token s (q + 2))) ≡ true
+  -- a word at q names what is known, where the names from p on were found known and no line ends before q
+  names-from : (known : ℕ → ℕ → Bool) (left p q : ℕ) → namesKnown s known left p ≡ true → Passed p q → q < p + left → isNaming (token s q) ≡ true → known (token s q) (whole (token s (q + 2))) ≡ true
   unfolding namesKnown
-  names-from ns zero p q h k l e = absurd (omega (arith, k .on))
-  names-from ns (suc left) p q h k l e = by-place (ℕ-discrete q p) (λ g m. names-from ns left (p + 1) q g m (omega arith) e)
+  names-from known zero p q h k l e = absurd (omega (arith, k .on))
+  names-from known (suc left) p q h k l e = by-place (ℕ-discrete q p) (λ g m. names-from known left (p + 1) q g m (omega arith) e)
     where
-      here : (b c d : Bool) → b ≡ false → c ≡ true → elim b [ true ↦ true | false ↦ elim c [ true ↦ elim d [ true ↦ namesKnown s ns left (p + 1) | false ↦ false ] | false ↦ namesKnown s ns left (p + 1) ] ] ≡ true → d ≡ true
+      here : (b c d : Bool) → b ≡ false → c ≡ true → elim b [ true ↦ true | false ↦ elim c [ true ↦ elim d [ true ↦ namesKnown s known left (p + 1) | false ↦ false ] | false ↦ namesKnown s known left (p + 1) ] ] ≡ true → d ≡ true
       here b c true x y z = refl
       here true c false x y z = clash (cc)
       here false true false x y z = clash (cc)
       here false false false x y z = clash (cc)
 
-      later : (b c d : Bool) → b ≡ false → elim b [ true ↦ true | false ↦ elim c [ true ↦ elim d [ true ↦ namesKnown s ns left (p + 1) | false ↦ false ] | false ↦ namesKnown s ns left (p + 1) ] ] ≡ true → namesKnown s ns left (p + 1) ≡ true
+      later : (b c d : Bool) → b ≡ false → elim b [ true ↦ true | false ↦ elim c [ true ↦ elim d [ true ↦ namesKnown s known left (p + 1) | false ↦ false ] | false ↦ namesKnown s known left (p + 1) ] ] ≡ true → namesKnown s known left (p + 1) ≡ true
       later true c d x z = clash (cc)
       later false true true x z = z
       later false true false x z = clash (cc)
       later false false d x z = z
 
-      by-place : Dec (q ≡ p) → (namesKnown s ns left (p + 1) ≡ true → Passed (p + 1) q → isKnown ns (whole (token s (q + 2))) ≡ true) → isKnown ns (whole (token s (q + 2))) ≡ true
+      by-place : Dec (q ≡ p) → (namesKnown s known left (p + 1) ≡ true → Passed (p + 1) q → known (token s q) (whole (token s (q + 2))) ≡ true) → known (token s q) (whole (token s (q + 2))) ≡ true
       by-place (yes z) rest =
           let g = rw z at e in
-          rw z (here (eqb (token s p) END) (isLock (token s p)) (isKnown ns (whole (token s (p + 2)))) (ne-eqb (token s p) END (between-some LOCK UNLOCK (token s p) (omega arith) g)) g h)
+          rw z (here (eqb (token s p) END) (isNaming (token s p)) (known (token s p) (whole (token s (p + 2)))) (ne-eqb (token s p) END (between-some LOCK UNLOCK (token s p) (omega arith) g)) g h)
       by-place (no z) rest =
-          rest (later (eqb (token s p) END) (isLock (token s p)) (isKnown ns (whole (token s (p + 2)))) (ne-eqb (token s p) END (k .some p (omega arith) (omega (arith, k .on, z)))) h)
+          rest (later (eqb (token s p) END) (isNaming (token s p)) (known (token s p) (whole (token s (p + 2)))) (ne-eqb (token s p) END (k .some p (omega arith) (omega (arith, k .on, z)))) h)
           (record { on = omega (arith, k .on, z); some = λ i l m. k .some i (omega arith) m })
 
   -- so in a set of the size that the program has
-  pub names-known : (ns : List ℕ) (p q : ℕ) → length s ≤ setSize → namesKnown s ns setSize p ≡ true → Passed p q → isLock (token s q) ≡ true → isKnown ns (whole (token s (q + 2))) ≡ true
-  names-known ns p q l h k e = names-from ns setSize p q h k (by-place (decLt q (length s))) e
+  pub names-known : (known : ℕ → ℕ → Bool) (p q : ℕ) → length s ≤ setSize → namesKnown s known setSize p ≡ true → Passed p q → isNaming (token s q) ≡ true → known (token s q) (whole (token s (q + 2))) ≡ true
+  names-known known p q l h k e = names-from known setSize p q h k (by-place (decLt q (length s))) e
     where
       by-place : Dec (q < length s) → q < p + setSize
       by-place (yes m) = omega arith

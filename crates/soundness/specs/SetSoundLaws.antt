@@ -13,7 +13,7 @@ use Rattle.values.specs.Numbers.{clash}
 use Rattle.tokens.specs.Token.{setSize, maxLines}
 use Rattle.engine.specs.declared.set.Lines.{Lines}
 use Rattle.engine.specs.SetLinesLaws.{lines-lined}
-use Rattle.engine.specs.Set.{emptySet, linesRead, linesFrom, rankIn, namesKnown, allKnown, namedLines, soundLines}
+use Rattle.engine.specs.Set.{emptySet, startOf, linesRead, linesFrom, rankIn, namesKnown, lockTable, allKnown, namedLines, soundLines}
 
 -- ---- the names that its lines use
 
@@ -21,20 +21,20 @@ both-true : (a b : Bool) → elim a [ true ↦ b | false ↦ false ] ≡ true �
 both-true true b e = (refl, e)
 both-true false b e = clash (cc)
 
-all-known : (s ns : List ℕ) (m j : ℕ) → allKnown s ns m j ≡ true → (i k : ℕ) → i < m → k ≡ j + i → namesKnown s ns setSize (getD s (1 + k) 0) ≡ true
+all-known : (s : List ℕ) (known : ℕ → ℕ → Bool) (m j : ℕ) → allKnown s known m j ≡ true → (i k : ℕ) → i < m → k ≡ j + i → namesKnown s known setSize (startOf s k) ≡ true
 unfolding allKnown
-all-known s ns zero j h i k l e = absurd (omega arith)
-all-known s ns (suc m) j h zero k l e = let q : k ≡ j = omega arith in rw q (both-true (namesKnown s ns setSize (getD s (1 + j) 0)) (allKnown s ns m (j + 1)) h .0)
-all-known s ns (suc m) j h (suc i) k l e =
-    all-known s ns m (j + 1) (both-true (namesKnown s ns setSize (getD s (1 + j) 0)) (allKnown s ns m (j + 1)) h .1) i k (omega arith) (omega arith)
+all-known s known zero j h i k l e = absurd (omega arith)
+all-known s known (suc m) j h zero k l e = let q : k ≡ j = omega arith in rw q (both-true (namesKnown s known setSize (startOf s j)) (allKnown s known m (j + 1)) h .0)
+all-known s known (suc m) j h (suc i) k l e =
+    all-known s known m (j + 1) (both-true (namesKnown s known setSize (startOf s j)) (allKnown s known m (j + 1)) h .1) i k (omega arith) (omega arith)
 
 -- each line of a sound set names only lines of the set
-pub lines-known : (s : List ℕ) → soundLines s .sound ≡ true → (k : ℕ) → k < soundLines s .count → namesKnown s (soundLines s .numbers) setSize (getD s (1 + k) 0) ≡ true
+pub lines-known : (s : List ℕ) → soundLines s .sound ≡ true → (k : ℕ) → k < soundLines s .count → namesKnown s (lockTable (soundLines s .numbers)) setSize (startOf s k) ≡ true
 unfolding soundLines namedLines
 lines-known s =
-    either (λ (l : Lines). l .sound ≡ true → (k : ℕ) → k < l .count → namesKnown s (l .numbers) setSize (getD s (1 + k) 0) ≡ true)
-    (allKnown s (linesRead s .numbers) (linesRead s .count) 0)
-    (λ e h k l. all-known s (linesRead s .numbers) (linesRead s .count) 0 e k k l (omega arith))
+    either (λ (l : Lines). l .sound ≡ true → (k : ℕ) → k < l .count → namesKnown s (lockTable (l .numbers)) setSize (startOf s k) ≡ true)
+    (allKnown s (lockTable (linesRead s .numbers)) (linesRead s .count) 0)
+    (λ e h k l. all-known s (lockTable (linesRead s .numbers)) (linesRead s .count) 0 e k k l (omega arith))
     (λ e h. clash (cc))
 
 -- ---- found by its number

@@ -1,5 +1,5 @@
 -- Every call keeps a sound state sound, and none answers 22: the turns of a beat, the beat, and any calls one after another from power-on. Nothing is assumed.
--- A set has at most 4130 places, a state 164 of R and 92 cells, as their types in the program say; that is all that is asked of lengths.
+-- A set has at most `setSize` places, a state `rCount` of R and `stateCells` cells, as their types in the program say; that is all that is asked of lengths.
 use mathlib.Core.Path.{_≡_, refl, _∙_}
 use mathlib.Core.Bool.{Bool, true, false, cond, not, _||_}
 use mathlib.Core.List.{List, [], _∷_, _++_, append-assoc}
@@ -23,9 +23,10 @@ use Rattle.working.specs.Operators.{isYes}
 use Rattle.working.specs.Working.{conditionValue}
 use Rattle.engine.specs.declared.state.State.{State}
 use Rattle.engine.specs.declared.calls.Called.{Called}
-use Rattle.engine.specs.Set.{lineOf, soundLines}
-use Rattle.engine.specs.State.{timerCells, stateCells, powerOn}
-use Rattle.engine.specs.Cells.{inputCount, inputCell, inputCells, beatCells}
+use Rattle.engine.specs.Set.{startOf, lineOf, soundLines}
+use Rattle.working.specs.Variables.{timerCount, rCount, timerAt, stateCells, bitCount, numberCount, inputCount}
+use Rattle.engine.specs.State.{powerOn}
+use Rattle.engine.specs.Cells.{inputCell, inputCells, beatCells}
 use Rattle.engine.specs.Timers.{grownCells}
 use Rattle.engine.specs.Sound.{isSound}
 use Rattle.engine.specs.Action.{World, Did, fromValueOrAlarm}
@@ -74,15 +75,15 @@ module _ (s : List ℕ) (sound : soundLines s .sound ≡ true) (size : length s 
 
   -- the turn of a line of the set
   module _ (k : ℕ) (inside : k < soundLines s .count) where
-    clear : LineClear s (getD s (1 + k) 0) (lineOf s k)
-    clear = let l = lines-lined s .listed sound in line-clear s (getD s (1 + k) 0) (l .faultless k inside) (l .positive k inside)
+    clear : LineClear s (startOf s k) (lineOf s k)
+    clear = let l = lines-lined s .listed sound in line-clear s (startOf s k) (l .faultless k inside) (l .positive k inside)
 
     done-fine : (x : World) (es : List Entry) (b : Bool) → Fine x → Holds TurnFine (doTurn s numbers cancelled automatic (lineOf s k) k x es b)
     unfolding doTurn
     done-fine x es false h = h
     done-fine x es true h =
         holds-then (λ (d : Did). Fine (d .world)) TurnFine (actionsOf s numbers cancelled (lineOf s k .number) maxActions (counted x k) (lineOf s k .actions)) _
-        (actions-keep s sound size cancelled (lineOf s k .number) (lineOf s k .keyword) (getD s (1 + k) 0) (lines-known s sound k inside)
+        (actions-keep s sound size cancelled (lineOf s k .number) (lineOf s k .keyword) (startOf s k) (lines-known s sound k inside)
         maxActions setSize 0 0 (counted x k) (lineOf s k .actions) refl (record { vars = h .vars; flags = h .flags }) (clear .passed) (clear .actions))
         (λ d e. e)
 
@@ -136,31 +137,31 @@ grown-length runs c zero = refl
 grown-length runs c (suc n) = length-set (grownCells runs c n) _ _ ∙ grown-length runs c n
 
 -- timers that have grown are still right
-grown-sound : (r : List ℤ) (runs : List Bool) (c : List ℤ) (n : ℕ) → n ≤ 8 → CellsSound r c → CellsSound r (grownCells runs c n)
+grown-sound : (r : List ℤ) (runs : List Bool) (c : List ℤ) (n : ℕ) → n ≤ timerCount → CellsSound r c → CellsSound r (grownCells runs c n)
 unfolding grownCells
 grown-sound r runs c zero l h = h
 grown-sound r runs c (suc n) l h =
     let g = grown-sound r runs c n (omega arith) h in
-    cell-keeps r (grownCells runs c n) g (timerCells + n) _ (omega arith)
-    (right-timer (timerCells + n) _ (omega arith) (omega arith)
-    (grown-keeps (timer (getD (grownCells runs c n) (timerCells + n) (pos 0)) (getD runs n false))
-    (timer-cell (timerCells + n) _ (omega arith) (omega arith) (g .right (timerCells + n)))))
+    cell-keeps r (grownCells runs c n) g (timerAt + n) _ (omega arith)
+    (right-timer (timerAt + n) _ (omega arith) (omega arith)
+    (grown-keeps (timer (getD (grownCells runs c n) (timerAt + n) (pos 0)) (getD runs n false))
+    (timer-cell (timerAt + n) _ (omega arith) (omega arith) (g .right (timerAt + n)))))
 
 lent-ranged : (lent : List ℤ) → areInputs lent ≡ true → PlacesRanged lent
 unfolding areInputs
-lent-ranged lent h = ranged-each lent (both (eqb (length lent) 14) _ h .1)
+lent-ranged lent h = ranged-each lent (both (eqb (length lent) numberCount) _ h .1)
 
 -- the cells of a beat that begins from a sound state
-pub begun-cells : (r c : List ℤ) (word : ℕ) (lent : List ℤ) (runs : List Bool) → length r ≡ 164 → length c ≡ stateCells → areInputs lent ≡ true → CellsSound r c → BeatSound r (beatCells word lent runs c)
+pub begun-cells : (r c : List ℤ) (word : ℕ) (lent : List ℤ) (runs : List Bool) → length r ≡ rCount → length c ≡ stateCells → areInputs lent ≡ true → CellsSound r c → BeatSound r (beatCells word lent runs c)
 unfolding beatCells
 begun-cells r c word lent runs lr lc a h = record {
   long = lr;
-  sized = omega (arith, length-append (inputCells word 16) (lent ++ grownCells runs c 8), length-append lent (grownCells runs c 8), length-inputs word 16, inputs-length lent a, grown-length runs c 8);
-  ranged = append-each InRange (inputCells word 16) (lent ++ grownCells runs c 8) (inputs-ranged word 16)
-      (append-each InRange lent (grownCells runs c 8) (lent-ranged lent a) (λ i. cell-ranged i _ (grown-sound r runs c 8 (omega arith) h .right i)));
+  sized = omega (arith, length-append (inputCells word bitCount) (lent ++ grownCells runs c timerCount), length-append lent (grownCells runs c timerCount), length-inputs word bitCount, inputs-length lent a, grown-length runs c timerCount);
+  ranged = append-each InRange (inputCells word bitCount) (lent ++ grownCells runs c timerCount) (inputs-ranged word bitCount)
+      (append-each InRange lent (grownCells runs c timerCount) (lent-ranged lent a) (λ i. cell-ranged i _ (grown-sound r runs c timerCount (omega arith) h .right i)));
   state =
-      let e : length (inputCells word 16 ++ lent) ≡ inputCount = omega (arith, length-append (inputCells word 16) lent, length-inputs word 16, inputs-length lent a) in
-      rw (← append-assoc (inputCells word 16) lent (grownCells runs c 8), drop-at (inputCells word 16 ++ lent) (grownCells runs c 8) inputCount e) (grown-sound r runs c 8 (omega arith) h);
+      let e : length (inputCells word bitCount ++ lent) ≡ inputCount = omega (arith, length-append (inputCells word bitCount) lent, length-inputs word bitCount, inputs-length lent a) in
+      rw (← append-assoc (inputCells word bitCount) lent (grownCells runs c timerCount), drop-at (inputCells word bitCount ++ lent) (grownCells runs c timerCount) inputCount e) (grown-sound r runs c timerCount (omega arith) h);
 }
 
 -- ---- the beat
@@ -168,7 +169,7 @@ begun-cells r c word lent runs lr lc a h = record {
 -- a sound state of its size
 pub record Whole (s : List ℕ) (st : State) : Type 0 where
   pub sound : isSound s st ≡ true
-  pub long : length (st .r) ≡ 164
+  pub long : length (st .r) ≡ rCount
   pub sized : length (st .cells) ≡ stateCells
 
 -- a beat that goes well leaves one, and it stops by no 22
@@ -202,7 +203,7 @@ unfolding beatAnswer
 beat-answers s st g l h = answered-whole s st (wholeBeat s st g) h (beat-holds s st g l h)
 
 -- so a beat keeps a sound state sound
-pub beat-keeps : (s : List ℕ) (st : State) (g : Given) → length s ≤ setSize → length (st .r) ≡ 164 → length (st .cells) ≡ stateCells →
+pub beat-keeps : (s : List ℕ) (st : State) (g : Given) → length s ≤ setSize → length (st .r) ≡ rCount → length (st .cells) ≡ stateCells →
     isSound s st ≡ true → isSound s (beatAnswer s st g .state) ≡ true
 beat-keeps s st g l lr lc h = beat-answers s st g l (record { sound = h; long = lr; sized = lc }) .0 .sound
 
@@ -220,7 +221,7 @@ call-keeps s st doReset l h = record { sound = resetCall-keeps s st (h .sound); 
 call-keeps s st (doBeat g) l h = beat-answers s st g l h .0
 
 -- A SOUND STATE STAYS SOUND, whatever is called
-pub sound-stays-sound : (s : List ℕ) (st : State) (c : Call) → length s ≤ setSize → length (st .r) ≡ 164 → length (st .cells) ≡ stateCells → isSound s st ≡ true → isSound s (stateAfter s st c) ≡ true
+pub sound-stays-sound : (s : List ℕ) (st : State) (c : Call) → length s ≤ setSize → length (st .r) ≡ rCount → length (st .cells) ≡ stateCells → isSound s st ≡ true → isSound s (stateAfter s st c) ≡ true
 sound-stays-sound s st c l lr lc h = call-keeps s st c l (record { sound = h; long = lr; sized = lc }) .sound
 
 -- and answers no 22

@@ -19,10 +19,10 @@ use Rattle.values.specs.declared.arithmetic.Worked.{Worked}
 use Rattle.values.specs.declared.arithmetic.Worked.the-variants as W
 use Rattle.values.specs.declared.fifo.FifoValue.{FifoValue}
 use Rattle.values.specs.declared.fifo.FifoValue.the-variants as S
-use Rattle.tokens.specs.Token.{MINUS, PLUS, TIMES, OVER, R, FIFO1, isLogic, isFifo, thousandths}
+use Rattle.tokens.specs.Token.{MINUS, PLUS, TIMES, OVER, R, isLogic, isFifo, thousandths}
 use Rattle.tokens.specs.Descent.{Answer, good}
 use Rattle.tokens.specs.Index.{isInside}
-use Rattle.working.specs.Variables.{cellOf, run, countAt, fromFifoValue, fifoValue, fifoAt, variableValue}
+use Rattle.working.specs.Variables.{cellOf, fifoOf, run, beatCount, fromFifoValue, fifoValue, fifoAt, variableValue}
 use Rattle.tokens.specs.SingleFault.{lower, unless, numberFault, readFault}
 use Rattle.checking.specs.Fault.{wanting, Sight, joinSights, sight}
 use Rattle.working.specs.Operators.{fromWorked, yesNo, isYes, joinTruths, joinValues}
@@ -61,7 +61,7 @@ unfolding variableValue fifoAt
 variable-ranged r c w i h k =
     ifNot Ranged (isInside w i) (λ e. alarm-ranged _) λ e.
     either Ranged (eqb w R) (λ e. same-ranged (getD r i (pos 0)) (h i)) λ e.
-    either Ranged (isFifo w) (λ e. fifo-ranged (run r w) (countAt c w) i (run-ranged r (w - FIFO1) h)) (λ e. same-ranged _ (k (cellOf w i)))
+    either Ranged (isFifo w) (λ e. fifo-ranged (run r (fifoOf w)) (beatCount c (fifoOf w)) i (run-ranged r (fifoOf w) h)) (λ e. same-ranged _ (k (cellOf w i)))
 
 -- ---- what is worked stops by no 22
 
@@ -120,7 +120,7 @@ variable-calmed r c w i h f =
     ifNot Calmed (isInside w i) (λ l. clash (cc)) λ l.
     either Calmed (eqb w R) (λ e. value-calmed _) λ e.
     ifNot Calmed (isFifo w) (λ p. value-calmed _) λ p.
-    fifo-calmed (run r w) (countAt c w) i (run-length r c w h p) (count-few r c w h p) (rw p at n) (rw (last-fifo w p) at (last-inside w i l))
+    fifo-calmed (run r (fifoOf w)) (beatCount c (fifoOf w)) i (run-length r c w h p) (count-few r c w h p) (rw p at n) (rw (last-fifo w p) at (last-inside w i l))
 
 -- ---- the value and the check
 

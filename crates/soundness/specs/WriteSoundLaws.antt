@@ -3,7 +3,7 @@ use mathlib.Core.Path.{_≡_, refl, sym, ap, _∙_}
 use mathlib.Core.Bool.{Bool, true, false, cond, _||_}
 use mathlib.Core.Logic.{_⊎_, inl, inr}
 use mathlib.Core.List.{List}
-use Prim.Native.Nat.{ℕ, _+_, _*_, _-_, min, _≤_, _<_}
+use Prim.Native.Nat.{ℕ, _+_, _-_, min, _≤_, _<_}
 use native.Mathlib.Omega.{arith}
 use lib.Dec.{eqb, leb}
 use lib.IntN.{ℤ, pos}
@@ -26,16 +26,14 @@ use Rattle.values.specs.declared.fifo.Moved.the-variants as M
 use Rattle.tokens.specs.Token.{OUT, MARKER, PARAM, R, TIMER, FIFO1, isFifo}
 use Rattle.tokens.specs.Descent.{good, _>>=_}
 use Rattle.tokens.specs.Index.{firstIndex, lastIndex, isInside}
-use Rattle.working.specs.Variables.{runStart, cellOf, cellCount, counts, countAt, run, asCount}
+use Rattle.working.specs.Variables.{fifos, runAt, rCount, markerAt, paramAt, timerAt, countAt, stateCells, inputCount, cellCount, cellOf, fifoOf, run, asCount, countIn, beatCount}
 use Rattle.tokens.specs.SingleFault.{lower, unless, isWritable, writeFault}
 use Rattle.working.specs.Operators.{fromWorked}
-use Rattle.engine.specs.State.{stateCells}
-use Rattle.engine.specs.Cells.{inputCount}
 use Rattle.engine.specs.Sound.{isCell, isOutput}
-use Rattle.engine.specs.Write.{Vars, Changed, Celled, withRunAt, moved, writeTimer, changeAnswer, changed, changeFifo, writeFifo, writeCell, writeInside, writeTo}
+use Rattle.engine.specs.Write.{Vars, Changed, Celled, withRun, moved, writeTimer, changeAnswer, changed, changeFifo, writeFifo, writeCell, writeInside, writeTo}
 use Rattle.tokens.proofs.Indices.{last-inside}
 use Rattle.soundness.specs.GoodAnswers.{Not22, Holds, holds-then}
-use Rattle.soundness.specs.CellSoundLaws.{cell-ranged, timer-cell, count-cell, right-output, right-marker, right-parameter, right-timer, fifoCount, CellsSound, run-ranged, replaced-length, r-keeps, cell-keeps, fifo-keeps}
+use Rattle.soundness.specs.CellSoundLaws.{cell-ranged, timer-cell, count-cell, right-output, right-marker, right-parameter, right-timer, CellsSound, run-ranged, replaced-length, r-keeps, cell-keeps, fifo-keeps}
 
 -- ---- faults
 
@@ -56,9 +54,9 @@ unless-zero false k h l = absurd (omega arith)
 
 -- ---- the variables of a beat
 
--- the 164 places of R; the 122 cells of a beat, all in range; and from the inputs on, those of a sound state
+-- the places of R; the cells of a beat, all in range; and from the inputs on, those of a sound state
 pub record BeatSound (r c : List ℤ) : Type 0 where
-  pub long : length r ≡ 164
+  pub long : length r ≡ rCount
   pub sized : length c ≡ cellCount
   pub ranged : PlacesRanged c
   pub state : CellsSound r (drop inputCount c)
@@ -69,11 +67,11 @@ VarsSound x = BeatSound (x .r) (x .cells)
 
 module _ (r c : List ℤ) (h : BeatSound r c) where
   -- a value in range is written to R below the FIFOs
-  pub beat-r : (i : ℕ) (v : ℤ) → i < 100 → inRange v ≡ true → BeatSound (set r i v) c
+  pub beat-r : (i : ℕ) (v : ℤ) → i < runAt 0 → inRange v ≡ true → BeatSound (set r i v) c
   beat-r i v l e = record { long = length-set r i v ∙ h .long; sized = h .sized; ranged = h .ranged; state = r-keeps r (drop inputCount c) (h .state) i v l e }
 
   -- a cell below the counts is written with a value that is right there
-  pub beat-cell : (at j : ℕ) (v : ℤ) → at ≡ inputCount + j → j < 88 → isCell j v ≡ true → BeatSound r (set c at v)
+  pub beat-cell : (at j : ℕ) (v : ℤ) → at ≡ inputCount + j → j < countAt → isCell j v ≡ true → BeatSound r (set c at v)
   beat-cell at j v q l e = record {
     long = h .long;
     sized = length-set c at v ∙ h .sized;
@@ -153,40 +151,40 @@ abbrev pub ChangedSound : Changed → Type 0
 ChangedSound a = BeatSound (a .r) (a .cells) × (inRange (a .value) ≡ true)
 
 module _ (r c : List ℤ) (w : ℕ) (h : BeatSound r c) (f : isFifo w ≡ true) where
-  fifo-rank : w - FIFO1 < 4
+  fifo-rank : fifoOf w < fifos
   fifo-rank = let a = leb-true FIFO1 w (both (leb FIFO1 w) (leb w 42) f .0) in let b = leb-true w 42 (both (leb FIFO1 w) (leb w 42) f .1) in omega arith
 
-  run-inside : 100 + places * (w - FIFO1) + places ≤ length r
+  run-inside : runAt (fifoOf w) + places ≤ length r
   run-inside = omega (arith, fifo-rank, h .long)
 
   -- the FIFO has its sixteen places
-  pub run-length : length (run r w) ≡ places
-  run-length = length-take-le places (drop (100 + places * (w - FIFO1)) r) (omega (arith, length-drop (100 + places * (w - FIFO1)) r, run-inside))
+  pub run-length : length (run r (fifoOf w)) ≡ places
+  run-length = length-take-le places (drop (runAt (fifoOf w)) r) (omega (arith, length-drop (runAt (fifoOf w)) r, run-inside))
 
-  count-same : countAt c w ≡ fifoCount (drop inputCount c) (w - FIFO1)
-  unfolding countAt
+  count-same : beatCount c (fifoOf w) ≡ countIn (drop inputCount c) (fifoOf w)
+  unfolding beatCount
   count-same =
-      let e : counts + (w - FIFO1) ≡ inputCount + (88 + (w - FIFO1)) = omega arith in
-      ap asCount (ap (λ (i : ℕ). getD c i (pos 0)) e ∙ sym (getD-drop inputCount c (88 + (w - FIFO1)) (pos 0)))
+      let e : inputCount + countAt + fifoOf w ≡ inputCount + (countAt + fifoOf w) = omega arith in
+      ap asCount (ap (λ (i : ℕ). getD c i (pos 0)) e ∙ sym (getD-drop inputCount c (countAt + fifoOf w) (pos 0)))
 
-  run-unused : Unused (run r w) (countAt c w)
-  run-unused = rw count-same (h .state .unused (w - FIFO1) fifo-rank)
+  run-unused : Unused (run r (fifoOf w)) (beatCount c (fifoOf w))
+  run-unused = rw count-same (h .state .unused (fifoOf w) fifo-rank)
 
   -- a count of at most sixteen
-  pub count-few : countAt c w ≤ places
-  count-few = rw count-same (count-cell (88 + (w - FIFO1)) _ (omega arith) (h .state .right (88 + (w - FIFO1))))
+  pub count-few : beatCount c (fifoOf w) ≤ places
+  count-few = rw count-same (count-cell (countAt + fifoOf w) _ (omega arith) (h .state .right (countAt + fifoOf w)))
 
-  moved-keeps : (ys : List ℤ) (answer : Moved) → Changes (countAt c w) ys answer → Holds ChangedSound (moved r c w ys answer)
+  moved-keeps : (ys : List ℤ) (answer : Moved) → Changes (beatCount c (fifoOf w)) ys answer → Holds ChangedSound (moved r c (fifoOf w) ys answer)
   moved-keeps ys (M.Done v n) e =
-      let q : counts + (w - FIFO1) ≡ inputCount + (88 + (w - FIFO1)) = omega arith in
+      let q : inputCount + countAt + fifoOf w ≡ inputCount + (countAt + fifoOf w) = omega arith in
       let lc : length (drop inputCount c) ≡ stateCells = omega (arith, length-drop inputCount c, h .sized) in
-      let kept : BeatSound (withRunAt (runStart w) r ys) (set c (counts + (w - FIFO1)) (pos n)) =
+      let kept : BeatSound (withRun r (fifoOf w) ys) (set c (inputCount + countAt + fifoOf w) (pos n)) =
       record {
-        long = replaced-length (100 + places * (w - FIFO1)) r ys run-inside (e .long) ∙ h .long;
+        long = replaced-length (fifoOf w) r ys run-inside (e .long) ∙ h .long;
         sized = length-set c _ _ ∙ h .sized;
-        ranged = set-each (λ i z. inRange z ≡ true) c (counts + (w - FIFO1)) (pos n) (pos 0) (abs-range (pos n) (omega (arith, e .few))) (h .ranged);
-        state = rw (q, drop-set-add inputCount c (88 + (w - FIFO1)) (pos n))
-            (fifo-keeps r (drop inputCount c) (w - FIFO1) ys n fifo-rank lc run-inside (e .long) (e .few) (e .unused) (h .state) (e .ranged));
+        ranged = set-each (λ i z. inRange z ≡ true) c (inputCount + countAt + fifoOf w) (pos n) (pos 0) (abs-range (pos n) (omega (arith, e .few))) (h .ranged);
+        state = rw (q, drop-set-add inputCount c (countAt + fifoOf w) (pos n))
+            (fifo-keeps r (drop inputCount c) (fifoOf w) ys n fifo-rank lc run-inside (e .long) (e .few) (e .unused) (h .state) (e .ranged));
       } in
       (kept, e .done v n refl)
   moved-keeps ys (M.Alarm k) e = e .calm
@@ -195,17 +193,17 @@ module _ (r c : List ℤ) (w : ℕ) (h : BeatSound r c) (f : isFifo w ≡ true) 
   -- a value in range is appended
   pub append-keeps : (v : ℤ) → inRange v ≡ true → Holds ChangedSound (changeFifo r c 0 w v)
   unfolding changeFifo changeAnswer changed
-  append-keeps v e = moved-keeps _ _ (append-changes (run r w) (countAt c w) run-length (run-ranged r (w - FIFO1) (h .state .ranged)) run-unused count-few v e)
+  append-keeps v e = moved-keeps _ _ (append-changes (run r (fifoOf w)) (beatCount c (fifoOf w)) run-length (run-ranged r (fifoOf w) (h .state .ranged)) run-unused count-few v e)
 
   -- the oldest is removed
   pub remove-keeps : (v : ℤ) → Holds ChangedSound (changeFifo r c 1 w v)
   unfolding changeFifo changeAnswer changed
-  remove-keeps v = moved-keeps _ _ (remove-changes (run r w) (countAt c w) run-length (run-ranged r (w - FIFO1) (h .state .ranged)) run-unused count-few)
+  remove-keeps v = moved-keeps _ _ (remove-changes (run r (fifoOf w)) (beatCount c (fifoOf w)) run-length (run-ranged r (fifoOf w) (h .state .ranged)) run-unused count-few)
 
   -- all is removed
   pub empty-keeps : (v : ℤ) → Holds ChangedSound (changeFifo r c 2 w v)
   unfolding changeFifo changeAnswer changed
-  empty-keeps v = moved-keeps _ _ (empty-changes (run r w) (countAt c w) run-length (run-ranged r (w - FIFO1) (h .state .ranged)) run-unused count-few v)
+  empty-keeps v = moved-keeps _ _ (empty-changes (run r (fifoOf w)) (beatCount c (fifoOf w)) run-length (run-ranged r (fifoOf w) (h .state .ranged)) run-unused count-few v)
 
 -- a FIFO is written at [0] and [4]
 fifo-writable : (w i : ℕ) → isFifo w ≡ true → isWritable w i ≡ true → (eqb i 0 || eqb i 4) ≡ true
@@ -261,11 +259,11 @@ module _ (r c : List ℤ) (runs : List Bool) (h : BeatSound r c) (i : ℕ) (v : 
   marker-keeps : i ≤ 31 → BeatSound r (set c (cellOf MARKER i) (wholeUnits v))
   unfolding cellOf
   marker-keeps l =
-      beat-cell r c h _ (16 + i) (wholeUnits v) (omega arith) (omega arith) (right-marker (16 + i) _ (omega arith) (omega arith) (whole-in-range v e) (whole-whole v))
+      beat-cell r c h _ (markerAt + i) (wholeUnits v) (omega arith) (omega arith) (right-marker (markerAt + i) _ (omega arith) (omega arith) (whole-in-range v e) (whole-whole v))
 
   parameter-keeps : i ≤ 31 → BeatSound r (set c (cellOf PARAM i) v)
   unfolding cellOf
-  parameter-keeps l = beat-cell r c h _ (48 + i) v (omega arith) (omega arith) (right-parameter (48 + i) v (omega arith) (omega arith) e)
+  parameter-keeps l = beat-cell r c h _ (paramAt + i) v (omega arith) (omega arith) (right-parameter (paramAt + i) v (omega arith) (omega arith) e)
 
   output-keeps : 1 ≤ i → i ≤ 16 → Holds (CellSound r) (fromWorked (outputOf v) >>= λ u. good (record { cells = set c (cellOf OUT i) u; runs = runs }))
   unfolding cellOf
@@ -276,10 +274,10 @@ module _ (r c : List ℤ) (runs : List Bool) (h : BeatSound r c) (i : ℕ) (v : 
   timer-keeps : i ≤ 7 → CellSound r (writeTimer c runs (cellOf TIMER i) i v)
   unfolding cellOf
   timer-keeps l =
-      beat-cell r c h _ (80 + i) _ (omega arith) (omega arith)
-      (right-timer (80 + i) _ (omega arith) (omega arith)
-      (written-keeps (timer (getD c (110 + (i - 0)) (pos 0)) (getD runs i false)) v
-      (timer-cell (80 + i) _ (omega arith) (omega arith) (beat-place r c h _ (80 + i) (omega arith))) e))
+      beat-cell r c h _ (timerAt + i) _ (omega arith) (omega arith)
+      (right-timer (timerAt + i) _ (omega arith) (omega arith)
+      (written-keeps (timer (getD c (inputCount + timerAt + (i - 0)) (pos 0)) (getD runs i false)) v
+      (timer-cell (timerAt + i) _ (omega arith) (omega arith) (beat-place r c h _ (timerAt + i) (omega arith))) e))
 
   cell-write-keeps : (w : ℕ) → isInside w i ≡ true → isFifo w ≡ false → eqb w R ≡ false → isWritable w i ≡ true → Holds (CellSound r) (writeCell c runs w i v)
   unfolding writeCell
@@ -294,7 +292,7 @@ module _ (r c : List ℤ) (runs : List Bool) (h : BeatSound r c) (i : ℕ) (v : 
 
 -- ---- any variable
 
-writable-low : (i : ℕ) → isWritable R i ≡ true → i < 100
+writable-low : (i : ℕ) → isWritable R i ≡ true → i < runAt 0
 unfolding isWritable
 writable-low i h = ltb-true i 100 h
 

@@ -17,9 +17,23 @@ maxActions = 8
 abbrev pub textSize : ℕ
 textSize = 4096
 
--- the places of a set: how many lines, where each starts, and the tokens of a text with an end to each line
+-- the curves and the lists that a set has places for, and the lines of a list
+abbrev pub maxCurves : ℕ
+maxCurves = 3
+
+abbrev pub maxLists : ℕ
+maxLists = 8
+
+abbrev pub maxListLines : ℕ
+maxListLines = 16
+
+-- the places before the tokens: how many lines and where each starts, where each curve starts, and of each list how many lines and where each starts
+abbrev pub tableSize : ℕ
+tableSize = 1 + maxLines + maxCurves + maxLists * (1 + maxListLines)
+
+-- the places of a set: its table, and the tokens of a text with an end to each line
 abbrev pub setSize : ℕ
-setSize = 1 + maxLines + (textSize + 1)
+setSize = tableSize + (textSize + 1)
 
 -- more than the places of a set: what places are counted by where one number holds a place and more
 abbrev pub room : ℕ

@@ -10,8 +10,16 @@ pub const LINES: usize = 32;
 pub const ACTIONS: usize = 8;
 
 pub const TEXT_SIZE: usize = 4096;
-// The places of a set: how many lines, where each starts, and the tokens of a text with an end to each line.
-pub const SIZE: usize = 1 + LINES + TEXT_SIZE + 1;
+// The curves and the lists that a set has places for, and the lines of a list.
+pub const CURVES: usize = 3;
+
+pub const LISTS: usize = 8;
+
+pub const LIST_LINES: usize = 16;
+// The places before the tokens: how many lines and where each starts, where each curve starts, and of each list how many lines and where each starts.
+pub const TABLE_SIZE: usize = 1 + LINES + CURVES + LISTS * (1 + LIST_LINES);
+// The places of a set: its table, and the tokens of a text with an end to each line.
+pub const SIZE: usize = TABLE_SIZE + TEXT_SIZE + 1;
 // More than the places of a set: what places are counted by where one number holds a place and more.
 pub const ROOM: u64 = 8192;
 

@@ -16,7 +16,7 @@ use Rattle.values.specs.declared.fifo.FifoValue.{FifoValue}
 use Rattle.tokens.specs.Token.{R, TIMES, OVER, PLUS, MINUS, isFifo}
 use Rattle.tokens.specs.Descent.{Answer, good, stop, _>>=_, Meaning, upTo}
 use Rattle.tokens.specs.Index.{isInside}
-use Rattle.working.specs.Variables.{run, countAt, fromFifoValue, fifoValue, fifoAt, variableValue}
+use Rattle.working.specs.Variables.{fifoOf, run, beatCount, fromFifoValue, fifoValue, fifoAt, variableValue}
 use Rattle.working.specs.Operators.{fromWorked, joinValues}
 use Rattle.working.specs.Working.{valueOver, told}
 use Rattle.grammar.specs.Tree.{Operand, number, variable, position, truth, bracket, minus, not, Product, product, Factors, noFactor, factor, Sum, sum, Terms, noTerm, term, Expression, single, compare, row, Sums, last, next}
@@ -107,7 +107,7 @@ variable-alarms : (r c : List ℤ) (w i : ℕ) → Alarms (variableValue r c w i
 unfolding variableValue fifoAt
 variable-alarms r c w i =
     either Alarms (isInside w i)
-    (λ e. either Alarms (eqb w R) (λ e. tt) (λ e. either Alarms (isFifo w) (λ e. fifo-alarms (run r w) (countAt c w) i) (λ e. tt)))
+    (λ e. either Alarms (eqb w R) (λ e. tt) (λ e. either Alarms (isFifo w) (λ e. fifo-alarms (run r (fifoOf w)) (beatCount c (fifoOf w)) i) (λ e. tt)))
     (λ e. omega arith)
 
 module _ (r c : List ℤ) where

@@ -17,7 +17,7 @@ use Rattle.grammar.specs.Meaning.{Stands}
 use Rattle.grammar.specs.TreeFault.{actionFault, actionsFault, lineFault, keywordOf}
 use Rattle.grammar.specs.AgreementLaws.{bounds, stands-split, whole-token}
 use Rattle.grammar.specs.ClosedTokens.{Closed, closed-action, closed-condition}
-use Rattle.engine.specs.Set.{rankIn, isKnown, isLock, namesKnown}
+use Rattle.engine.specs.Set.{rankIn, isKnown, isLock, isNaming, namesKnown, lockTable}
 use Rattle.soundness.specs.WriteSoundLaws.{lower-zero, unless-zero}
 use Rattle.soundness.specs.SetSoundLaws.{rank-least}
 use Rattle.turn_trees.specs.LineNames.{ActionNames, ActionsName, LineNames}
@@ -28,11 +28,11 @@ use Rattle.turn_trees.specs.LineNames.{ActionNames, ActionsName, LineNam
 abbrev pub Known : List ℕ → ℕ → Type 0
 Known ns m = (isKnown ns m ≡ true) × (1 ≤ m)
 
-module _ (s ns : List ℕ) where
+module _ (s : List ℕ) (known : ℕ → ℕ → Bool) where
   -- at a token that is no end: what it names is known, and so is what is named behind it
-  names-next : (left p : ℕ) → (token s p ≡ END → ⊥) → namesKnown s ns (suc left) p ≡ true → (namesKnown s ns left (p + 1) ≡ true) × (isLock (token s p) ≡ true → isKnown ns (whole (token s (p + 2))) ≡ true)
+  names-next : (left p : ℕ) → (token s p ≡ END → ⊥) → namesKnown s known (suc left) p ≡ true → (namesKnown s known left (p + 1) ≡ true) × (isNaming (token s p) ≡ true → known (token s p) (whole (token s (p + 2))) ≡ true)
   unfolding namesKnown
-  names-next left p n = go (eqb (token s p) END) (isLock (token s p)) (isKnown ns (whole (token s (p + 2)))) (namesKnown s ns left (p + 1)) (λ e. n (eqb-true (token s p) END e))
+  names-next left p n = go (eqb (token s p) END) (isNaming (token s p)) (known (token s p) (whole (token s (p + 2)))) (namesKnown s known left (p + 1)) (λ e. n (eqb-true (token s p) END e))
     where
       go : (a b c d : Bool) → (a ≡ true → ⊥) →
           (let x : Bool = elim a [ true ↦ true | false ↦ elim b [ true ↦ elim c [ true ↦ d | false ↦ false ] | false ↦ d ] ] in x ≡ true) → (d ≡ true) × (b ≡ true → c ≡ true)
@@ -42,15 +42,16 @@ module _ (s ns : List ℕ) where
       go false false c d n h = (h, λ e. absurd (false≢true e))
 
   -- behind a row without an end
-  names-behind : (l : List ℕ) (p i left m : ℕ) → Closed l → Stands s p l i → left ≡ length l + m → namesKnown s ns left p ≡ true → namesKnown s ns m i ≡ true
+  names-behind : (l : List ℕ) (p i left m : ℕ) → Closed l → Stands s p l i → left ≡ length l + m → namesKnown s known left p ≡ true → namesKnown s known m i ≡ true
   names-behind [] p i left m c h e k = let z : left ≡ m = omega arith in rw (← z, ← h) k
   names-behind (t ∷ l) p i zero m c h e k = absurd (omega arith)
   names-behind (t ∷ l) p i (suc left) m c h e k =
       let x = c .0 in let y = h .0 in
       names-behind l (p + 1) i left m (c .2) (h .1) (omega arith) (names-next left p (λ z. omega arith) k .0)
 
+module _ (s ns : List ℕ) where
   -- an action without a fault
-  action-names : (kw : ℕ) (a : Action) (p q left : ℕ) → actionFault kw a ≡ 0 → Stands s p (actionTokens a) q → length (actionTokens a) ≤ left → namesKnown s ns left p ≡ true → ActionNames (Known ns) a
+  action-names : (kw : ℕ) (a : Action) (p q left : ℕ) → actionFault kw a ≡ 0 → Stands s p (actionTokens a) q → length (actionTokens a) ≤ left → namesKnown s (lockTable ns) left p ≡ true → ActionNames (Known ns) a
   unfolding actionTokens actionFault callFault idFault
   action-names kw (assign w v i a) p q left f h l k = tt
   action-names kw (assignPosition x v a) p q left f h l k = tt
@@ -64,14 +65,14 @@ module _ (s ns : List ℕ) where
       let two : p + 1 + 1 ≡ p + 2 = omega arith in
       let t : whole (token s (p + 2)) ≡ m = rw (rw two at (h .1 .1 .0)) (whole-token m .1) in
       let on : isLock (token s p) ≡ true = rw c g in
-      let known : isKnown ns m ≡ true = rw t at (names-next left p (λ z. omega arith) k .1 on) in (
+      let known : isKnown ns m ≡ true = rw t at (names-next s (lockTable ns) left p (λ z. omega arith) k .1 on) in (
         known,
         decide _ (eqb w SETAL) (λ e. let z = eqb-true w SETAL e in absurd (omega arith))
             (λ e. let y = rw e at f in leb-true 1 m (both (leb 1 m) (leb m 255) (unless-zero (between 1 255 m) outside y (omega arith)) .0)),
       )
 
   actions-name : (kw : ℕ) (r : List Action) (a : Action) (p q left : ℕ) → actionsFault kw a r ≡ 0 → Stands s p (actionsTokens a r) q → length (actionsTokens a r) ≤ left →
-      namesKnown s ns left p ≡ true → ActionsName (Known ns) a r
+      namesKnown s (lockTable ns) left p ≡ true → ActionsName (Known ns) a r
   unfolding actionsFault actionsTokens
   actions-name kw [] a p q left f h l k = action-names kw a p q left f h l k
   actions-name kw (b ∷ r) a p q left f h l k =
@@ -80,11 +81,11 @@ module _ (s ns : List ℕ) where
       let n = length-append (actionTokens a) (actionsTokens b r) in
       let m = left - length (actionTokens a) in (
         action-names kw a p i left (z .0) u (omega arith) k,
-        actions-name kw r b i q m (z .1) v (omega arith) (names-behind (actionTokens a) p i left m (closed-action a) u (omega arith) k),
+        actions-name kw r b i q m (z .1) v (omega arith) (names-behind s (lockTable ns) (actionTokens a) p i left m (closed-action a) u (omega arith) k),
       )
 
   -- a line without a fault of 6 to 10, in which the check found no fault 12
-  pub line-names : (l : Line) (p q : ℕ) → length (lineTokens l) ≤ suc setSize → lineFault l ≡ 0 → Stands s p (lineTokens l) q → namesKnown s ns setSize p ≡ true → LineNames (Known ns) l
+  pub line-names : (l : Line) (p q : ℕ) → length (lineTokens l) ≤ suc setSize → lineFault l ≡ 0 → Stands s p (lineTokens l) q → namesKnown s (lockTable ns) setSize p ≡ true → LineNames (Known ns) l
   unfolding lineTokens lineFault
   line-names (line w v n c a r) p q l f h k =
       let b = bounds ID IDS w v in
@@ -94,9 +95,9 @@ module _ (s ns : List ℕ) where
       let (e, z, o) = stands-split s (actionsTokens a r) (END ∷ []) (j + 1) q (y .1) in
       let L = simp length-append at l in
       let m = setSize - 3 - length (conditionTokens c) in
-      let behindHead = names-behind head p i setSize (setSize - 3) (omega arith) u (omega arith) k in
-      let behindCondition = names-behind (conditionTokens c) i j (setSize - 3) m (closed-condition c) x (omega arith) behindHead in
-      let behindDo = names-behind (DO ∷ []) j (j + 1) m (m - 1) (omega arith) (y .0, refl) (omega arith) behindCondition in
+      let behindHead = names-behind s (lockTable ns) head p i setSize (setSize - 3) (omega arith) u (omega arith) k in
+      let behindCondition = names-behind s (lockTable ns) (conditionTokens c) i j (setSize - 3) m (closed-condition c) x (omega arith) behindHead in
+      let behindDo = names-behind s (lockTable ns) (DO ∷ []) j (j + 1) m (m - 1) (omega arith) (y .0, refl) (omega arith) behindCondition in
       let faults = lower-zero _ _ (lower-zero _ _ f .1) .0 in
       actions-name (keywordOf c) r a (j + 1) e (m - 1) faults z (omega arith) behindDo
 

@@ -17,7 +17,7 @@ use Rattle.grammar.specs.TreeFault.{lineFault, partsFrom}
 use Rattle.grammar.specs.ClosedTokens.{line-fits}
 use Rattle.grammar.specs.AgreementLine.{line-found, line-fault, line-parts, not-deep, parts-number}
 use Rattle.engine.specs.declared.state.State.{State}
-use Rattle.engine.specs.Set.{rankIn, lineOf, soundLines}
+use Rattle.engine.specs.Set.{startOf, rankIn, lineOf, soundLines}
 use Rattle.engine.specs.Sound.{isSound, stateSound}
 use Rattle.engine.specs.Action.{World}
 use Rattle.engine.specs.Turn.{beatIn, turnsFrom}
@@ -31,7 +31,7 @@ use Rattle.turn_trees.specs.TurnByTree.{HoldingFrom, turns-by-tree}
 
 -- the tokens of the tree l stand where the line of rank k begins
 abbrev pub TreeAt : List ℕ → ℕ → Line → Type 0
-TreeAt s k l = (q : ℕ) × Stands s (getD s (1 + k) 0) (lineTokens l) q
+TreeAt s k l = (q : ℕ) × Stands s (startOf s k) (lineTokens l) q
 
 abbrev pub TreesFrom : List ℕ → ℕ → List Line → Type 0
 TreesFrom s k [] = Unit {0}
@@ -50,23 +50,23 @@ module _ (s : List ℕ) (size : length s ≤ setSize) (sound : soundLines s .sou
     clean = lines-lined s .listed sound .faultless k inside
 
     tree-found : (l : Line) × TreeAt s k l
-    tree-found = let c = clean in let (l, q, h) = line-found s (getD s (1 + k) 0) (λ e. omega arith) (λ e. omega arith) in (l, (q, h))
+    tree-found = let c = clean in let (l, q, h) = line-found s (startOf s k) (λ e. omega arith) (λ e. omega arith) in (l, (q, h))
 
     module _ (l : Line) (t : TreeAt s k l) where
       tree-faultless : lineFault l ≡ 0
-      tree-faultless = sym (line-fault s size l (getD s (1 + k) 0) (t .0) (not-deep s (getD s (1 + k) 0) clean) (t .1)) ∙ clean
+      tree-faultless = sym (line-fault s size l (startOf s k) (t .0) (not-deep s (startOf s k) clean) (t .1)) ∙ clean
 
-      tree-parts : lineOf s k ≡ partsFrom (getD s (1 + k) 0) l
-      tree-parts = line-parts s size l (getD s (1 + k) 0) (t .0) (not-deep s (getD s (1 + k) 0) clean) (t .1) tree-faultless .0
+      tree-parts : lineOf s k ≡ partsFrom (startOf s k) l
+      tree-parts = line-parts s size l (startOf s k) (t .0) (not-deep s (startOf s k) clean) (t .1) tree-faultless .0
 
       tree-number : treeNumber l ≡ getD (soundLines s .numbers) k 0
-      tree-number = sym (lines-lined s .listed sound .number k inside ∙ ap (λ (x : Told). x .number) tree-parts ∙ parts-number (getD s (1 + k) 0) l)
+      tree-number = sym (lines-lined s .listed sound .number k inside ∙ ap (λ (x : Told). x .number) tree-parts ∙ parts-number (startOf s k) l)
 
       tree-short : length (lineTokens l) ≤ suc setSize
-      tree-short = let z = line-fits s l (getD s (1 + k) 0) (t .0) (t .1) in omega arith
+      tree-short = let z = line-fits s l (startOf s k) (t .0) (t .1) in omega arith
 
       tree-names : LineNames (Known (soundLines s .numbers)) l
-      tree-names = line-names s (soundLines s .numbers) l (getD s (1 + k) 0) (t .0) tree-short tree-faultless (t .1) (lines-known s sound k inside)
+      tree-names = line-names s (soundLines s .numbers) l (startOf s k) (t .0) tree-short tree-faultless (t .1) (lines-known s sound k inside)
 
   -- ---- all lines
 
@@ -105,7 +105,7 @@ module _ (s : List ℕ) (size : length s ≤ setSize) (sound : soundLines s .sou
     holding (l ∷ qs) k t c =
         let i : k < soundLines s .count = omega arith in (
           record {
-            place = getD s (1 + k) 0;
+            place = startOf s k;
             behind = t .0 .0;
             item = lines-lined s .listed sound .item k i ∙ tree-parts k i l (t .0);
             stands = t .0 .1;

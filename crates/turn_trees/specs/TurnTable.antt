@@ -16,7 +16,7 @@ use Rattle.values.specs.Fifo.{fits, appendAnswer, appended, shifted, removeAnsw
 use Rattle.tokens.specs.Token.{SAME, ATLEAST, MORE, MINUS, PLUS, TIMES, OVER, ID, IDS, WHEN, WHENEVER, EVERY, IN, MARKER, R, FIFO1, POS, LOCK, UNLOCK, X, maxLines}
 use Rattle.tokens.specs.Descent.{Answer, good, stop, _>>=_}
 use Rattle.tokens.specs.Index.{isInside}
-use Rattle.working.specs.Variables.{cellOf, countAt, fifoValue, fifoAt, variableValue}
+use Rattle.working.specs.Variables.{cellOf, beatCount, fifoValue, fifoAt, variableValue}
 use Rattle.working.specs.Operators.{joinLogic, joinTruths, joinValues}
 use Rattle.working.specs.Working.{valueOver}
 use Rattle.engine.specs.Order.{fourBytes, orderBytes}
@@ -104,5 +104,5 @@ abbrev pub expected : Case → Answer Shown
 expected c = c .outcome
 
 pub turn-table : map outcomeOf turnCases ≡ map expected turnCases
-unfolding turnCases fourLines turnsTree turnTree takesTree tryTree doTree actionsTree actionTree lockTree assignTree conditionTree takenTree isRemovalTree operandMeaning valueOver variableValue isInside cellOf countAt fifoValue fifoAt joinLogic joinTruths joinValues inRange valued sumOf differenceOf productOf quotientOf lessThan equalTo wholeUnits fits appendAnswer appended shifted removeAnswer removed countOf changeAnswer changed changeFifo writeFifo writeCell writeInside writeTo driveOrder twosComplement fourBytes orderBytes rankIn powerOn grownCells inputCells beatCells beatBegun acts remembers tries
+unfolding turnCases fourLines turnsTree turnTree takesTree tryTree doTree actionsTree actionTree lockTree assignTree conditionTree takenTree isRemovalTree operandMeaning valueOver variableValue isInside cellOf beatCount fifoValue fifoAt joinLogic joinTruths joinValues inRange valued sumOf differenceOf productOf quotientOf lessThan equalTo wholeUnits fits appendAnswer appended shifted removeAnswer removed countOf changeAnswer changed changeFifo writeFifo writeCell writeInside writeTo driveOrder twosComplement fourBytes orderBytes rankIn powerOn grownCells inputCells beatCells beatBegun acts remembers tries
 turn-table = refl

@@ -28,11 +28,11 @@ cell-ends w r f =
     by-word w IN (omega arith) λ i.
     rw (last-other w r m p t f a x i o) (simp (ne-eqb w MARKER m, ne-eqb w PARAM p, ne-eqb w TIMER t, ne-eqb w OUT o, ne-eqb w INA a, ne-eqb w IM x) (omega arith))
 
-most : (b : Bool) {x y : ℕ} → x ≤ 110 → y ≤ 110 → cond b x y ≤ 110
+most : (b : Bool) {x y : ℕ} → x ≤ cellCount → y ≤ cellCount → cond b x y ≤ cellCount
 most true h k = h
 most false h k = k
 
-pub start-most : (w : ℕ) → cellStart w ≤ 110
+pub start-most : (w : ℕ) → cellStart w ≤ cellCount
 start-most w =
     most (eqb w MARKER) (omega arith) (most (eqb w PARAM) (omega arith) (most (eqb w TIMER) (omega arith)
     (most (eqb w OUT) (omega arith) (most (eqb w INA) (omega arith) (most (eqb w IM) (omega arith) (omega arith))))))

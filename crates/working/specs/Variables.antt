@@ -18,39 +18,84 @@ use Rattle.tokens.specs.Index.{firstIndex, isInside}
 
 -- ---- where they lie
 
--- the first cell of each variable
+abbrev pub timerCount : ℕ
+timerCount = 8
+
+abbrev pub fifos : ℕ
+fifos = 4
+
+-- where the run of FIFO k, from 0, starts in R, and the places of R: the runs are the last of them
+abbrev pub runAt : ℕ → ℕ
+runAt k = 100 + places * k
+
+abbrev pub rCount : ℕ
+rCount = runAt fifos
+
+-- the cells of a state: outputs, and from these places on markers, parameters, timers and the counts of the FIFOs
+abbrev pub markerAt : ℕ
+markerAt = 16
+
+abbrev pub paramAt : ℕ
+paramAt = 48
+
+abbrev pub timerAt : ℕ
+timerAt = 80
+
+abbrev pub countAt : ℕ
+countAt = timerAt + timerCount
+
+abbrev pub stateCells : ℕ
+stateCells = countAt + fifos
+
+-- the input cells of a beat: a bit each of the input word, then the numbers that the host lends, analogues and from the place `imAt` on positions
+abbrev pub bitCount : ℕ
+bitCount = 16
+
+abbrev pub numberCount : ℕ
+numberCount = 14
+
+abbrev pub imAt : ℕ
+imAt = 24
+
+abbrev pub inputCount : ℕ
+inputCount = bitCount + numberCount
+
+-- the cells of a beat: those of its inputs, then those of the state
+abbrev pub cellCount : ℕ
+cellCount = inputCount + stateCells
+
+-- the first cell of each variable, in a beat
 abbrev pub cellStart : ℕ → ℕ
 cellStart w =
-    cond (eqb w MARKER) 46
-    (cond (eqb w PARAM) 78
-    (cond (eqb w TIMER) 110
-    (cond (eqb w OUT) 30
-    (cond (eqb w INA) 16
-    (cond (eqb w IM) 24 0)))))
+    cond (eqb w MARKER) (inputCount + markerAt)
+    (cond (eqb w PARAM) (inputCount + paramAt)
+    (cond (eqb w TIMER) (inputCount + timerAt)
+    (cond (eqb w OUT) inputCount
+    (cond (eqb w INA) bitCount
+    (cond (eqb w IM) imAt 0)))))
 
 unfoldable pub cellOf : ℕ → ℕ → ℕ
 cellOf w i = cellStart w + (i - firstIndex w)
 
-abbrev pub counts : ℕ
-counts = 118
+-- which FIFO, from 0, a word is
+abbrev pub fifoOf : ℕ → ℕ
+fifoOf w = w - FIFO1
 
-abbrev pub cellCount : ℕ
-cellCount = 122
-
--- R[100+16(k-1)], the start of the run of FIFO k, for its word
-abbrev pub runStart : ℕ → ℕ
-runStart w = 100 + places * (w - FIFO1)
-
+-- the run of FIFO k in R
 abbrev pub run : List ℤ → ℕ → List ℤ
-run r w = take places (drop (runStart w) r)
+run r k = take places (drop (runAt k) r)
 
 -- a cell as a count; what is no count is beyond every count
 abbrev pub asCount : ℤ → ℕ
 asCount (pos n) = cond (leb n places) n 255
 asCount (negsuc n) = 255
 
-unfoldable pub countAt : List ℤ → ℕ → ℕ
-countAt c w = asCount (getD c (counts + (w - FIFO1)) (pos 0))
+-- the count of FIFO k, in the cells of a state and in those of a beat
+abbrev pub countIn : List ℤ → ℕ → ℕ
+countIn c k = asCount (getD c (countAt + k) (pos 0))
+
+unfoldable pub beatCount : List ℤ → ℕ → ℕ
+beatCount c k = asCount (getD c (inputCount + countAt + k) (pos 0))
 
 -- ---- what they read
 
@@ -77,7 +122,7 @@ fifoValue xs n i =
 
 -- the FIFO of the word w, over R and the cells
 unfoldable pub fifoAt : List ℤ → List ℤ → ℕ → ℕ → Worked
-fifoAt r c w i = fifoValue (run r w) (countAt c w) i
+fifoAt r c w i = fifoValue (run r (fifoOf w)) (beatCount c (fifoOf w)) i
 
 -- the variable w[i], over R and the cells
 unfoldable pub variableValue : List ℤ → List ℤ → ℕ → ℕ → Worked

@@ -22,40 +22,41 @@ use values::codes::UNSOUND;
 use values::fifo::FifoValue;
 use values::fifo::PLACES;
 
-// The places of R.
-pub const RS: usize = 164;
-// The cells, and the first of them for each variable that is no R and no FIFO.
-pub const CELLS: usize = 122;
+pub const TIMERS: usize = 8;
 
-const IN_CELLS: usize = 0;
+pub const FIFOS: usize = 4;
+// Where the first FIFO's run of R starts, and the places of R: the runs are the last of them.
+pub const RUN_AT: usize = 100;
 
-const INA_CELLS: usize = 16;
-
-const IM_CELLS: usize = 24;
-
-const OUT_CELLS: usize = 30;
-
-const MARKER_CELLS: usize = 46;
-
-const PARAM_CELLS: usize = 78;
-
-const TIMER_CELLS: usize = 110;
-
-// The counts of the four FIFOs.
-pub const COUNT_CELLS: usize = 118;
-// The cells of a state: outputs 0..15, markers 16..47, parameters 48..79, timers 80..87, counts of the FIFOs 88..91. In a beat the input cells stand
-// before them: inputs, analogues, positions.
-pub const STATE_CELLS: usize = 92;
-
+pub const RS: usize = RUN_AT + PLACES * FIFOS;
+// The cells of a state: outputs, and from these places on markers, parameters, timers and the counts of the FIFOs.
 pub const MARKER_AT: usize = 16;
+
+pub const PARAM_AT: usize = 48;
 
 pub const TIMER_AT: usize = 80;
 
-pub const COUNT_AT: usize = 88;
+pub const COUNT_AT: usize = TIMER_AT + TIMERS;
 
-pub const TIMERS: usize = 8;
-// Where the first FIFO's run of R starts.
-pub const RUNS: usize = 100;
+pub const STATE_CELLS: usize = COUNT_AT + FIFOS;
+// The input cells of a beat: a bit each of the input word, then the numbers that the host lends, analogues and from the place IM_AT on positions.
+pub const BITS: usize = 16;
+
+pub const NUMBERS: usize = 14;
+
+const IM_AT: usize = 24;
+
+pub const INPUTS: usize = BITS + NUMBERS;
+// The cells of a beat: those of its inputs, then those of the state.
+pub const CELLS: usize = INPUTS + STATE_CELLS;
+
+const MARKER_CELLS: usize = INPUTS + MARKER_AT;
+
+const PARAM_CELLS: usize = INPUTS + PARAM_AT;
+
+const TIMER_CELLS: usize = INPUTS + TIMER_AT;
+
+pub const COUNT_CELLS: usize = INPUTS + COUNT_AT;
 
 // The first cell of a variable.
 fn cell_start(w: u32) -> usize
@@ -71,12 +72,12 @@ fn cell_start(w: u32) -> usize
         return TIMER_CELLS;
     }
     if w == OUT {
-        return OUT_CELLS;
+        return INPUTS;
     }
     if w == INA {
-        return INA_CELLS;
+        return BITS;
     }
-    if w == IM { IM_CELLS } else { IN_CELLS }
+    if w == IM { IM_AT } else { 0 }
 }
 
 // The cell of w[i].
@@ -139,7 +140,7 @@ fn fifo_at(r: &[i32; RS], cells: &[i32; CELLS], w: u32, i: u32) -> Worked
     ensures { λ x. ⌜ x ≡ fifoAt (now (r .entry)) (now (cells .entry)) w i ⌝ }
 {
     let k = (w - FIFO1) as usize;
-    let start = RUNS + PLACES * k;
+    let start = RUN_AT + PLACES * k;
     let end = start + PLACES;
     let count = count_of(cells[COUNT_CELLS + k]);
     let all = &r[..];

@@ -4,13 +4,14 @@ use borrow.Author.Tests.{not-true, not-false}
 use native.Mathlib.Omega.{arith}
 use mathlib.Core.Path.{_≡_, sym, _∙_}
 use lib.ListN.{length}
+use Rattle.working.specs.Variables.{stateCells}
 use Rattle.engine.specs.SetCountLaws.{sound-count}
 use Rattle.engine.proofs.SoundTestLaws.{unsound-set, sound-as}
 use Rattle.engine.proofs.CallLaws.{reset-unsound, reset-sound}
 use Rattle.engine.proofs.calls.reset.Statement.{statement}
 use Rattle.engine.proofs.calls.reset.Tie as tie
 
-whole : (c : tie.After-cells2) → length (c .before .before .before .before .before .before .args .state .cells) ≡ 92
+whole : (c : tie.After-cells2) → length (c .before .before .before .before .before .before .args .state .cells) ≡ stateCells
 whole c = search needs
 
 pub reset-spec : {M : Type 1} → statement M

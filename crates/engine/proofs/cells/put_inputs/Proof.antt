@@ -8,16 +8,17 @@ use Prim.Native.Nat.{_-_, _/_, _^_, _≤_}
 use lib.ListN.{length, drop, length-set}
 use mir.Syntax.{w32}
 use Rattle.values.proofs.Signed.{back}
+use Rattle.working.specs.Variables.{bitCount}
 use Rattle.engine.specs.Cells.{inputCells}
 use Rattle.engine.proofs.CellLaws.{input-none, input-rest, input-turn}
 use Rattle.engine.proofs.cells.put_inputs.Statement.{statement}
 use Rattle.engine.proofs.cells.put_inputs.Tie as tie
 
 abbrev Inv-loop : tie.InvT-loop
-Inv-loop cells₀ word rest₀ i₀ cells rest i = (cells ≡ inputCells word i ++ drop i cells₀) × (length cells ≡ length cells₀) × (rest ≡ word / 2 ^ i) × (i ≤ 16)
+Inv-loop cells₀ word rest₀ i₀ cells rest i = (cells ≡ inputCells word i ++ drop i cells₀) × (length cells ≡ length cells₀) × (rest ≡ word / 2 ^ i) × (i ≤ bitCount)
 
 abbrev μ-loop : tie.MeasureT-loop
-μ-loop cells₀ word rest₀ i₀ cells rest i = 16 - i
+μ-loop cells₀ word rest₀ i₀ cells rest i = bitCount - i
 
 pub put-inputs-spec : {M : Type 1} → statement M
 put-inputs-spec =
@@ -39,4 +40,4 @@ put-inputs-spec =
       omega arith,
     ))
     (λ c. c .before .loop .inv .1)
-    (λ c. let e : c .before .loop .i ≡ 16 = omega arith in rw e at (c .before .loop .inv .0)))
+    (λ c. let e : c .before .loop .i ≡ bitCount = omega arith in rw e at (c .before .loop .inv .0)))

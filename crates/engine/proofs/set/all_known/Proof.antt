@@ -5,13 +5,13 @@ use native.Mathlib.Omega.{arith}
 use native.Mathlib.Nat.{sub-zero}
 use mathlib.Core.Path.{_≡_, sym, _∙_}
 use Prim.Native.Nat.{_-_, _≤_}
-use Rattle.engine.specs.Set.{allKnown}
+use Rattle.engine.specs.Set.{lockTable, allKnown}
 use Rattle.engine.proofs.SetLaws.{known-not, known-on, known-none}
 use Rattle.engine.proofs.set.all_known.Statement.{statement}
 use Rattle.engine.proofs.set.all_known.Tie as tie
 
 abbrev Inv-loop : tie.InvT-loop
-Inv-loop set numbers count k₀ k = (allKnown set numbers (count - k) k ≡ allKnown set numbers count 0) × (k ≤ count)
+Inv-loop set numbers count k₀ k = (allKnown set (lockTable numbers) (count - k) k ≡ allKnown set (lockTable numbers) count 0) × (k ≤ count)
 
 abbrev μ-loop : tie.MeasureT-loop
 μ-loop set numbers count k₀ k = count - k

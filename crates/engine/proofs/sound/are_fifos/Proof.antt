@@ -4,7 +4,7 @@ use borrow.Author.Tests.{not-true, not-false}
 use native.Mathlib.Omega.{arith}
 use mathlib.Core.Path.{_≡_, refl, sym, _∙_}
 use Prim.Native.Nat.{_-_, _≤_}
-use Rattle.engine.specs.State.{fifos}
+use Rattle.working.specs.Variables.{fifos}
 use Rattle.engine.specs.Sound.{areFifos}
 use Rattle.engine.proofs.SoundTestLaws.{fifos-not, fifos-on, fifos-none}
 use Rattle.engine.proofs.sound.are_fifos.Statement.{statement}

@@ -7,6 +7,7 @@ use Prim.Native.Nat.{ℕ}
 use lib.Dec.{leb}
 use lib.IntN.{ℤ, pos}
 use mir.Syntax.{w32}
+use Rattle.values.specs.Fifo.{places}
 use Rattle.values.proofs.Signed.{back, both}
 use Rattle.working.specs.Variables.{asCount}
 use Rattle.values.specs.Value.{inRange, lessThan, equalTo, wholeUnits}
@@ -37,4 +38,4 @@ is-cell-spec =
     (λ c. simp (isCell, inside (c .before .before .before .before .before), le-ltb _ _ (c .before .before .before .before .if2 .left), le-ltb _ _ (c .before .before .before .if3 .left), le-ltb _ _ (c .before .before .if4 .left), lt-ltb _ _ (c .before .if5 .taken)) (ap not (c .is-less .ensures ∙ ap (λ (u : ℤ). lessThan u (pos 0)) (back w32 (c .before .before .before .before .before .before .before .fits .v)))))
     (λ c κs. search needs)
     (λ c. search needs)
-    (λ c. simp (isCell, inside (c .before .before .before .before .before), le-ltb _ _ (c .before .before .before .before .if2 .left), le-ltb _ _ (c .before .before .before .if3 .left), le-ltb _ _ (c .before .before .if4 .left), le-ltb _ _ (c .before .if5 .left)) (ap (λ (n : ℕ). leb n 16) (c .count-of .ensures ∙ ap asCount (back w32 (c .before .before .before .before .before .before .before .fits .v))))))
+    (λ c. simp (isCell, inside (c .before .before .before .before .before), le-ltb _ _ (c .before .before .before .before .if2 .left), le-ltb _ _ (c .before .before .before .if3 .left), le-ltb _ _ (c .before .before .if4 .left), le-ltb _ _ (c .before .if5 .left)) (ap (λ (n : ℕ). leb n places) (c .count-of .ensures ∙ ap asCount (back w32 (c .before .before .before .before .before .before .before .fits .v))))))

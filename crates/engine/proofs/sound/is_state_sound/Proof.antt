@@ -4,7 +4,7 @@ use borrow.Author.Tests.{not-true, not-false}
 use mathlib.Core.Path.{_≡_, sym, _∙_}
 use mathlib.Core.Bool.{true}
 use Rattle.engine.specs.declared.state.State.{State}
-use Rattle.engine.specs.State.{fifos}
+use Rattle.working.specs.Variables.{fifos}
 use Rattle.engine.specs.Sound.{allRanged, areCells, areFifos, stateSound}
 use Rattle.engine.proofs.sound.is_state_sound.Statement.{statement}
 use Rattle.engine.proofs.sound.is_state_sound.Tie as tie

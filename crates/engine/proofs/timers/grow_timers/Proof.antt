@@ -9,19 +9,20 @@ use lib.ListN.{getD}
 use mir.Syntax.{w32}
 use Rattle.values.proofs.Signed.{back}
 use Rattle.values.specs.Time.{timer, grownTimer}
+use Rattle.working.specs.Variables.{timerCount, timerAt}
 use Rattle.engine.specs.Timers.{grownCells}
 use Rattle.engine.proofs.TimerLaws.{grown-none, grown-turn}
 use Rattle.engine.proofs.timers.grow_timers.Statement.{statement}
 use Rattle.engine.proofs.timers.grow_timers.Tie as tie
 
 abbrev Inv-loop : tie.InvT-loop
-Inv-loop cells₀ runs i₀ cells i = (cells ≡ grownCells runs cells₀ i) × (i ≤ 8)
+Inv-loop cells₀ runs i₀ cells i = (cells ≡ grownCells runs cells₀ i) × (i ≤ timerCount)
 
 abbrev μ-loop : tie.MeasureT-loop
-μ-loop cells₀ runs i₀ cells i = 8 - i
+μ-loop cells₀ runs i₀ cells i = timerCount - i
 
-grew : (c : tie.After-grown Inv-loop μ-loop) → c .grown .result ≡ grownTimer (timer (getD (c .before .before .before .before .loop .cells) (80 + c .before .before .before .before .loop .i) (pos 0)) (getD (c .before .before .before .before .before .args .runs .now) (c .before .before .before .before .loop .i) false))
-grew c = c .grown .ensures ∙ ap (λ (v : ℤ). grownTimer (timer v (getD (c .before .before .before .before .before .args .runs .now) (c .before .before .before .before .loop .i) false))) (back w32 {z = getD (c .before .before .before .before .loop .cells) (80 + c .before .before .before .before .loop .i) (pos 0)} (record { sfits = c .before .before .v .given }))
+grew : (c : tie.After-grown Inv-loop μ-loop) → c .grown .result ≡ grownTimer (timer (getD (c .before .before .before .before .loop .cells) (timerAt + c .before .before .before .before .loop .i) (pos 0)) (getD (c .before .before .before .before .before .args .runs .now) (c .before .before .before .before .loop .i) false))
+grew c = c .grown .ensures ∙ ap (λ (v : ℤ). grownTimer (timer v (getD (c .before .before .before .before .before .args .runs .now) (c .before .before .before .before .loop .i) false))) (back w32 {z = getD (c .before .before .before .before .loop .cells) (timerAt + c .before .before .before .before .loop .i) (pos 0)} (record { sfits = c .before .before .v .given }))
 
 pub grow-timers-spec : {M : Type 1} → statement M
 grow-timers-spec =
@@ -40,4 +41,4 @@ grow-timers-spec =
     (λ c. omega arith)
     (λ c. omega arith)
     (λ c. (grown-turn _ _ _ _ _ _ (c .before .before .before .before .before .loop .inv .0) (grew (c .before)) (back w32 (record { sfits = c .struct-told .given .0 .1 .1 .0 .1 })), omega arith))
-    (λ c. let e : c .before .loop .i ≡ 8 = omega arith in rw e at (c .before .loop .inv .0)))
+    (λ c. let e : c .before .loop .i ≡ timerCount = omega arith in rw e at (c .before .loop .inv .0)))

@@ -8,14 +8,14 @@ use mir.ValLaws.{toZ-pos}
 use Rattle.values.specs.declared.arithmetic.Worked.the-variants.{Value}
 use Rattle.values.proofs.Signed.{back}
 use Rattle.tokens.specs.Token.{FIFO1, FIFO4}
-use Rattle.working.specs.Variables.{run}
+use Rattle.working.specs.Variables.{fifoOf, run}
 use Rattle.tokens.proofs.Between.{inside}
 use Rattle.engine.specs.Write.{changed, moved, changeFifo}
 use Rattle.engine.proofs.WriteLaws.{fifo-changes}
 use Rattle.engine.proofs.write.change_fifo.Statement.{statement}
 use Rattle.engine.proofs.write.change_fifo.Tie as tie
 
-came : (c : tie.After-change-run) → let s = c .before .before in let a = s .before .before .args in changeFifo (now (a .r)) (now (a .cells)) (a .op) (a .w) (a .v) ≡ moved (now (a .r)) (now (a .cells)) (a .w) (changed (a .op) (run (now (a .r)) (a .w)) (s .count-of .result) (a .v)) (c .change-run .result)
+came : (c : tie.After-change-run) → let s = c .before .before in let a = s .before .before .args in changeFifo (now (a .r)) (now (a .cells)) (a .op) (a .w) (a .v) ≡ moved (now (a .r)) (now (a .cells)) (fifoOf (a .w)) (changed (a .op) (run (now (a .r)) (fifoOf (a .w))) (s .count-of .result) (a .v)) (c .change-run .result)
 came c =
     let s = c .before .before in
     let a = s .before .before .args in
@@ -32,8 +32,6 @@ change-fifo-spec =
     (λ c. search needs)
     (λ c. let b = inside FIFO1 FIFO4 (c .args .w) (c .pre) in omega arith)
     (λ c κs. search needs)
-    (λ c. search needs)
-    (λ c. search needs)
     (λ c κs. let s = c .before .before .before in let b = inside FIFO1 FIFO4 (s .args .w) (s .pre) in omega arith)
     (λ c. search needs)
     (λ c. search needs)

@@ -8,9 +8,8 @@ use mir.Syntax.{w32}
 use Rattle.values.specs.Value.{wholeUnits, outputOf}
 use Rattle.values.proofs.Signed.{back}
 use Rattle.tokens.proofs.Indices.{last-inside}
-use Rattle.working.specs.Variables.{cellCount}
+use Rattle.working.specs.Variables.{cellCount, timerCount}
 use Rattle.working.specs.VariableLaws.{cell-inside}
-use Rattle.engine.specs.State.{timerCount}
 use Rattle.engine.specs.Write.{writeCell}
 use Rattle.engine.proofs.write.write_cell.Statement.{statement}
 use Rattle.engine.proofs.write.write_cell.Tie as tie

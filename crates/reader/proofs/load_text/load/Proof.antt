@@ -91,5 +91,5 @@ load-spec =
     let i = u .before .before .before in
     let r = i .before in
     let l = small r in
-    let w = text-good (text (start l)) (short l) (few l) (rowsIn (array r) (draft r)) (rows r (i .if3 .left) .0) _ (u .first-unknown .ensures .0) (n .if4 .left) _ (rw (u .first-unknown .ensures .1) at (p .put-by-number .ensures)) in
+    let w = text-good (text (start l)) (short l) (few l) (rowsIn (array r) (draft r)) (rows r (i .if3 .left) .0) _ (u .first-unknown .ensures .0) (n .if4 .left) _ (rw (u .first-unknown .ensures .1) at (p .put-rows .ensures)) in
     (c .answered5 .ensures ∙ w .0, w .1)))

@@ -11,7 +11,7 @@ use mir.Val.{SFits, toZ, ofZ}
 use Rattle.values.specs.Fifo.{places}
 use Rattle.values.proofs.Signed.{back}
 use Rattle.tokens.specs.Token.{FIFO1, FIFO4}
-use Rattle.working.specs.Variables.{counts, runStart, asCount, countAt, fifoValue, fifoAt}
+use Rattle.working.specs.Variables.{inputCount, countAt, runAt, asCount, fifoOf, beatCount, fifoValue, fifoAt}
 use Rattle.tokens.proofs.Between.{inside}
 use Rattle.working.proofs.variables.fifo_at.Statement.{statement}
 use Rattle.working.proofs.variables.fifo_at.Tie as tie
@@ -19,10 +19,11 @@ use Rattle.working.proofs.variables.fifo_at.Tie as tie
 part-size : (start : ℕ) → start + places - start ≡ places
 part-size start = omega arith
 
-module _ (r c : List ℤ) (w i n : ℕ) (h : SFits w32 (getD c (counts + (w - FIFO1)) (pos 0))) where
-  reads : n ≡ asCount (toZ w32 (ofZ w32 (getD c (counts + (w - FIFO1)) (pos 0)))) → fifoValue (take (runStart w + places - runStart w) (drop (runStart w) r)) n i ≡ fifoAt r c w i
-  unfolding fifoAt countAt
-  reads e = rw (e, back w32 h, part-size (runStart w))
+module _ (r c : List ℤ) (w i n : ℕ) (h : SFits w32 (getD c (inputCount + countAt + fifoOf w) (pos 0))) where
+  reads : n ≡ asCount (toZ w32 (ofZ w32 (getD c (inputCount + countAt + fifoOf w) (pos 0)))) →
+      fifoValue (take (runAt (fifoOf w) + places - runAt (fifoOf w)) (drop (runAt (fifoOf w)) r)) n i ≡ fifoAt r c w i
+  unfolding fifoAt beatCount
+  reads e = rw (e, back w32 h, part-size (runAt (fifoOf w)))
 
 pub fifo-at-spec : {M : Type 1} → statement M
 fifo-at-spec =

@@ -12,7 +12,7 @@ use Rattle.values.specs.declared.arithmetic.Worked.the-variants.{Value}
 use Rattle.values.proofs.Signed.{back}
 use Rattle.tokens.specs.Index.{isInside}
 use Rattle.tokens.proofs.Indices.{last-inside}
-use Rattle.working.specs.Variables.{variableValue}
+use Rattle.working.specs.Variables.{cellCount, variableValue}
 use Rattle.working.specs.VariableLaws.{cell-inside}
 use Rattle.working.proofs.variables.variable_value.Statement.{statement}
 use Rattle.working.proofs.variables.variable_value.Tie as tie
@@ -20,7 +20,7 @@ use Rattle.working.proofs.variables.variable_value.Tie as tie
 holds : (c : tie.Else1) → isInside (c .before .before .args .w) (c .before .before .args .i) ≡ true
 holds c = sym (c .before .is-inside .ensures) ∙ not-false _ (c .if1 .left)
 
-cell-fits : (c : tie.After-cell-of) → c .cell-of .result < 122
+cell-fits : (c : tie.After-cell-of) → c .cell-of .result < cellCount
 cell-fits c =
     let d = c .before .before .before in
     rw (c .cell-of .ensures) (cell-inside _ _ (d .if2 .left) (sym (c .before .before .is-fifo .ensures) ∙ c .before .if3 .left) (holds (d .before)))
