@@ -5,7 +5,8 @@ use crate::beat::Mode;
 use crate::beat_line::BeatLine;
 use crate::host_line::{indices, HostLine, PLACE_LETTERS};
 use crate::host_session::checksum;
-use crate::set::HEAD;
+use crate::load;
+use crate::set::{HEAD, LINES};
 use crate::synrun::print_orders;
 use crate::text;
 use crate::token::{Comparison, Joint, Keyword, Motion, Name, Scope, Token};
@@ -16,14 +17,20 @@ use std::io::{self, Read, Write};
 const TEXT: usize = 16384;
 /// Numbers of a request, its letter among them.
 const NUMBERS: usize = 37;
-/// The places of a set: the count of lines, where each line starts, the tokens, an END behind those of each line.
-const SET: usize = 4130;
+/// The places of a set: the count of lines, where each line starts, the places of 3 curves and of 8 lists of 16 lines, the tokens, an END
+/// behind those of each line.
+const SET: usize = STARTS + LINES + 3 + 8 * (1 + 16) + load::TEXT + 1;
 const STARTS: usize = 1;
 /// Those that are answered at once.
 const AT_ONCE: usize = 1024;
 const END: u32 = 0;
+/// The cells of a state: outputs, and from these places on markers, parameters, timers and the counts of the four FIFOs.
+const MARKERS: usize = 16;
+const PARAMETERS: usize = MARKERS + 32;
+const TIMERS: usize = PARAMETERS + 32;
+const COUNTS: usize = TIMERS + 8;
 /// The arrays of a state: R, cells, timers that run, locks, cancels, memories.
-const ARRAYS: [usize; 6] = [164, 92, 8, 32, 32, 32];
+const ARRAYS: [usize; 6] = [164, COUNTS + 4, 8, LINES, LINES, LINES];
 
 type Places = Vec<u32>;
 
@@ -283,10 +290,10 @@ fn place(letter: u8, index: usize) -> (usize, usize) {
     match letter {
         b'R' => (0, index),
         b'O' => (1, index - 1),
-        b'M' => (1, 16 + index),
-        b'P' => (1, 48 + index),
-        b'T' => (1, 80 + index),
-        b'F' => (1, 88 + index - 1),
+        b'M' => (1, MARKERS + index),
+        b'P' => (1, PARAMETERS + index),
+        b'T' => (1, TIMERS + index),
+        b'F' => (1, COUNTS + index - 1),
         b'U' => (2, index),
         b'L' => (3, index),
         b'C' => (4, index),

@@ -73,14 +73,14 @@ impl Agreement {
             return;
         }
         let laid = tokens::laid(&[numbers]);
-        let fault = proved::line_fault(&laid.set, tokens::FIRST);
+        let fault = proved::line_fault(&laid.set, proved::FIRST);
         match check::line(&expected) {
             Err(code) => {
                 self.note(fault == u32::from(code.number()), || format!("{fault} for {code:?}: {text:?}"))
             }
             Ok(line) => {
                 self.note(fault == 0, || format!("fault {fault}: {text:?}"));
-                let expressions = loaded::expressions(&laid, tokens::FIRST, &line);
+                let expressions = loaded::expressions(&laid, proved::FIRST, &line);
                 for _ in 0..WORLDS {
                     self.values(&laid.set, &line, &expressions, &memory::random(random));
                 }

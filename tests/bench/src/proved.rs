@@ -1,7 +1,9 @@
 //! The proved calls of the crate `exports`. They ask nothing of their caller; the array types give the lengths, a text is lent by its place and length.
 
-/// Places of a set (crates/tokens/specs/Token), of R, and of the cells of all other variables (crates/working/specs/Variables).
-pub const SIZE: usize = 4130;
+/// Places of a set (crates/tokens/specs/Token): the count of lines, where each of 32 starts, the places of 3 curves and of 8 lists of 16 lines; then the tokens.
+pub const FIRST: usize = 1 + 32 + 3 + 8 * (1 + 16);
+pub const SIZE: usize = FIRST + 4096 + 1;
+/// Places of R, and of the cells of all other variables (crates/working/specs/Variables).
 pub const RS: usize = 164;
 pub const CELLS: usize = 122;
 

@@ -1,10 +1,7 @@
 //! Set text as the numbers of crates/tokens/specs/Token, and lines of them in the array of a set.
 
-use crate::proved::{Set, SIZE};
+use crate::proved::{Set, FIRST, SIZE};
 use reference::text;
-
-/// Where the tokens of a set start: behind its count of lines and the starts of 32.
-pub const FIRST: usize = 33;
 
 pub const EQUALS: u32 = 1;
 pub const RIGHT: u32 = 15;
