@@ -11,8 +11,8 @@ use Rattle.values.specs.Choice.{both}
 use Rattle.tokens.specs.Token.{ID, IDS, isId, EQUALS, OPEN, CLOSE, MINUS, LEFT, RIGHT, X, W, NUMBER, hasAxis, isAxis, isWhole, between}
 use Rattle.tokens.specs.Descent.{isIndex, isIndexed}
 use Rattle.tokens.specs.SingleFault.{bracketsOpen, opensTooMany}
-use Rattle.tokens.proofs.Between.{inside, lies-inside}
-use Rattle.tokens.proofs.BracketLaws.{bracket-open, bracket-close, bracket-other}
+use Rattle.tokens.specs.BetweenLaws.{inside, lies-inside}
+use Rattle.tokens.specs.BracketLaws.{bracket-open, bracket-close, bracket-other}
 use Rattle.checking.specs.SightNumber.{nextOf, depthOf, signsBehind}
 use Rattle.checking.specs.Brackets.{NoBracket, CountsOn, InGrammar, Counted, Onward, InBrackets, SameEnd, Joined}
 

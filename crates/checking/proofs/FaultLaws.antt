@@ -14,7 +14,7 @@ use Rattle.tokens.specs.Descent.{Read, read, ends, then, isIndexed, indexAt, ex
 use Rattle.checking.specs.Fault.{sight, faultFor, isRemoval, assignmentAt, commandAt, actionAt, countFault, actionsAt, numberOf, faultyLine, judged, lineParts, bodyAt, restAt}
 use Rattle.tokens.specs.SingleFault.{lower, codeFault, callFault, opensTooMany}
 use Rattle.values.specs.Choice.{both, chosen, refused}
-use Rattle.tokens.proofs.Between.{tested}
+use Rattle.tokens.specs.BetweenLaws.{tested}
 use Rattle.checking.specs.SightNumber.{nextOf, faultOf, faulted, bodyFrom}
 use Rattle.checking.specs.Brackets.{NoBracket, InGrammar, Joined}
 use Rattle.checking.proofs.SightNumberLaws.{Made, faulted-stop, faulted-read}

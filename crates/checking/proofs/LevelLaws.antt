@@ -8,8 +8,8 @@ use borrow.Author.Tests.{not-false}
 use Rattle.values.specs.Choice.{both}
 use Rattle.tokens.specs.Token.{OPEN, SAME, ATLEAST, PLUS, MINUS, TIMES, OVER, AND, XOR, between, isFactor, isTerm, isArithmetic, isCompare, isLogic}
 use Rattle.tokens.specs.Descent.{Read, read, ends, then, isRow, token}
-use Rattle.tokens.proofs.Between.{inside, outside, is-inside, arithmetic-range}
-use Rattle.tokens.proofs.Rows.{Loop, loop-goes}
+use Rattle.tokens.specs.BetweenLaws.{inside, outside, is-inside, arithmetic-range}
+use Rattle.tokens.specs.RowLaws.{Loop, loop-goes}
 use Rattle.checking.specs.Fault.{Sight, sight, joinSights, lowest}
 use Rattle.checking.specs.SightNumber.{nextOf, sightOf, seen}
 use Rattle.checking.specs.Brackets.{NoBracket, Counted, Onward, Joined}

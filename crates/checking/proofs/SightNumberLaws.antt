@@ -9,8 +9,8 @@ use Rattle.values.specs.Codes.{notInGrammar}
 use Rattle.tokens.specs.Token.{room, setSize}
 use Rattle.tokens.specs.Descent.{Read, read, ends, then}
 use Rattle.tokens.specs.SingleFault.{lower, wantingFault}
-use Rattle.tokens.proofs.ReadStepLaws as answers
-use Rattle.tokens.proofs.Rows.{Says}
+use Rattle.tokens.specs.ReadStepLaws as answers
+use Rattle.tokens.specs.RowLaws.{Says}
 use Rattle.checking.specs.Fault.{Sight, faultFor, lowest}
 use Rattle.checking.specs.SightNumber.{numberSeen, truthSeen, nextOf, truthOf, faultOf, depthOf, deeperOf, isFaultless, sightOf, seen, faulted, signedSight}
 use Rattle.checking.specs.Brackets.{SameEnd, Joined}

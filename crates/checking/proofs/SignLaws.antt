@@ -12,7 +12,7 @@ use Rattle.tokens.specs.Descent.{Read, read, ends, then, readOperand}
 use Rattle.tokens.specs.SingleFault.{lower, wantingFault}
 use Rattle.checking.specs.Fault.{Sight, sight}
 use Rattle.checking.specs.SightNumber.{signedSight, signsBehind}
-use Rattle.tokens.proofs.Arms.{minus-arm}
+use Rattle.tokens.specs.ArmLaws.{minus-arm}
 
 module _ (s : List ℕ) (k p t n : ℕ) (e : t ≡ getD s (p + 1) 0) where
   pub behind-none : (t ≡ MINUS → ⊥) → n + signsBehind s k p ≡ n

@@ -6,8 +6,8 @@ use Prim.Native.Nat.{ℕ}
 use borrow.Author.Tests.{not-true}
 use Rattle.tokens.specs.Token.{CLOSE, isArithmetic, isCompare, isLogic}
 use Rattle.tokens.specs.Descent.{Read, read, ends, token, readSum, readExpression}
-use Rattle.tokens.proofs.Between.{never}
-use Rattle.tokens.proofs.Rows.{row-stops, row-ends, product-begins, sum-begins, expression-is, rest-none}
+use Rattle.tokens.specs.BetweenLaws.{never}
+use Rattle.tokens.specs.RowLaws.{row-stops, row-ends, product-begins, sum-begins, expression-is, rest-none}
 use Rattle.checking.specs.Fault.{Sight, sight}
 
 neither : (a b : Bool) → a || b ≡ false → (a ≡ false) × (b ≡ false)

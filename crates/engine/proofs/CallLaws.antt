@@ -10,7 +10,7 @@ use lib.ListN.{length, take, drop, getD, set, replicate, length-append, length-r
 use lib.Seq.{length-take-le, set-getD}
 use borrow.Author.Tests.{eq-eqb, ne-eqb}
 use Rattle.values.specs.Codes.{unsound}
-use Rattle.values.proofs.Lists.{put, replicate-more}
+use Rattle.values.specs.ListLaws.{put, replicate-more}
 use Rattle.tokens.specs.Token.{maxLines}
 use Rattle.checking.specs.declared.line.Line.{Line}
 use Rattle.engine.specs.declared.set.Lines.{Lines}

@@ -11,7 +11,7 @@ use lib.IntN.{ℤ, pos}
 use lib.ListN.{length, take, drop, getD, set, length-append, length-drop, drop-of-length-le}
 use lib.Seq.{paste, paste-suc, take-all, take-length, take-at, append-snoc}
 use Rattle.values.specs.Value.{unit}
-use Rattle.values.proofs.Lists.{put}
+use Rattle.values.specs.ListLaws.{put}
 use Rattle.engine.specs.Cells.{inputCell, inputCells}
 use Rattle.engine.specs.InputLaws.{length-inputs}
 

@@ -7,7 +7,7 @@ use lib.ListN.{getD}
 use mir.Syntax.{w32}
 use mir.Val.{SFits, toZ, ofZ}
 use Rattle.values.specs.declared.fifo.Moved.{Moved}
-use Rattle.values.proofs.Signed.{back}
+use Rattle.values.specs.SignedLaws.{back}
 use Rattle.working.specs.Variables.{inputCount, countAt, asCount, fifoOf, run, beatCount}
 use Rattle.engine.specs.Write.{changeAnswer, changed, moved, changeFifo}
 

@@ -13,7 +13,7 @@ use Rattle.values.specs.Choice.{both, decide}
 use Rattle.tokens.specs.Token.{between, IM, isFifo, thousandths, axisOf, EVERY, SETAL, WHEN, maxActions}
 use Rattle.values.specs.Value.{top}
 use Rattle.tokens.specs.Index.{isInside}
-use Rattle.tokens.proofs.SingleFaultLaws.{none-first}
+use Rattle.tokens.specs.SingleFaultLaws.{none-first}
 use Rattle.grammar.specs.Tree.{Operand, number, variable, position, truth, bracket, minus, not, Product, product, Factors, noFactor, factor, Sum, sum, Terms, noTerm, term, Expression, single, compare, row, Sums, last, next, Action, assign, assignPosition, drive, code, call, Condition, always, under, Line, line}
 use Rattle.tokens.specs.Descent.{Answer, good, stop, read, _>>=_, upTo}
 use Rattle.grammar.specs.Meaning.{operandMeaning, productMeaning, factorsMeaning, sumMeaning, termsMeaning, expressionMeaning, sumsMeaning}

@@ -28,7 +28,7 @@ use Rattle.checking.specs.Fault.{wanting, Sight, joinSights, sight}
 use Rattle.working.specs.Operators.{fromWorked, yesNo, isYes, joinTruths, joinValues}
 use Rattle.working.specs.Working.{valueOver}
 use Rattle.engine.specs.Action.{alarmOf}
-use Rattle.tokens.proofs.Indices.{last-inside, last-fifo}
+use Rattle.tokens.specs.IndexLaws.{last-inside, last-fifo}
 use Rattle.soundness.specs.GoodAnswers.{Not22}
 use Rattle.soundness.specs.CellSoundLaws.{run-ranged}
 use Rattle.soundness.specs.WriteSoundLaws.{lower-zero, unless-zero, BeatSound, run-length, count-few}

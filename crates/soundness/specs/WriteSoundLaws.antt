@@ -31,7 +31,7 @@ use Rattle.tokens.specs.SingleFault.{lower, unless, isWritable, writeFault}
 use Rattle.working.specs.Operators.{fromWorked}
 use Rattle.engine.specs.Sound.{isCell, isOutput}
 use Rattle.engine.specs.Write.{Vars, Changed, Celled, withRun, moved, writeTimer, changeAnswer, changed, changeFifo, writeFifo, writeCell, writeInside, writeTo}
-use Rattle.tokens.proofs.Indices.{last-inside}
+use Rattle.tokens.specs.IndexLaws.{last-inside}
 use Rattle.soundness.specs.GoodAnswers.{Not22, Holds, holds-then}
 use Rattle.soundness.specs.CellSoundLaws.{cell-ranged, timer-cell, count-cell, right-output, right-marker, right-parameter, right-timer, CellsSound, run-ranged, replaced-length, r-keeps, cell-keeps, fifo-keeps}
 

@@ -9,7 +9,7 @@ use native.Mathlib.Omega.{arith}
 use borrow.Author.Tests.{eq-eqb, ne-eqb, le-leb}
 use lib.Dec.{eqb}
 use lib.ListN.{set, take}
-use Rattle.tokens.proofs.Between.{never}
+use Rattle.tokens.specs.BetweenLaws.{never}
 use Rattle.text.specs.Byte.{LF}
 use Rattle.reader.specs.declared.load_text.Loaded.{Loaded}
 use Rattle.values.specs.PutAt.{putAt, IsPut}

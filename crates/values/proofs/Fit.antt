@@ -11,7 +11,7 @@ use Rattle.values.specs.Codes.{fifoEmpty}
 use Rattle.values.specs.declared.fifo.FifoValue.{FifoValue}
 use Rattle.values.specs.declared.fifo.FifoValue.the-variants as S
 use Rattle.values.specs.Fifo.{places, fits}
-use Rattle.values.proofs.Signed.{back}
+use Rattle.values.specs.SignedLaws.{back}
 
 -- what a reading gives where v is the value at its place
 abbrev given : ℕ → ℕ → ℤ → FifoValue

@@ -1,4 +1,2 @@
--- Laws that several proofs cite.
-pub mod Signed
-pub mod Lists
+-- What several proofs cite.
 mod Fit

@@ -14,3 +14,5 @@ pub mod Complement
 pub mod ComplementLaws
 pub mod PutAt
 pub mod PutLaws
+pub mod SignedLaws
+pub mod ListLaws

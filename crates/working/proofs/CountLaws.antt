@@ -8,8 +8,8 @@ use lib.Signed.{ltZ, nonNeg}
 use mir.Syntax.{w8, w32}
 use mir.Val.{Fits, SFits, toZ, ofZ}
 use borrow.Author.Tests.{ltb-true, ltb-false, le-leb, lt-leb}
-use Rattle.values.proofs.Signed.{back}
-use Rattle.tokens.proofs.Between.{never}
+use Rattle.values.specs.SignedLaws.{back}
+use Rattle.tokens.specs.BetweenLaws.{never}
 use Rattle.working.specs.Variables.{asCount}
 
 below : (z : ℤ) → ltZ z (pos 0) ≡ true → 255 ≡ asCount z

@@ -9,10 +9,10 @@ use mir.Syntax.{w32}
 use mir.Val.{SFits, toZ, ofZ}
 use Rattle.values.specs.declared.arithmetic.Worked.{Worked}
 use Rattle.values.specs.Value.{sumOf, differenceOf, productOf, quotientOf}
-use Rattle.values.proofs.Signed.{both}
+use Rattle.values.specs.SignedLaws.{both}
 use Rattle.tokens.specs.Token.{room, SAME, OTHER, LESS, MORE, ATMOST, ATLEAST, PLUS, MINUS, TIMES, OVER, AND, XOR, isFactor, isTerm, isCompare, isLogic}
 use Rattle.tokens.specs.Descent.{Answer, good, Read, then, upTo}
-use Rattle.tokens.proofs.Between.{inside}
+use Rattle.tokens.specs.BetweenLaws.{inside}
 use Rattle.working.specs.Pair.{pairOf, nextOf, valueOf, said}
 use Rattle.working.specs.Operators.{fromWorked, yesNo, isYes, joinTruths, joinLogic, joinValues}
 use Rattle.working.proofs.Pairs as pair

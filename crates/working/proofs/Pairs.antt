@@ -10,12 +10,12 @@ use mir.Val.{SFits, toZ, ofZ}
 use borrow.Author.Tests.{eq-eqb, ne-eqb}
 use Rattle.tokens.specs.Token.{setSize, room}
 use Rattle.values.specs.declared.arithmetic.Worked.{Worked}
-use Rattle.values.proofs.Signed.{back}
+use Rattle.values.specs.SignedLaws.{back}
 use Rattle.values.specs.Complement.{twosComplement, signed}
 use Rattle.values.specs.ComplementLaws.{signed-back}
 use Rattle.tokens.specs.Descent.{Answer, Read, read, ends, then, upTo}
-use Rattle.tokens.proofs.ReadStepLaws as answers
-use Rattle.tokens.proofs.Rows.{Says}
+use Rattle.tokens.specs.ReadStepLaws as answers
+use Rattle.tokens.specs.RowLaws.{Says}
 use Rattle.working.specs.Pair.{pairOf, alarmOf, nextOf, valueOf, alarmIn, said}
 use Rattle.working.specs.Operators.{fromWorked}
 

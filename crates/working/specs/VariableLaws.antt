@@ -7,7 +7,7 @@ use lib.Dec.{eqb}
 use borrow.Author.Tests.{eqb-true, eqb-false, ne-eqb}
 use Rattle.tokens.specs.Token.{IN, INA, OUT, MARKER, PARAM, R, TIMER, IM, isFifo}
 use Rattle.tokens.specs.Index.{lastIndex, isInside}
-use Rattle.tokens.proofs.Indices.{last-other, last-inside}
+use Rattle.tokens.specs.IndexLaws.{last-other, last-inside}
 use Rattle.working.specs.Variables.{cellStart, cellOf, cellCount}
 
 by-word : (w n : ℕ) → cellStart n + lastIndex n < cellCount → ((w ≡ n → ⊥) → cellStart w + lastIndex w < cellCount) → cellStart w + lastIndex w < cellCount

@@ -5,7 +5,7 @@ use lib.IntN.{ℤ, negℤ, _-ℤ_}
 use mir.Syntax.{w32, w64}
 use mir.Val.{SFits, toZ, ofZ}
 use Rattle.values.specs.Numbers.{abs-neg, abs-add, fits-abs, abs32}
-use Rattle.values.proofs.Signed.{back, cast64, Wide, wide}
+use Rattle.values.specs.SignedLaws.{back, cast64, Wide, wide}
 use Rattle.exports.specs.Packed.{alarms, packed}
 use Rattle.exports.proofs.packed_value.Statement.{statement}
 use Rattle.exports.proofs.packed_value.Tie as tie

@@ -2,7 +2,7 @@
 use borrow.Author.Needs.{needs}
 use mathlib.Core.Path.{ap, _∙_}
 use mir.Syntax.{w64}
-use Rattle.values.proofs.Signed.{back}
+use Rattle.values.specs.SignedLaws.{back}
 use Rattle.exports.specs.Packed.{packed}
 use Rattle.exports.proofs.set_condition.Statement.{statement}
 use Rattle.exports.proofs.set_condition.Tie as tie

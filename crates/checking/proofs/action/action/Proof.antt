@@ -7,7 +7,7 @@ use Prim.Native.Nat.{_+_}
 use Rattle.checking.proofs.FaultLaws.{no-action, action-command, action-wrong, action-assigns}
 use Rattle.checking.proofs.SightNumberLaws.{faulted-nothing}
 use Rattle.checking.proofs.BracketCountLaws.{counts-assigned, counted-nothing, counted-behind, counted-token}
-use Rattle.tokens.proofs.Between.{lies-inside}
+use Rattle.tokens.specs.BetweenLaws.{lies-inside}
 use Rattle.checking.proofs.action.action.Statement.{statement}
 use Rattle.checking.proofs.action.action.Tie as tie
 

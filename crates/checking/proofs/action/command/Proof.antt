@@ -13,7 +13,7 @@ use Rattle.checking.specs.Fault.{commandAt}
 use Rattle.checking.specs.SightNumber.{faulted}
 use Rattle.checking.specs.Brackets.{NoBracket, InGrammar, Counted}
 use Rattle.tokens.specs.SingleFault.{codeFault, callFault}
-use Rattle.tokens.proofs.Between.{tested}
+use Rattle.tokens.specs.BetweenLaws.{tested}
 use Rattle.checking.proofs.FaultLaws.{no-command, no-code, a-code, no-call, no-open, no-close, a-call}
 use Rattle.checking.proofs.SightNumberLaws.{faulted-nothing, number-made, faulted-made}
 use Rattle.checking.proofs.BracketCountLaws.{other-above, other-high, counts-code, counts-call, counted-nothing, counted-to}

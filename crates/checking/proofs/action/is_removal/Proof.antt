@@ -6,7 +6,7 @@ use mathlib.Core.Bool.{true}
 use native.Mathlib.Omega.{arith}
 use Rattle.tokens.specs.Token.{FIFO1, FIFO4, isFifo}
 use Rattle.tokens.specs.Descent.{isIndexed}
-use Rattle.tokens.proofs.Between.{no-end, lies-inside}
+use Rattle.tokens.specs.BetweenLaws.{no-end, lies-inside}
 use Rattle.checking.proofs.FaultLaws.{removal}
 use Rattle.checking.proofs.action.is_removal.Statement.{statement}
 use Rattle.checking.proofs.action.is_removal.Tie as tie

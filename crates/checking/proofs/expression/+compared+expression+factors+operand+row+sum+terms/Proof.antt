@@ -10,10 +10,10 @@ use Rattle.tokens.specs.Descent.{isRow, readClose, readSum, readExpression, rea
 use Rattle.checking.specs.Fault.{sight}
 use Rattle.checking.specs.SightNumber.{sightOf, seen, signedSight}
 use Rattle.checking.specs.Brackets.{Onward}
-use Rattle.tokens.proofs.ReadStepLaws.{stepped}
-use Rattle.tokens.proofs.Arms.{spent, number-arm, variable-arm, open-arm, not-arm, truth-arm}
-use Rattle.tokens.proofs.Between.{no-end, lies-inside}
-use Rattle.tokens.proofs.Rows.{Loop, loop-begins, loop-spent, loop-inside, loop-stops, loop-ends, product-is, sum-is, expression-is, expression-stops, rest-compares, rest-rows, rest-none}
+use Rattle.tokens.specs.ReadStepLaws.{stepped}
+use Rattle.tokens.specs.ArmLaws.{spent, number-arm, variable-arm, open-arm, not-arm, truth-arm}
+use Rattle.tokens.specs.BetweenLaws.{no-end, lies-inside}
+use Rattle.tokens.specs.RowLaws.{Loop, loop-begins, loop-spent, loop-inside, loop-stops, loop-ends, product-is, sum-is, expression-is, expression-stops, rest-compares, rest-rows, rest-none}
 use Rattle.checking.proofs.SignLaws.{signs-arm}
 use Rattle.checking.proofs.SightNumberLaws.{passes, seen-nothing, seen-stop, seen-read, sights-say, number-made, seen-number}
 use Rattle.checking.proofs.BracketCountLaws.{other-above, other-below, other-high, counts-signs, counted-none, counted-nothing, counted-behind, counted-token, onward-same, same-end-on, joined-on}

@@ -6,10 +6,10 @@ use native.Mathlib.Omega.{arith}
 use Rattle.tokens.specs.Token.{setSize}
 use Rattle.tokens.specs.Descent.{readClose}
 use Rattle.checking.specs.Fault.{sight}
-use Rattle.tokens.proofs.Arms.{closes, closes-not}
+use Rattle.tokens.specs.ArmLaws.{closes, closes-not}
 use Rattle.checking.proofs.SightNumberLaws.{passes, enters, seen-nothing, seen-next, next-made, seen-deeper, deeper-made}
 use Rattle.checking.proofs.BracketCountLaws.{closed-on, closed-nothing}
-use Rattle.tokens.proofs.Between.{lies-inside}
+use Rattle.tokens.specs.BetweenLaws.{lies-inside}
 use Rattle.checking.proofs.expression.closed.Statement.{statement}
 use Rattle.checking.proofs.expression.closed.Tie as tie
 

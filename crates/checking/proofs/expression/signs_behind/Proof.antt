@@ -6,7 +6,7 @@ use Prim.Native.Nat.{_+_, _-_, _<_, _≤_}
 use Rattle.tokens.specs.Token.{setSize}
 use Rattle.checking.specs.SightNumber.{signsBehind}
 use Rattle.checking.proofs.SignLaws.{behind-none, behind-one, behind-spent}
-use Rattle.tokens.proofs.Between.{lies-inside}
+use Rattle.tokens.specs.BetweenLaws.{lies-inside}
 use Rattle.checking.proofs.expression.signs_behind.Statement.{statement}
 use Rattle.checking.proofs.expression.signs_behind.Tie as tie
 

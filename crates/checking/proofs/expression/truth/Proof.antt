@@ -5,7 +5,7 @@ use Prim.Native.Nat.{_+_, _<_}
 use native.Mathlib.Omega.{arith}
 use Rattle.tokens.specs.Token.{room}
 use Rattle.checking.specs.Fault.{sight}
-use Rattle.tokens.proofs.Arms.{yes-truth, no-truth, not-truth}
+use Rattle.tokens.specs.ArmLaws.{yes-truth, no-truth, not-truth}
 use Rattle.checking.proofs.SightNumberLaws.{seen-nothing, truth-made, seen-truth}
 use Rattle.checking.proofs.BracketCountLaws.{other-above, counted-none, counted-nothing}
 use Rattle.checking.proofs.expression.truth.Statement.{statement}

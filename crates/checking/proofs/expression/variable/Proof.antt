@@ -7,7 +7,7 @@ use native.Mathlib.Omega.{arith}
 use Rattle.tokens.specs.Token.{room}
 use Rattle.tokens.specs.SingleFault.{readFault}
 use Rattle.checking.specs.Fault.{sight}
-use Rattle.tokens.proofs.Arms.{indexed, indexed-not}
+use Rattle.tokens.specs.ArmLaws.{indexed, indexed-not}
 use Rattle.checking.proofs.SightNumberLaws.{seen-nothing, number-made, seen-number}
 use Rattle.checking.proofs.BracketCountLaws.{counts-index, counted-none, counted-nothing, counted-behind}
 use Rattle.checking.proofs.expression.variable.Statement.{statement}

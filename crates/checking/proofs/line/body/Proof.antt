@@ -9,7 +9,7 @@ use Rattle.checking.specs.SightNumber.{faultOf, depthOf, bodyFrom}
 use Rattle.checking.proofs.FaultLaws.{body-none, body-does}
 use Rattle.checking.proofs.SightNumberLaws.{Made, faulted-stop, faulted-read, next-made}
 use Rattle.checking.proofs.BracketCountLaws.{other-above, next-on}
-use Rattle.tokens.proofs.Between.{lies-inside}
+use Rattle.tokens.specs.BetweenLaws.{lies-inside}
 use Rattle.checking.proofs.line.body.Statement.{statement}
 use Rattle.checking.proofs.line.body.Tie as tie
 

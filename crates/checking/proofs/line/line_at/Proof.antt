@@ -8,7 +8,7 @@ use Prim.Native.Nat.{_+_, _<_}
 use lib.ListN.{getD}
 use Rattle.tokens.specs.Token.{setSize, ID, IDS, EQUALS, isId, isWhole}
 use Rattle.checking.specs.Fault.{lineAt}
-use Rattle.tokens.proofs.Between.{tested, no-end, lies-inside}
+use Rattle.tokens.specs.BetweenLaws.{tested, no-end, lies-inside}
 use Rattle.checking.proofs.BracketCountLaws.{counts-head}
 use Rattle.checking.proofs.line.line_at.Statement.{statement}
 use Rattle.checking.proofs.line.line_at.Tie as tie

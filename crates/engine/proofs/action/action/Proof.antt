@@ -6,7 +6,7 @@ use Prim.Native.Nat.{_<_}
 use native.Mathlib.Omega.{arith}
 use denote.Ref.{now}
 use Rattle.tokens.specs.Token.{setSize}
-use Rattle.tokens.proofs.Between.{lies-inside}
+use Rattle.tokens.specs.BetweenLaws.{lies-inside}
 use Rattle.engine.specs.Action.{actionOf}
 use Rattle.engine.proofs.ActionAnswerLaws.{same-flags}
 use Rattle.engine.proofs.action.action.Statement.{statement}

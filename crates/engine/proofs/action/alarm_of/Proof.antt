@@ -2,7 +2,7 @@
 use mir.Syntax.{w32}
 use mir.Val.{toZ, ofZ}
 use Rattle.values.specs.Value.{lessThan}
-use Rattle.values.proofs.Signed.{back}
+use Rattle.values.specs.SignedLaws.{back}
 use Rattle.engine.specs.Action.{alarmOf}
 use Rattle.engine.proofs.ActionLaws.{byte}
 use Rattle.engine.proofs.action.alarm_of.Statement.{statement}

@@ -6,7 +6,7 @@ use Prim.Native.Nat.{_+_}
 use native.Mathlib.Omega.{arith}
 use denote.Ref.{now}
 use mir.Syntax.{w32}
-use Rattle.values.proofs.Signed.{back}
+use Rattle.values.specs.SignedLaws.{back}
 use Rattle.tokens.specs.Descent.{Answer, good, indexAt}
 use Rattle.engine.specs.Write.{Vars, writeTo}
 use Rattle.engine.specs.Action.{Taken, takenAt, assignmentOf}

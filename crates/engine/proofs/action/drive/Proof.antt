@@ -9,7 +9,7 @@ use lib.IntN.{ℤ}
 use denote.Ref.{now}
 use mir.Syntax.{w32}
 use Rattle.engine.specs.declared.order.Order.{Order}
-use Rattle.values.proofs.Signed.{back}
+use Rattle.values.specs.SignedLaws.{back}
 use Rattle.tokens.specs.Token.{isAxis}
 use Rattle.tokens.specs.Descent.{token, Answer, good, indexAt}
 use Rattle.working.specs.Working.{rightValue}

@@ -7,7 +7,7 @@ use lib.IntN.{pos}
 use lib.ListN.{getD}
 use denote.Ref.{now}
 use mir.Syntax.{w32}
-use Rattle.values.proofs.Signed.{back}
+use Rattle.values.specs.SignedLaws.{back}
 use Rattle.checking.specs.Fault.{isRemoval}
 use Rattle.tokens.specs.Descent.{Answer}
 use Rattle.working.specs.Working.{rightValue}

@@ -3,7 +3,7 @@ use borrow.Author.Needs.{needs}
 use borrow.Author.Tests.{not-true, not-false}
 use mathlib.Core.Path.{refl, ap, _∙_}
 use mir.Syntax.{w32}
-use Rattle.values.proofs.Signed.{back}
+use Rattle.values.specs.SignedLaws.{back}
 use Rattle.engine.specs.Action.{alarmOf}
 use Rattle.engine.proofs.ActionAnswerLaws.{value-good, value-stop}
 use Rattle.engine.proofs.action.work.Statement.{statement}

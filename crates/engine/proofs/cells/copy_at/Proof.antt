@@ -6,7 +6,7 @@ use Prim.Native.Nat.{_-_, _≤_}
 use lib.ListN.{length, length-set}
 use lib.Seq.{paste, paste-zero}
 use mir.Syntax.{w32}
-use Rattle.values.proofs.Signed.{back}
+use Rattle.values.specs.SignedLaws.{back}
 use Rattle.engine.proofs.CellLaws.{copy-turn, copied}
 use Rattle.engine.proofs.cells.copy_at.Statement.{statement}
 use Rattle.engine.proofs.cells.copy_at.Tie as tie

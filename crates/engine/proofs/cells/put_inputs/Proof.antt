@@ -7,7 +7,7 @@ use mathlib.Core.List.{_++_}
 use Prim.Native.Nat.{_-_, _/_, _^_, _≤_}
 use lib.ListN.{length, drop, length-set}
 use mir.Syntax.{w32}
-use Rattle.values.proofs.Signed.{back}
+use Rattle.values.specs.SignedLaws.{back}
 use Rattle.working.specs.Variables.{bitCount}
 use Rattle.engine.specs.Cells.{inputCells}
 use Rattle.engine.proofs.CellLaws.{input-none, input-rest, input-turn}

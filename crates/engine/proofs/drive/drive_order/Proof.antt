@@ -4,7 +4,7 @@ use borrow.Author.Tests.{ne-eqb}
 use mathlib.Core.Path.{sym, ap, _∙_}
 use mir.Syntax.{w32}
 use Rattle.values.specs.Value.{feedOf, signOf}
-use Rattle.values.proofs.Signed.{back}
+use Rattle.values.specs.SignedLaws.{back}
 use Rattle.engine.specs.Drive.{driveOrder}
 use Rattle.engine.proofs.drive.drive_order.Statement.{statement}
 use Rattle.engine.proofs.drive.drive_order.Tie as tie

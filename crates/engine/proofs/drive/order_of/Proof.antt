@@ -1,7 +1,7 @@
 -- `drive::order_of` meets its contract.
 use mathlib.Core.Path.{refl, ap}
 use mir.Syntax.{w32}
-use Rattle.values.proofs.Signed.{back}
+use Rattle.values.specs.SignedLaws.{back}
 use Rattle.engine.specs.Drive.{orderOf}
 use Rattle.engine.proofs.drive.order_of.Statement.{statement}
 use Rattle.engine.proofs.drive.order_of.Tie as tie

@@ -8,7 +8,7 @@ use native.Mathlib.Omega.{arith}
 use lib.ListN.{length, getD, take, drop, length-set}
 use lib.Seq.{length-take-le, take-suc, append-snoc}
 use denote.Ref.{now}
-use Rattle.values.proofs.Lists.{put}
+use Rattle.values.specs.ListLaws.{put}
 use Rattle.engine.specs.Beat.{bufferSize}
 use Rattle.engine.proofs.one_beat.copy_orders.Statement.{statement}
 use Rattle.engine.proofs.one_beat.copy_orders.Tie as tie

@@ -10,7 +10,7 @@ use denote.Ref.{now}
 use mir.Syntax.{w32}
 use Rattle.engine.specs.Order.{fourBytes, orderBytes}
 use Rattle.values.specs.Complement.{twosComplement}
-use Rattle.values.proofs.Signed.{back}
+use Rattle.values.specs.SignedLaws.{back}
 use Rattle.engine.proofs.order.store.Statement.{statement}
 use Rattle.engine.proofs.order.store.Tie as tie
 

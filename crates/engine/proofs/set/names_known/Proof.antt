@@ -6,7 +6,7 @@ use mathlib.Core.Logic.{⊎-elim}
 use Rattle.engine.specs.Set.{namesKnown, lockTable}
 use Rattle.engine.proofs.SetLaws.{names-end, names-other, names-unknown, names-lock, names-none}
 use Rattle.tokens.specs.Token.{setSize}
-use Rattle.tokens.proofs.Between.{lies-inside}
+use Rattle.tokens.specs.BetweenLaws.{lies-inside}
 use Rattle.engine.proofs.set.names_known.Statement.{statement}
 use Rattle.engine.proofs.set.names_known.Tie as tie
 

@@ -6,7 +6,7 @@ use mathlib.Core.Path.{_≡_, refl, sym, ap, _∙_}
 use Prim.Native.Nat.{_-_}
 use lib.ListN.{length, drop}
 use mir.Syntax.{w32}
-use Rattle.values.proofs.Signed.{back}
+use Rattle.values.specs.SignedLaws.{back}
 use Rattle.values.specs.Value.{inRange}
 use Rattle.engine.specs.Sound.{allRanged}
 use Rattle.engine.proofs.SoundTestLaws.{ranged-not, ranged-on, ranged-none}

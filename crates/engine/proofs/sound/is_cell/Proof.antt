@@ -8,7 +8,7 @@ use lib.Dec.{leb}
 use lib.IntN.{ℤ, pos}
 use mir.Syntax.{w32}
 use Rattle.values.specs.Fifo.{places}
-use Rattle.values.proofs.Signed.{back, both}
+use Rattle.values.specs.SignedLaws.{back, both}
 use Rattle.working.specs.Variables.{asCount}
 use Rattle.values.specs.Value.{inRange, lessThan, equalTo, wholeUnits}
 use Rattle.engine.specs.Sound.{isOutput, isCell}

@@ -7,7 +7,7 @@ use lib.IntN.{pos}
 use lib.ListN.{getD}
 use mir.Syntax.{w32}
 use Rattle.values.specs.Fifo.{places}
-use Rattle.values.proofs.Signed.{back}
+use Rattle.values.specs.SignedLaws.{back}
 use Rattle.working.specs.Variables.{countAt, runAt, asCount, countIn}
 use Rattle.engine.specs.Sound.{isFifoSound}
 use Rattle.engine.proofs.sound.is_fifo_sound.Statement.{statement}

@@ -4,7 +4,7 @@ use borrow.Author.Tests.{ne-eqb}
 use mathlib.Core.Path.{_≡_, sym, ap, _∙_}
 use lib.Dec.{eqb}
 use mir.Syntax.{w32}
-use Rattle.values.proofs.Signed.{back}
+use Rattle.values.specs.SignedLaws.{back}
 use Rattle.values.specs.Value.{outputOf, codeOf}
 use Rattle.values.specs.declared.arithmetic.Worked.{Worked}
 use Rattle.engine.proofs.SoundTestLaws.{output-alarm}

@@ -7,7 +7,7 @@ use Prim.Native.Nat.{_+_, _-_, _≤_}
 use lib.IntN.{ℤ, pos}
 use lib.ListN.{getD}
 use mir.Syntax.{w32}
-use Rattle.values.proofs.Signed.{back}
+use Rattle.values.specs.SignedLaws.{back}
 use Rattle.values.specs.Time.{timer, grownTimer}
 use Rattle.working.specs.Variables.{timerCount, timerAt}
 use Rattle.engine.specs.Timers.{grownCells}

@@ -10,7 +10,7 @@ use lib.ListN.{getD}
 use denote.Ref.{now}
 use mir.Syntax.{w32}
 use Rattle.values.specs.Value.{equalTo}
-use Rattle.values.proofs.Signed.{back}
+use Rattle.values.specs.SignedLaws.{back}
 use Rattle.tokens.specs.Descent.{good, stop}
 use Rattle.working.specs.Operators.{isYes}
 use Rattle.working.specs.Working.{conditionValue}

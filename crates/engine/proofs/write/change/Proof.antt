@@ -2,7 +2,7 @@
 use borrow.Author.Needs.{needs}
 use borrow.Author.Tests.{ne-eqb}
 use mir.Syntax.{w32}
-use Rattle.values.proofs.Signed.{back}
+use Rattle.values.specs.SignedLaws.{back}
 use Rattle.engine.specs.Write.{changeAnswer, changed}
 use Rattle.engine.proofs.write.change.Statement.{statement}
 use Rattle.engine.proofs.write.change.Tie as tie

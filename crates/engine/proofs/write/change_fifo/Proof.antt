@@ -6,10 +6,10 @@ use denote.Ref.{now}
 use mir.Syntax.{w32}
 use mir.ValLaws.{toZ-pos}
 use Rattle.values.specs.declared.arithmetic.Worked.the-variants.{Value}
-use Rattle.values.proofs.Signed.{back}
+use Rattle.values.specs.SignedLaws.{back}
 use Rattle.tokens.specs.Token.{FIFO1, FIFO4}
 use Rattle.working.specs.Variables.{fifoOf, run}
-use Rattle.tokens.proofs.Between.{inside}
+use Rattle.tokens.specs.BetweenLaws.{inside}
 use Rattle.engine.specs.Write.{changed, moved, changeFifo}
 use Rattle.engine.proofs.WriteLaws.{fifo-changes}
 use Rattle.engine.proofs.write.change_fifo.Statement.{statement}

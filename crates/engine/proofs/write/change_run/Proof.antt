@@ -7,7 +7,7 @@ use lib.Seq.{drop-drop}
 use denote.Ref.{now}
 use mir.Syntax.{w32}
 use Rattle.values.specs.Fifo.{places}
-use Rattle.values.proofs.Signed.{back}
+use Rattle.values.specs.SignedLaws.{back}
 use Rattle.working.specs.Variables.{runAt}
 use Rattle.engine.proofs.write.change_run.Statement.{statement}
 use Rattle.engine.proofs.write.change_run.Tie as tie

@@ -6,9 +6,9 @@ use mathlib.Core.Bool.{true}
 use native.Mathlib.Omega.{arith}
 use denote.Ref.{now}
 use mir.Syntax.{w32}
-use Rattle.values.proofs.Signed.{back}
+use Rattle.values.specs.SignedLaws.{back}
 use Rattle.tokens.specs.Index.{isInside}
-use Rattle.tokens.proofs.Indices.{last-inside}
+use Rattle.tokens.specs.IndexLaws.{last-inside}
 use Rattle.engine.specs.Write.{writeCell, writeInside, writeTo}
 use Rattle.engine.proofs.WriteAnswerLaws.{celled-written}
 use Rattle.engine.proofs.write.write.Statement.{statement}

@@ -6,8 +6,8 @@ use Prim.Native.Nat.{_<_}
 use native.Mathlib.Omega.{arith}
 use mir.Syntax.{w32}
 use Rattle.values.specs.Value.{wholeUnits, outputOf}
-use Rattle.values.proofs.Signed.{back}
-use Rattle.tokens.proofs.Indices.{last-inside}
+use Rattle.values.specs.SignedLaws.{back}
+use Rattle.tokens.specs.IndexLaws.{last-inside}
 use Rattle.working.specs.Variables.{cellCount, timerCount}
 use Rattle.working.specs.VariableLaws.{cell-inside}
 use Rattle.engine.specs.Write.{writeCell}

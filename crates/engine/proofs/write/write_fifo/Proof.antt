@@ -4,7 +4,7 @@ use borrow.Author.Tests.{eq-eqb, ne-eqb}
 use mathlib.Core.Path.{refl}
 use denote.Ref.{now}
 use mir.Syntax.{w32}
-use Rattle.values.proofs.Signed.{back}
+use Rattle.values.specs.SignedLaws.{back}
 use Rattle.tokens.specs.Descent.{Answer}
 use Rattle.engine.specs.Write.{Changed, changeFifo, writeFifo}
 use Rattle.engine.specs.WriteAnswers.{IsChanged}

@@ -7,7 +7,7 @@ use lib.Dec.{eqb}
 use Rattle.values.specs.Codes.{mAlone}
 use Rattle.tokens.specs.Token.{WHEN, EVERY}
 use Rattle.tokens.specs.SingleFault.{codeFault}
-use Rattle.tokens.proofs.SingleFaultLaws.{none-first, outside-first}
+use Rattle.tokens.specs.SingleFaultLaws.{none-first, outside-first}
 use Rattle.tokens.proofs.fault.code_fault.Statement.{statement}
 use Rattle.tokens.proofs.fault.code_fault.Tie as tie
 

@@ -8,8 +8,8 @@ use Prim.Native.Nat.{ℕ, _-_}
 use lib.ListN.{length, drop}
 use Rattle.tokens.specs.Token.{isBracket}
 use Rattle.tokens.specs.SingleFault.{opensTooMany}
-use Rattle.tokens.proofs.Between.{never, inside}
-use Rattle.tokens.proofs.BracketLaws.{bracket-end, bracket-deep, bracket-open, bracket-close, bracket-other, bracket-none}
+use Rattle.tokens.specs.BetweenLaws.{never, inside}
+use Rattle.tokens.specs.BracketLaws.{bracket-end, bracket-deep, bracket-open, bracket-close, bracket-other, bracket-none}
 use Rattle.tokens.proofs.fault.opens_too_many.Statement.{statement}
 use Rattle.tokens.proofs.fault.opens_too_many.Tie as tie
 

@@ -8,7 +8,7 @@ use lib.Dec.{eqb}
 use Rattle.values.specs.Codes.{readOnly}
 use Rattle.tokens.specs.Token.{isFifo}
 use Rattle.tokens.specs.SingleFault.{readFault}
-use Rattle.tokens.proofs.SingleFaultLaws.{none-first, outside-first}
+use Rattle.tokens.specs.SingleFaultLaws.{none-first, outside-first}
 use Rattle.tokens.proofs.fault.read_fault.Statement.{statement}
 use Rattle.tokens.proofs.fault.read_fault.Tie as tie
 

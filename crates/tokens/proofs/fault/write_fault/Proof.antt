@@ -5,7 +5,7 @@ use mathlib.Core.Path.{sym, _∙_}
 use native.Mathlib.Omega.{arith}
 use Rattle.values.specs.Codes.{readOnly}
 use Rattle.tokens.specs.SingleFault.{writeFault, isWritable}
-use Rattle.tokens.proofs.SingleFaultLaws.{none-first, outside-first}
+use Rattle.tokens.specs.SingleFaultLaws.{none-first, outside-first}
 use Rattle.tokens.proofs.fault.write_fault.Statement.{statement}
 use Rattle.tokens.proofs.fault.write_fault.Tie as tie
 

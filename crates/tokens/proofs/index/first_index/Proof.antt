@@ -1,7 +1,7 @@
 -- `index::first_index` meets its contract: each return by the tests that led to it.
 use native.Mathlib.Omega.{arith}
 use Rattle.tokens.specs.Token.{MARKER, FIFO4}
-use Rattle.tokens.proofs.Between.{is-inside, outside}
+use Rattle.tokens.specs.BetweenLaws.{is-inside, outside}
 use Rattle.tokens.proofs.index.first_index.Statement.{statement}
 use Rattle.tokens.proofs.index.first_index.Tie as tie
 

@@ -1,7 +1,7 @@
 -- `index::last_index` meets its contract: each return by the tests that led to it.
 use borrow.Author.Needs.{needs}
 use mathlib.Core.Path.{sym, _∙_}
-use Rattle.tokens.proofs.Indices.{last-other, last-fifo}
+use Rattle.tokens.specs.IndexLaws.{last-other, last-fifo}
 use Rattle.tokens.proofs.index.last_index.Statement.{statement}
 use Rattle.tokens.proofs.index.last_index.Tie as tie
 

@@ -1,7 +1,7 @@
 -- `token::is_arithmetic` meets its contract: the two ranges of operators are one.
 use borrow.Author.Needs.{needs}
 use mathlib.Core.Path.{_∙_}
-use Rattle.tokens.proofs.Between.{arithmetic-range}
+use Rattle.tokens.specs.BetweenLaws.{arithmetic-range}
 use Rattle.tokens.proofs.token.is_arithmetic.Statement.{statement}
 use Rattle.tokens.proofs.token.is_arithmetic.Tie as tie
 

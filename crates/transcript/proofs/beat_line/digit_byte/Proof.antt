@@ -1,7 +1,7 @@
 -- `beat_line::digit_byte` meets its contract: a digit is 48 to 57.
 use borrow.Author.Needs.{needs}
 use native.Mathlib.Omega.{arith}
-use Rattle.tokens.proofs.Between.{inside}
+use Rattle.tokens.specs.BetweenLaws.{inside}
 use Rattle.transcript.specs.HalfLine.{digitByte}
 use Rattle.transcript.proofs.beat_line.digit_byte.Statement.{statement}
 use Rattle.transcript.proofs.beat_line.digit_byte.Tie as tie

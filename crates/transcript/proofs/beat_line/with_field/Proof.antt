@@ -5,7 +5,7 @@ use native.Mathlib.Omega.{arith}
 use mathlib.Core.Path.{_∙_}
 use mir.Syntax.{w32}
 use mir.ValLaws.{toZ-pos}
-use Rattle.values.proofs.Signed.{back}
+use Rattle.values.specs.SignedLaws.{back}
 use Prim.Native.Nat.{_≤_, _<_}
 use Rattle.transcript.specs.HalfLine.{greatest, withField}
 use Rattle.transcript.proofs.BeatLineLaws.{word-bound, negative-bound, positive-bound, with-number}

@@ -3,7 +3,7 @@ use borrow.Author.Needs.{needs}
 use mathlib.Core.Path.{ap, _∙_}
 use lib.IntN.{_-ℤ_}
 use Rattle.values.specs.Value.{valued, differenceOf}
-use Rattle.values.proofs.Signed.{cast64, difference-fits, work-fits, worked}
+use Rattle.values.specs.SignedLaws.{cast64, difference-fits, work-fits, worked}
 use Rattle.values.proofs.arithmetic.difference.Statement.{statement}
 use Rattle.values.proofs.arithmetic.difference.Tie as tie
 

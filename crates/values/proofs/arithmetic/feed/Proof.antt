@@ -3,7 +3,7 @@ use mathlib.Core.Path.{ap}
 use mir.Syntax.{w32}
 use Rattle.values.specs.Value.{lessThan, feedOf}
 use Rattle.values.specs.declared.arithmetic.Worked.the-variants.{Value}
-use Rattle.values.proofs.Signed.{back}
+use Rattle.values.specs.SignedLaws.{back}
 use Rattle.values.proofs.arithmetic.feed.Statement.{statement}
 use Rattle.values.proofs.arithmetic.feed.Tie as tie
 

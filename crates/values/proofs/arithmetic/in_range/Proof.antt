@@ -2,7 +2,7 @@
 use borrow.Author.Needs.{needs}
 use mathlib.Core.Path.{sym}
 use mir.Syntax.{w32}
-use Rattle.values.proofs.Signed.{back, too-low, too-high, between}
+use Rattle.values.specs.SignedLaws.{back, too-low, too-high, between}
 use Rattle.values.proofs.arithmetic.in_range.Statement.{statement}
 use Rattle.values.proofs.arithmetic.in_range.Tie as tie
 

@@ -1,5 +1,5 @@
 -- `arithmetic::is_equal` meets its contract: numbers with the same bits are equal.
-use Rattle.values.proofs.Signed.{equal-bits}
+use Rattle.values.specs.SignedLaws.{equal-bits}
 use Rattle.values.proofs.arithmetic.is_equal.Statement.{statement}
 use Rattle.values.proofs.arithmetic.is_equal.Tie as tie
 

@@ -1,7 +1,7 @@
 -- `arithmetic::is_less` meets its contract: the two numbers are read back from their bits.
 use mir.Syntax.{w32}
 use Rattle.values.specs.Value.{lessThan}
-use Rattle.values.proofs.Signed.{back}
+use Rattle.values.specs.SignedLaws.{back}
 use Rattle.values.proofs.arithmetic.is_less.Statement.{statement}
 use Rattle.values.proofs.arithmetic.is_less.Tie as tie
 

@@ -3,7 +3,7 @@ use borrow.Author.Needs.{needs}
 use mathlib.Core.Path.{ap, _∙_}
 use lib.IntN.{negℤ, _-ℤ_, +ℤ-idl}
 use Rattle.values.specs.Value.{valued, negationOf}
-use Rattle.values.proofs.Signed.{cast64, zero-fits, difference-fits, work-fits, worked}
+use Rattle.values.specs.SignedLaws.{cast64, zero-fits, difference-fits, work-fits, worked}
 use Rattle.values.proofs.arithmetic.negation.Statement.{statement}
 use Rattle.values.proofs.arithmetic.negation.Tie as tie
 

@@ -4,7 +4,7 @@ use lib.IntN.{pos}
 use mir.Syntax.{w32}
 use Rattle.values.specs.Value.{unit, outputOf}
 use Rattle.values.specs.declared.arithmetic.Worked.the-variants.{Value}
-use Rattle.values.proofs.Signed.{back, zero-fits, unit-fits, bits-equal, bits-other}
+use Rattle.values.specs.SignedLaws.{back, zero-fits, unit-fits, bits-equal, bits-other}
 use Rattle.values.proofs.arithmetic.output.Statement.{statement}
 use Rattle.values.proofs.arithmetic.output.Tie as tie
 

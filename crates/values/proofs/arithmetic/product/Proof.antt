@@ -7,7 +7,7 @@ use lib.Signed.{quotZ}
 use mir.Syntax.{w64}
 use mir.Val.{toZ, ofZ}
 use Rattle.values.specs.Value.{unit, valued, productOf}
-use Rattle.values.proofs.Signed.{back, cast64, product-fits, cut-fits, work-fits, worked}
+use Rattle.values.specs.SignedLaws.{back, cast64, product-fits, cut-fits, work-fits, worked}
 use Rattle.values.proofs.arithmetic.product.Statement.{statement}
 use Rattle.values.proofs.arithmetic.product.Tie as tie
 

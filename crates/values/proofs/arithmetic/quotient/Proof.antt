@@ -6,7 +6,7 @@ use lib.Signed.{quotZ}
 use mir.Syntax.{w64}
 use mir.Val.{toZ, ofZ}
 use Rattle.values.specs.Value.{unit, valued, quotientOf}
-use Rattle.values.proofs.Signed.{back, cast64, unit-fits, product-fits, cut-fits, work-fits, worked, zero-bits, nonzero-bits, above-zero}
+use Rattle.values.specs.SignedLaws.{back, cast64, unit-fits, product-fits, cut-fits, work-fits, worked, zero-bits, nonzero-bits, above-zero}
 use Rattle.values.proofs.arithmetic.quotient.Statement.{statement}
 use Rattle.values.proofs.arithmetic.quotient.Tie as tie
 

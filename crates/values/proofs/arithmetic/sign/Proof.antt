@@ -1,7 +1,7 @@
 -- `arithmetic::sign` meets its contract: each return by the tests that led to it.
 use mir.Syntax.{w32}
 use Rattle.values.specs.Value.{lessThan, signOf}
-use Rattle.values.proofs.Signed.{back}
+use Rattle.values.specs.SignedLaws.{back}
 use Rattle.values.proofs.arithmetic.sign.Statement.{statement}
 use Rattle.values.proofs.arithmetic.sign.Tie as tie
 

@@ -6,7 +6,7 @@ use mir.Syntax.{w32, w64}
 use Rattle.values.specs.Value.{inRange, valued}
 use Rattle.values.specs.ValueLaws.{range-fits}
 use Rattle.values.specs.declared.arithmetic.Worked.the-variants.{Value}
-use Rattle.values.proofs.Signed.{back, too-low, too-high, between}
+use Rattle.values.specs.SignedLaws.{back, too-low, too-high, between}
 use Rattle.values.proofs.arithmetic.value_of.Statement.{statement}
 use Rattle.values.proofs.arithmetic.value_of.Tie as tie
 

@@ -7,7 +7,7 @@ use mir.Syntax.{w32}
 use mir.Val.{SFits}
 use Rattle.values.specs.Value.{unit, wholeUnits}
 use Rattle.values.specs.Numbers.{abs-mul, abs-quot, abs32, fits-abs}
-use Rattle.values.proofs.Signed.{back}
+use Rattle.values.specs.SignedLaws.{back}
 use Rattle.values.proofs.arithmetic.whole_units.Statement.{statement}
 use Rattle.values.proofs.arithmetic.whole_units.Tie as tie
 

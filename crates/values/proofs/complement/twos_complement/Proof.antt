@@ -12,7 +12,7 @@ use mir.Val.{SFits, toZ, ofZ}
 use mir.ValLaws.{toZ-pos}
 use Rattle.values.specs.Complement.{twosComplement}
 use Rattle.values.specs.Numbers.{clash, abs32}
-use Rattle.values.proofs.Signed.{back}
+use Rattle.values.specs.SignedLaws.{back}
 use Rattle.values.proofs.complement.twos_complement.Statement.{statement}
 use Rattle.values.proofs.complement.twos_complement.Tie as tie
 

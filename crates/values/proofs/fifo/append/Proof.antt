@@ -8,7 +8,7 @@ use lib.ListN.{length}
 use denote.Ref.{now}
 use mir.Syntax.{w32}
 use Rattle.values.specs.Fifo.{places, appendAnswer, appended}
-use Rattle.values.proofs.Signed.{back}
+use Rattle.values.specs.SignedLaws.{back}
 use Rattle.values.proofs.Fit.{unfit, fit, bounds}
 use Rattle.values.proofs.fifo.append.Statement.{statement}
 use Rattle.values.proofs.fifo.append.Tie as tie

@@ -9,7 +9,7 @@ use lib.ListN.{length, drop, replicate, length-set, length-replicate, drop-of-le
 use denote.Ref.{now}
 use mathlib.Core.List.{append-nil}
 use Rattle.values.specs.Fifo.{cleared}
-use Rattle.values.proofs.Lists.{put, replicate-more}
+use Rattle.values.specs.ListLaws.{put, replicate-more}
 use Rattle.values.proofs.fifo.clear.Statement.{statement}
 use Rattle.values.proofs.fifo.clear.Tie as tie
 

@@ -10,7 +10,7 @@ use mir.ValLaws.{toZ-pos}
 use Rattle.values.specs.declared.fifo.FifoValue.the-variants as S
 use Rattle.values.specs.Value.{unit}
 use Rattle.values.specs.Fifo.{countOf}
-use Rattle.values.proofs.Signed.{back}
+use Rattle.values.specs.SignedLaws.{back}
 use Rattle.values.proofs.Fit.{unfit, fit, bounds}
 use Rattle.values.proofs.fifo.count_value.Statement.{statement}
 use Rattle.values.proofs.fifo.count_value.Tie as tie

@@ -2,7 +2,7 @@
 use borrow.Author.Needs.{needs}
 use lib.IntN.{pos}
 use Rattle.values.specs.Fifo.{emptyAnswer, emptied}
-use Rattle.values.proofs.Signed.{zero-fits, bits-equal, bits-other}
+use Rattle.values.specs.SignedLaws.{zero-fits, bits-equal, bits-other}
 use Rattle.values.proofs.Fit.{unfit, fit}
 use Rattle.values.proofs.fifo.empty.Statement.{statement}
 use Rattle.values.proofs.fifo.empty.Tie as tie

@@ -7,7 +7,7 @@ use lib.ListN.{getD}
 use mir.Syntax.{w32}
 use denote.Ref.{now}
 use Rattle.values.specs.Fifo.{removeAnswer, removed}
-use Rattle.values.proofs.Signed.{back}
+use Rattle.values.specs.SignedLaws.{back}
 use Rattle.values.proofs.Fit.{unfit, fit, bounds}
 use Rattle.values.proofs.fifo.remove.Statement.{statement}
 use Rattle.values.proofs.fifo.remove.Tie as tie

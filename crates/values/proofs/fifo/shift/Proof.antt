@@ -10,8 +10,8 @@ use lib.Seq.{length-take-le}
 use mir.Syntax.{w32}
 use denote.Ref.{now}
 use Rattle.values.specs.Fifo.{shifted}
-use Rattle.values.proofs.Signed.{back}
-use Rattle.values.proofs.Lists.{put, move-step}
+use Rattle.values.specs.SignedLaws.{back}
+use Rattle.values.specs.ListLaws.{put, move-step}
 use Rattle.values.proofs.fifo.shift.Statement.{statement}
 use Rattle.values.proofs.fifo.shift.Tie as tie
 

@@ -10,8 +10,8 @@ use mir.Val.{SFits, toZ, ofZ}
 use denote.Ref.{now}
 use Rattle.values.specs.Numbers.{abs32, fits-abs}
 use Rattle.values.specs.Fifo.{sumFirst}
-use Rattle.values.proofs.Signed.{back, cast64, wide}
-use Rattle.values.proofs.Lists.{sum-next, sum-bound}
+use Rattle.values.specs.SignedLaws.{back, cast64, wide}
+use Rattle.values.specs.ListLaws.{sum-next, sum-bound}
 use Rattle.values.proofs.fifo.sum_first.Statement.{statement}
 use Rattle.values.proofs.fifo.sum_first.Tie as tie
 

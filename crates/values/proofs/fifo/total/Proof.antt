@@ -8,7 +8,7 @@ use Rattle.values.specs.Value.{valued}
 use Rattle.values.specs.declared.fifo.FifoValue.{FifoValue}
 use Rattle.values.specs.declared.fifo.FifoValue.the-variants as S
 use Rattle.values.specs.Fifo.{asFifoValue, totalOf}
-use Rattle.values.proofs.Signed.{back}
+use Rattle.values.specs.SignedLaws.{back}
 use Rattle.values.proofs.Fit.{unfit, fit, bounds}
 use Rattle.values.proofs.fifo.total.Statement.{statement}
 use Rattle.values.proofs.fifo.total.Tie as tie

@@ -15,7 +15,7 @@ use Rattle.values.specs.Time.{timer, millisOf}
 use Rattle.values.specs.TimeLaws.{stopped, running}
 use Rattle.values.specs.declared.time.Millis.{Millis}
 use Rattle.values.specs.Numbers.{clash}
-use Rattle.values.proofs.Signed.{back}
+use Rattle.values.specs.SignedLaws.{back}
 use Rattle.values.proofs.time.grown.Statement.{statement}
 use Rattle.values.proofs.time.grown.Tie as tie
 

@@ -2,7 +2,7 @@
 use mir.Syntax.{w32}
 use Rattle.values.specs.Value.{lessThan}
 use Rattle.values.specs.Time.{writtenTimer}
-use Rattle.values.proofs.Signed.{back}
+use Rattle.values.specs.SignedLaws.{back}
 use Rattle.values.proofs.time.written.Statement.{statement}
 use Rattle.values.proofs.time.written.Tie as tie
 

@@ -6,7 +6,7 @@ use mathlib.Core.Bool.{Bool, not}
 use Prim.Native.Nat.{ℕ}
 use mir.Syntax.{w32}
 use Rattle.values.specs.Value.{lessThan, equalTo}
-use Rattle.values.proofs.Signed.{back, both}
+use Rattle.values.specs.SignedLaws.{back, both}
 use Rattle.working.specs.Operators.{isYes, joinLogic, joinTruths}
 use Rattle.working.proofs.operators.join_truths.Statement.{statement}
 use Rattle.working.proofs.operators.join_truths.Tie as tie

@@ -4,7 +4,7 @@ use mathlib.Core.Path.{ap, _∙_}
 use Prim.Native.Nat.{ℕ, _+_, _*_, _%_}
 use mir.Syntax.{w32}
 use Rattle.tokens.specs.Token.{room}
-use Rattle.values.proofs.Signed.{back}
+use Rattle.values.specs.SignedLaws.{back}
 use Rattle.values.specs.Complement.{twosComplement}
 use Rattle.working.specs.Pair.{pairOf}
 use Rattle.working.proofs.pair.pair_of.Statement.{statement}

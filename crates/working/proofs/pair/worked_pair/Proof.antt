@@ -5,7 +5,7 @@ use native.Mathlib.Omega.{arith}
 use lib.IntN.{ℤ}
 use mir.Syntax.{w32}
 use mir.Val.{SFits}
-use Rattle.values.proofs.Signed.{back}
+use Rattle.values.specs.SignedLaws.{back}
 use Rattle.working.specs.Pair.{pairOf, said}
 use Rattle.working.proofs.Pairs.{pair-said, alarm-said}
 use Rattle.working.proofs.pair.worked_pair.Statement.{statement}

@@ -9,10 +9,10 @@ use lib.ListN.{take, drop, getD}
 use mir.Syntax.{w32}
 use mir.Val.{SFits, toZ, ofZ}
 use Rattle.values.specs.Fifo.{places}
-use Rattle.values.proofs.Signed.{back}
+use Rattle.values.specs.SignedLaws.{back}
 use Rattle.tokens.specs.Token.{FIFO1, FIFO4}
 use Rattle.working.specs.Variables.{inputCount, countAt, runAt, asCount, fifoOf, beatCount, fifoValue, fifoAt}
-use Rattle.tokens.proofs.Between.{inside}
+use Rattle.tokens.specs.BetweenLaws.{inside}
 use Rattle.working.proofs.variables.fifo_at.Statement.{statement}
 use Rattle.working.proofs.variables.fifo_at.Tie as tie
 

@@ -3,7 +3,7 @@ use borrow.Author.Needs.{needs}
 use mathlib.Core.Path.{sym, ap, _∙_}
 use mir.Syntax.{w32}
 use Rattle.values.specs.declared.arithmetic.Worked.the-variants.{Value}
-use Rattle.values.proofs.Signed.{back}
+use Rattle.values.specs.SignedLaws.{back}
 use Rattle.working.specs.Variables.{fromFifoValue}
 use Rattle.working.proofs.variables.from_fifo_value.Statement.{statement}
 use Rattle.working.proofs.variables.from_fifo_value.Tie as tie

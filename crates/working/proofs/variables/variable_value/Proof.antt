@@ -9,9 +9,9 @@ use lib.IntN.{pos}
 use lib.ListN.{getD}
 use mir.Syntax.{w32}
 use Rattle.values.specs.declared.arithmetic.Worked.the-variants.{Value}
-use Rattle.values.proofs.Signed.{back}
+use Rattle.values.specs.SignedLaws.{back}
 use Rattle.tokens.specs.Index.{isInside}
-use Rattle.tokens.proofs.Indices.{last-inside}
+use Rattle.tokens.specs.IndexLaws.{last-inside}
 use Rattle.working.specs.Variables.{cellCount, variableValue}
 use Rattle.working.specs.VariableLaws.{cell-inside}
 use Rattle.working.proofs.variables.variable_value.Statement.{statement}

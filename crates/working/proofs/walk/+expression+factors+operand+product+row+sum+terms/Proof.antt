@@ -8,15 +8,15 @@ use lib.IntN.{ℤ}
 use mir.Syntax.{w32}
 use mir.ValLaws.{toZ-pos}
 use Rattle.values.specs.Choice.{both}
-use Rattle.values.proofs.Signed.{back}
+use Rattle.values.specs.SignedLaws.{back}
 use Rattle.tokens.specs.Token.{SAME, ATLEAST, IN, IM, isFactor, isTerm}
 use Rattle.tokens.specs.Descent.{isRow, readClose, readSum, readOperand, productAt, sumAt, expressionAt}
 use Rattle.working.specs.Pair.{pairOf, said}
 use Rattle.working.specs.Working.{valueOver, negated, inverted}
-use Rattle.tokens.proofs.ReadStepLaws.{stepped}
-use Rattle.tokens.proofs.Arms.{spent, number-arm, variable-arm, open-arm, minus-arm, not-arm, truth-arm}
-use Rattle.tokens.proofs.Between.{no-end, lies-inside}
-use Rattle.tokens.proofs.Rows.{Loop, loop-begins, loop-spent, loop-inside, loop-stops, loop-ends, loop-goes, row-stops, row-ends, product-is, product-begins, sum-is, sum-begins, expression-is, expression-stops, rest-compares, rest-rows, rest-none}
+use Rattle.tokens.specs.ReadStepLaws.{stepped}
+use Rattle.tokens.specs.ArmLaws.{spent, number-arm, variable-arm, open-arm, minus-arm, not-arm, truth-arm}
+use Rattle.tokens.specs.BetweenLaws.{no-end, lies-inside}
+use Rattle.tokens.specs.RowLaws.{Loop, loop-begins, loop-spent, loop-inside, loop-stops, loop-ends, loop-goes, row-stops, row-ends, product-is, product-begins, sum-is, sum-begins, expression-is, expression-stops, rest-compares, rest-rows, rest-none}
 use Rattle.working.proofs.Pairs.{said-stop, said-value, pairs-say, pair-said, alarm-said}
 use Rattle.tokens.proofs.token.is_compare.Reads as is-compare
 use Rattle.tokens.proofs.token.is_factor.Reads as is-factor

@@ -5,9 +5,9 @@ use native.Mathlib.Omega.{arith}
 use Rattle.tokens.specs.Descent.{readClose}
 use Rattle.working.specs.Pair.{said}
 use Rattle.working.specs.Working.{valueOver}
-use Rattle.tokens.proofs.Arms.{closes, closes-not}
+use Rattle.tokens.specs.ArmLaws.{closes, closes-not}
 use Rattle.working.proofs.Pairs.{passes, enters, alarm-said, next-said}
-use Rattle.tokens.proofs.Between.{lies-inside}
+use Rattle.tokens.specs.BetweenLaws.{lies-inside}
 use Rattle.working.proofs.walk.closed.Statement.{statement}
 use Rattle.working.proofs.walk.closed.Tie as tie
 

@@ -4,7 +4,7 @@ use mathlib.Core.Path.{ap, _∙_}
 use mathlib.Core.Bool.{Bool, not}
 use native.Mathlib.Omega.{arith}
 use mir.Syntax.{w32}
-use Rattle.values.proofs.Signed.{back}
+use Rattle.values.specs.SignedLaws.{back}
 use Rattle.working.specs.Operators.{isYes, yesNo}
 use Rattle.working.specs.Working.{inverted}
 use Rattle.working.proofs.Pairs.{in-room, passes, enters, pairs}

@@ -2,7 +2,7 @@
 use borrow.Author.Needs.{needs}
 use mathlib.Core.Path.{ap, _∙_}
 use Rattle.working.specs.Operators.{yesNo, joinTruths}
-use Rattle.values.proofs.Signed.{both}
+use Rattle.values.specs.SignedLaws.{both}
 use Rattle.working.proofs.Joins.{compared, join-told}
 use Rattle.working.proofs.Pairs.{passes}
 use Rattle.working.proofs.walk.join_compare.Statement.{statement}

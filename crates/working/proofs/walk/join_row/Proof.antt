@@ -4,7 +4,7 @@ use mathlib.Core.Path.{_≡_, ap, _∙_}
 use mathlib.Core.Bool.{Bool}
 use Prim.Native.Nat.{ℕ}
 use mir.Syntax.{w32}
-use Rattle.values.proofs.Signed.{back}
+use Rattle.values.specs.SignedLaws.{back}
 use Rattle.working.specs.Operators.{yesNo, isYes, joinLogic}
 use Rattle.working.proofs.Joins.{in-row, join-told}
 use Rattle.working.proofs.Pairs.{passes}

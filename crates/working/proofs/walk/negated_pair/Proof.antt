@@ -4,7 +4,7 @@ use mathlib.Core.Path.{refl, ap, _∙_}
 use native.Mathlib.Omega.{arith}
 use mir.Syntax.{w32}
 use Rattle.values.specs.Value.{negationOf}
-use Rattle.values.proofs.Signed.{back}
+use Rattle.values.specs.SignedLaws.{back}
 use Rattle.working.specs.Working.{negated}
 use Rattle.working.proofs.Pairs.{in-room, passes, enters, gives}
 use Rattle.working.proofs.walk.negated_pair.Statement.{statement}

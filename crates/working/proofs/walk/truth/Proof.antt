@@ -5,7 +5,7 @@ use native.Mathlib.Omega.{arith}
 use lib.Dec.{lit<}
 use Rattle.working.specs.Pair.{said}
 use Rattle.working.specs.Working.{valueOver}
-use Rattle.tokens.proofs.Arms.{yes-truth, no-truth, not-truth}
+use Rattle.tokens.specs.ArmLaws.{yes-truth, no-truth, not-truth}
 use Rattle.working.proofs.Pairs.{pair-said, alarm-said}
 use Rattle.working.proofs.walk.truth.Statement.{statement}
 use Rattle.working.proofs.walk.truth.Tie as tie

@@ -6,7 +6,7 @@ use native.Mathlib.Omega.{arith}
 use lib.IntN.{ℤ, pos}
 use mir.Syntax.{w32}
 use mir.ValLaws.{toZ-pos}
-use Rattle.values.proofs.Signed.{back}
+use Rattle.values.specs.SignedLaws.{back}
 use Rattle.tokens.specs.Descent.{read}
 use Rattle.working.specs.declared.walk.ValueOrAlarm.{ValueOrAlarm}
 use Rattle.working.specs.Working.{told}

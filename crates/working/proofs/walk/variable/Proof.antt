@@ -7,7 +7,7 @@ use native.Mathlib.Omega.{arith}
 use Rattle.working.specs.Pair.{said}
 use Rattle.working.specs.Variables.{variableValue}
 use Rattle.working.specs.Working.{valueOver}
-use Rattle.tokens.proofs.Arms.{indexed, indexed-not}
+use Rattle.tokens.specs.ArmLaws.{indexed, indexed-not}
 use Rattle.working.proofs.Pairs.{gives, alarm-said}
 use Rattle.working.proofs.walk.variable.Statement.{statement}
 use Rattle.working.proofs.walk.variable.Tie as tie

@@ -9,8 +9,8 @@ use lib.ListN.{length}
 use borrow.Author.Tests.{not-true, not-false}
 use Rattle.tokens.specs.Token.{room, isFactor, isTerm, isCompare, isLogic}
 use Rattle.tokens.specs.Descent.{Read, read, ends, then, upTo, Meaning, isRow, token, joined, more, readProduct, readSum, readRest, readExpression}
-use Rattle.tokens.proofs.ReadStepLaws.{passes, enters, stepped}
-use Rattle.tokens.proofs.Between.{never, tested, no-row, lies-inside}
+use Rattle.tokens.specs.ReadStepLaws.{passes, enters, stepped}
+use Rattle.tokens.specs.BetweenLaws.{never, tested, no-row, lies-inside}
 
 module _ (s : List ℕ) {A : Type 0} (𝓜 : Meaning A) (isOp : ℕ → Bool) (sub : ℕ → Read A) where
   more-again : (k : ℕ) (a : A) (p : ℕ) → 0 < k → isOp (token s p) ≡ true → then (joined s 𝓜 sub (token s p) a p) (more s 𝓜 isOp sub (k - 1)) ≡ more s 𝓜 isOp sub k a p

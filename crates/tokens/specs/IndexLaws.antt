@@ -6,7 +6,7 @@ use native.Mathlib.Omega.{arith}
 use borrow.Author.Tests.{ne-eqb}
 use Rattle.tokens.specs.Token.{IN, INA, OUT, MARKER, PARAM, R, TIMER, FIFO1, FIFO4, IM, between, isFifo}
 use Rattle.tokens.specs.Index.{firstIndex, lastIndex, isInside}
-use Rattle.tokens.proofs.Between.{inside, outside}
+use Rattle.tokens.specs.BetweenLaws.{inside, outside}
 
 no-marker : (w : ℕ) → (w ≡ MARKER → ⊥) → (w ≡ PARAM → ⊥) → between MARKER PARAM w ≡ false
 no-marker w m p = outside MARKER PARAM w (λ l h. omega arith)
