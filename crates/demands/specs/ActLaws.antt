@@ -183,7 +183,7 @@ module _ (s : List ℕ) (ls : Lines) where
     taken : turnByRule s ls (lineOf k) k r x ≡ good own
     gone : turnsByRule s ls n (k + 1) (after (own .entries) r) (own .world) ≡ good rest
     world : t .world ≡ rest .world
-    written : after (t .entries) r ≡ after (rest .entries) (after (own .entries) r)
+    history : after (t .entries) r ≡ after (rest .entries) (after (own .entries) r)
 
   first : (n k : ℕ) (r : History) (x : World) (t : Turned) → turnsByRule s ls (suc n) k r x ≡ good t → First n k r x t
   unfolding turnsByRule
@@ -192,7 +192,7 @@ module _ (s : List ℕ) (ls : Lines) where
       go′ : (own : Turned) → turnByRule s ls (lineOf k) k r x ≡ good own → (b : Answer Turned) → turnsByRule s ls n (k + 1) (after (own .entries) r) (own .world) ≡ b →
           (b >>= λ u. good (record { world = u .world; entries = own .entries ++ u .entries })) ≡ good t → First n k r x t
       go′ own p (good u) q e = let h : t ≡ record { world = u .world; entries = own .entries ++ u .entries } = cc in
-          record { own = own; rest = u; taken = p; gone = q; world = ap (λ y. y .world) h; written = ap (λ y. after (y .entries) r) h ∙ after-append (own .entries) (u .entries) r }
+          record { own = own; rest = u; taken = p; gone = q; world = ap (λ y. y .world) h; history = ap (λ y. after (y .entries) r) h ∙ after-append (own .entries) (u .entries) r }
       go′ own p (stop c) q e = clash (cc)
 
       go : (a : Answer Turned) → turnByRule s ls (lineOf k) k r x ≡ a →
@@ -210,12 +210,12 @@ module _ (s : List ℕ) (ls : Lines) where
     taken : turnByRule s ls (lineOf i) i (after (before .entries) r) (before .world) ≡ good own
     gone : turnsByRule s ls left (i + 1) (after (own .entries) (after (before .entries) r)) (own .world) ≡ good rest
     world : t .world ≡ rest .world
-    written : after (t .entries) r ≡ after (rest .entries) (after (own .entries) (after (before .entries) r))
+    history : after (t .entries) r ≡ after (rest .entries) (after (own .entries) (after (before .entries) r))
 
   seen-first : (n k : ℕ) (r : History) (x : World) (t : Turned) → First n k r x t → Around zero k k r x t
   unfolding turnsByRule
   seen-first n k r x t f =
-      record { before = record { world = x; entries = [] }; own = f .own; rest = f .rest; left = n; come = refl; taken = f .taken; gone = f .gone; world = f .world; written = f .written }
+      record { before = record { world = x; entries = [] }; own = f .own; rest = f .rest; left = n; come = refl; taken = f .taken; gone = f .gone; world = f .world; history = f .history }
 
   seen-later : (j k i : ℕ) (r : History) (x : World) (t own rest : Turned) → turnByRule s ls (lineOf k) k r x ≡ good own → t .world ≡ rest .world →
       after (t .entries) r ≡ after (rest .entries) (after (own .entries) r) → Around j (k + 1) i (after (own .entries) r) (own .world) rest → Around (suc j) k i r x t
@@ -232,7 +232,7 @@ module _ (s : List ℕ) (ls : Lines) where
         taken = rw e (f .taken);
         gone = rw e (f .gone);
         world = w ∙ f .world;
-        written = rw e (h ∙ f .written);
+        history = rw e (h ∙ f .history);
       }
 
   seen : (n j k i : ℕ) (r : History) (x : World) (t : Turned) → i ≡ k + j → j < n → turnsByRule s ls n k r x ≡ good t → Around j k i r x t
@@ -240,7 +240,7 @@ module _ (s : List ℕ) (ls : Lines) where
   seen (suc n) zero k i r x t p h e = let q : i ≡ k = omega arith in rw q (seen-first n k r x t (first n k r x t e))
   seen (suc n) (suc j) k i r x t p h e =
       let f : First n k r x t = first n k r x t e in
-      seen-later j k i r x t (f .own) (f .rest) (f .taken) (f .world) (f .written) (seen n j (k + 1) i (after (f .own .entries) r) (f .own .world) (f .rest) (omega arith) (omega arith) (f .gone))
+      seen-later j k i r x t (f .own) (f .rest) (f .taken) (f .world) (f .history) (seen n j (k + 1) i (after (f .own .entries) r) (f .own .world) (f .rest) (omega arith) (omega arith) (f .gone))
 
   -- the turns of a beat from the first line on, which ended well, and what they did for the line of rank i
   pub record Done (i : ℕ) (r : History) (x : World) (t : Turned) : Type 0 where
@@ -275,8 +275,8 @@ module _ (s : List ℕ) (ls : Lines) where
             acted = rw (f .world) (the-bit (actsNow s (lineOf i) i r′ (f .before .world)) i (f .before .world .acted) (f .own .world .acted) (f .rest .world .acted) (high .0) low (a .word) (high .1));
             ever-before = earlier .0;
             was-before = earlier .1;
-            ever = rw (f .written) (later .0 ∙ a .ever i ∙ rw (eq-eqb i i refl, earlier .0));
-            was = rw (f .written) (later .1 ∙ a .was i ∙ rw (eq-eqb i i refl, earlier .1, and-true));
+            ever = rw (f .history) (later .0 ∙ a .ever i ∙ rw (eq-eqb i i refl, earlier .0));
+            was = rw (f .history) (later .1 ∙ a .was i ∙ rw (eq-eqb i i refl, earlier .1, and-true));
           }
 
   -- each order that the turns give carries the number of a line that acted in them

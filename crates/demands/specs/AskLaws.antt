@@ -10,7 +10,7 @@ use Rattle.reader.specs.declared.load_text.Loaded.{Loaded}
 use Rattle.reader.specs.Row.{byNumber, setOf}
 use Rattle.reader.specs.Load.{Outcome, taken, refused, outcome, loadAnswer, loadSet}
 use Rattle.soundness.specs.Call.{Call}
-use Rattle.demands.specs.Run.{Now, step, runFrom, run}
+use Rattle.demands.specs.Run.{Now, step, runFrom, engineRun}
 use Rattle.demands.specs.Asks.{Ask, doLoad, doCall, Standing, newlyLoaded, askAll, lastText, callsSince}
 
 -- ---- a load
@@ -42,7 +42,7 @@ refused-no-set t = go (outcome t)
 
 -- a run of calls over a text's set
 abbrev pub ranOver : List ℕ → List Call → Standing State
-ranOver t cs = record { set = loadSet t; code = loadAnswer t .code; line = loadAnswer t .line; since = run (loadSet t) cs }
+ranOver t cs = record { set = loadSet t; code = loadAnswer t .code; line = loadAnswer t .line; since = engineRun (loadSet t) cs }
 
 pub load-ran : (t : List ℕ) → newlyLoaded t ≡ ranOver t []
 unfolding runFrom

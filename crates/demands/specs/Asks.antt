@@ -26,7 +26,7 @@ pub record Standing (S : Type 0) : Type 0 where
 
 -- a load begins a new run, over the set and in the state that it returns, with nothing written down
 abbrev pub newlyLoaded : List ℕ → Standing State
-newlyLoaded t = record { set = loadSet t; code = loadAnswer t .code; line = loadAnswer t .line; since = record { kept = loadAnswer t .state; written = []; told = [] } }
+newlyLoaded t = record { set = loadSet t; code = loadAnswer t .code; line = loadAnswer t .line; since = record { kept = loadAnswer t .state; history = []; told = [] } }
 
 abbrev pub ask : Ask → Standing State → Standing State
 ask (doLoad t) n = newlyLoaded t
@@ -43,7 +43,7 @@ standing t qs = askAll qs (newlyLoaded t)
 -- ---- the control that keeps no flags: after each load it has the rest of power-on and an empty history
 
 abbrev pub newlyLoadedByRule : List ℕ → Standing Rest
-newlyLoadedByRule t = record { set = loadSet t; code = loadAnswer t .code; line = loadAnswer t .line; since = record { kept = restOf powerOn; written = []; told = [] } }
+newlyLoadedByRule t = record { set = loadSet t; code = loadAnswer t .code; line = loadAnswer t .line; since = record { kept = restOf powerOn; history = []; told = [] } }
 
 abbrev pub askByRule : Ask → Standing Rest → Standing Rest
 askByRule (doLoad t) n = newlyLoadedByRule t

@@ -19,7 +19,8 @@ use Rattle.working.specs.Working.{valueOver, conditionValue, rightValue}
 use Rattle.engine.specs.Set.{linesFrom, linesRead, rankIn, namesKnown, allKnown, namedLines, soundLines}
 use Rattle.engine.specs.State.{powerOn}
 use Rattle.engine.specs.Timers.{grownCells}
-use Rattle.engine.specs.Cells.{numberCount, inputCells, beatCells}
+use Rattle.engine.specs.Cells.{inputCells, beatCells}
+use Rattle.working.specs.Variables.{numberCount}
 use Rattle.engine.specs.Sound.{allRanged, isCell, areCells, allZero, isFifoSound, areFifos, isFlag, areFlags, stateSound, isSound}
 use Rattle.engine.specs.Write.{writeCell, writeInside, writeTo}
 use Rattle.engine.specs.Action.{lockOf, takenAt, assignmentOf, commandOf, actionOf}
@@ -30,7 +31,7 @@ use Rattle.engine.specs.Beat.{bufferSize, areInputs, beatAnswer, beatBuffer, be
 use Rattle.engine.specs.NamedLine.{foundAt, found}
 use Rattle.engine.specs.Calls.{called, lockedCall, lockCall, unlockCall, cancelCall, resetCancelled, zeroed, resetState, resetCall}
 use Rattle.soundness.specs.Call.{Call, doBeat, doLock, doUnlock, doCancel, doReset}
-use Rattle.demands.specs.Run.{run, step, runFrom}
+use Rattle.demands.specs.Run.{engineRun, step, runFrom}
 
 abbrev pub n : ℕ → ℕ
 n = wholeToken
@@ -58,7 +59,7 @@ beat word = beatWith true word (replicate bufferSize 0)
 
 -- the code and the word of the lines that acted, newest first
 abbrev pub words : List Call → List (ℕ × ℕ)
-words cs = map (λ c. (c .1 .code, c .1 .acted)) (run lines cs .told)
+words cs = map (λ c. (c .1 .code, c .1 .acted)) (engineRun lines cs .told)
 
 -- 1. input 1 on, on, off, on: EVERY (1) acts in beats 1 and 4, WHEN (2) in 1, FROM (4) in 1 to 4
 -- 2. EVERY, true, then locked while the input is off and on again, then released: its turn before was true, no second act; a line that is not in the set gives 40

@@ -31,7 +31,7 @@ use Rattle.engine.specs.Calls.{withLocked, called, lockedCall, lockCall, unlock
 use Rattle.engine.specs.SetCountLaws.{sound-count}
 use Rattle.demands.specs.History.{History, after, isAutomatic, everTrue, wasTrue, takesByRule, triesByRule, actsByRule}
 use Rattle.soundness.specs.Call.{Call, doBeat, doLock, doUnlock, doCancel, doReset}
-use Rattle.demands.specs.Run.{Now, coded, noted, rankOf, codeByRule, cleared, run, Rest, stateBy, begunBy, byRank, cancelledBy, tryByRule, turnByRule, turnsByRule, beatByRule, stepByRule, resetByRule, runByRuleFrom, runByRule, beatenByRule}
+use Rattle.demands.specs.Run.{Now, coded, noted, rankOf, codeByRule, cleared, engineRun, Rest, stateBy, begunBy, byRank, cancelledBy, tryByRule, turnByRule, turnsByRule, beatByRule, stepByRule, resetByRule, runByRuleFrom, runByRule, beatenByRule}
 use Rattle.demands.specs.Acts.{isActed, conditionNow, triesNow, actsNow, actedSince}
 use Rattle.tokens.specs.AnswerLaws.{Ok, is-ok, bind-ok}
 use Rattle.demands.specs.ActionRuleLaws.{noteAll, Noted, actions-noted}
@@ -173,7 +173,7 @@ or-right false b e = e
 
 module _ (s : List ℕ) (k : ℕ) (h : k < soundLines s .count) (w : getD (soundLines s .items) k noLine .keyword ≡ WHEN) where
   abbrev Once : Now Rest → Type 0
-  Once n = actedSince k (n .told) ≡ true → everTrue k (n .written) ≡ true
+  Once n = actedSince k (n .told) ≡ true → everTrue k (n .history) ≡ true
 
   noted-ever : (c : ℕ) (es : List Entry) (r : History) → everTrue k (after es r) ≡ everTrue k r → everTrue k (noted c es r) ≡ everTrue k r
   noted-ever c es r p = go (eqb c 0)
@@ -183,41 +183,41 @@ module _ (s : List ℕ) (k : ℕ) (h : k < soundLines s .count) (w : getD (sound
       go false = refl
 
   -- a beat that ended well
-  once-good : (g : Given) (n : Now Rest) (t u : Turned) → Done s (soundLines s) k (beatIn (g .automatic) ∷ n .written) (begunBy (n .kept) g) u →
-      t ≡ record { world = u .world; entries = beatIn (g .automatic) ∷ u .entries } → Once n → isActed (t .world .acted) k || actedSince k (n .told) ≡ true → everTrue k (after (t .entries) (n .written)) ≡ true
+  once-good : (g : Given) (n : Now Rest) (t u : Turned) → Done s (soundLines s) k (beatIn (g .automatic) ∷ n .history) (begunBy (n .kept) g) u →
+      t ≡ record { world = u .world; entries = beatIn (g .automatic) ∷ u .entries } → Once n → isActed (t .world .acted) k || actedSince k (n .told) ≡ true → everTrue k (after (t .entries) (n .history)) ≡ true
   once-good g n t u d q f i =
-      ap (λ y. everTrue k (after (y .entries) (n .written))) q ∙ d .ever ∙ go (isActed (t .world .acted) k) (ap (λ y. isActed (y .world .acted) k) q ∙ d .acted) i
+      ap (λ y. everTrue k (after (y .entries) (n .history))) q ∙ d .ever ∙ go (isActed (t .world .acted) k) (ap (λ y. isActed (y .world .acted) k) q ∙ d .acted) i
     where
       line : Line
       line = getD (soundLines s .items) k noLine
 
       r : History
-      r = after (d .before .entries) (beatIn (g .automatic) ∷ n .written)
+      r = after (d .before .entries) (beatIn (g .automatic) ∷ n .history)
 
       c : Bool
       c = conditionNow s line (d .before .world)
 
-      go : (x : Bool) → x ≡ actsNow s line k r (d .before .world) → x || actedSince k (n .told) ≡ true → triesNow line k r && c || everTrue k (n .written) ≡ true
+      go : (x : Bool) → x ≡ actsNow s line k r (d .before .world) → x || actedSince k (n .told) ≡ true → triesNow line k r && c || everTrue k (n .history) ≡ true
       go true p e =
           let z : takesByRule line k r && ((triesByRule (line .keyword) k r && c) && not (everTrue k r)) ≡ true = rw (acts-when (line .keyword) k r (triesByRule (line .keyword) k r && c) w) at (sym p) in
           rw (fresh (takesByRule line k r) (triesByRule (line .keyword) k r) c (everTrue k r) z .0)
-      go false p e = or-right (triesNow line k r && c) (everTrue k (n .written)) (f e)
+      go false p e = or-right (triesNow line k r && c) (everTrue k (n .history)) (f e)
 
   once-beat : (g : Given) (n : Now Rest) → Once n → Once (stepByRule s (doBeat g) n)
   unfolding stepByRule
-  once-beat g n f = go (beatByRule s (n .kept) (n .written) g) refl
+  once-beat g n f = go (beatByRule s (n .kept) (n .history) g) refl
     where
-      go : (a : Answer Turned) → beatByRule s (n .kept) (n .written) g ≡ a → Once (beatenByRule g a n)
-      go (good t) e i = let d = beat-done s (n .kept) (n .written) g t k h e in once-good g n t (d .0) (d .1) (d .2) f i
+      go : (a : Answer Turned) → beatByRule s (n .kept) (n .history) g ≡ a → Once (beatenByRule g a n)
+      go (good t) e i = let d = beat-done s (n .kept) (n .history) g t k h e in once-good g n t (d .0) (d .1) (d .2) f i
       go (stop c) e i = f (or-either (isActed 0 k) (actedSince k (n .told)) i (no-bit k))
 
   once-reset : (n : Now Rest) → Once n → Once (resetByRule s n)
   unfolding resetByRule
-  once-reset n f = go (isSound s (stateBy (soundLines s) (n .kept) (n .written)))
+  once-reset n f = go (isSound s (stateBy (soundLines s) (n .kept) (n .history)))
     where
       go : (a : Bool) → let x : Now Rest = elim a [
-        | true ↦ record { kept = cleared (n .kept) (soundLines s) (n .written); written = resets ∷ n .written; told = (doReset, coded 0) ∷ n .told }
-        | false ↦ record { kept = n .kept; written = n .written; told = (doReset, coded 22) ∷ n .told }
+        | true ↦ record { kept = cleared (n .kept) (soundLines s) (n .history); history = resets ∷ n .history; told = (doReset, coded 0) ∷ n .told }
+        | false ↦ record { kept = n .kept; history = n .history; told = (doReset, coded 22) ∷ n .told }
       ] in Once x
       go true g = g
       go false g = f g
@@ -225,9 +225,9 @@ module _ (s : List ℕ) (k : ℕ) (h : k < soundLines s .count) (w : getD (sound
   once-step : (c : Call) (n : Now Rest) → Once n → Once (stepByRule s c n)
   unfolding stepByRule
   once-step (doBeat g) n f = once-beat g n f
-  once-step (doLock i) n f = λ g. noted-ever (codeByRule s (n .kept) (n .written) i) (locks (rankOf s i) true ∷ []) (n .written) refl ∙ f g
-  once-step (doUnlock i) n f = λ g. noted-ever (codeByRule s (n .kept) (n .written) i) (locks (rankOf s i) false ∷ []) (n .written) refl ∙ f g
-  once-step (doCancel i) n f = λ g. noted-ever (codeByRule s (n .kept) (n .written) i) (cancels (rankOf s i) ∷ []) (n .written) refl ∙ f g
+  once-step (doLock i) n f = λ g. noted-ever (codeByRule s (n .kept) (n .history) i) (locks (rankOf s i) true ∷ []) (n .history) refl ∙ f g
+  once-step (doUnlock i) n f = λ g. noted-ever (codeByRule s (n .kept) (n .history) i) (locks (rankOf s i) false ∷ []) (n .history) refl ∙ f g
+  once-step (doCancel i) n f = λ g. noted-ever (codeByRule s (n .kept) (n .history) i) (cancels (rankOf s i) ∷ []) (n .history) refl ∙ f g
   once-step doReset n f = once-reset n f
 
   once-run : (cs : List Call) (n : Now Rest) → Once n → Once (runByRuleFrom s cs n)
@@ -236,7 +236,7 @@ module _ (s : List ℕ) (k : ℕ) (h : k < soundLines s .count) (w : getD (sound
   once-run (c ∷ cs) n f = once-run cs (stepByRule s c n) (once-step c n f)
 
   -- so in the engine's run
-  once-so-far : (cs : List Call) → actedSince k (run s cs .told) ≡ true → everTrue k (run s cs .written) ≡ true
+  once-so-far : (cs : List Call) → actedSince k (engineRun s cs .told) ≡ true → everTrue k (engineRun s cs .history) ≡ true
   once-so-far cs = rw (demand-3 s cs) (once-run cs _ (λ g. g))
 
 -- ---- tests
@@ -265,41 +265,41 @@ module _ (s : List ℕ) (k : ℕ) (l : Line) (r : History) (x : World) where
 
 module _ (s : List ℕ) (cs : List Call) (g : Given) (k : ℕ) where
   -- in every beat the control acts on just the lines that the rule gives: of a line of the set, of rank k
-  pub acts-just : (t : Turned) → k < soundLines s .count → wholeBeat s (run s cs .kept) g ≡ good t → Came s (run s cs .kept) (run s cs .written) g k t
-  acts-just t h = rw (demand-3 s cs) (λ e. came s (runByRule s cs .kept) (runByRule s cs .written) g t k h e)
+  pub acts-just : (t : Turned) → k < soundLines s .count → wholeBeat s (engineRun s cs .kept) g ≡ good t → Came s (engineRun s cs .kept) (engineRun s cs .history) g k t
+  acts-just t h = rw (demand-3 s cs) (λ e. came s (runByRule s cs .kept) (runByRule s cs .history) g t k h e)
 
   -- and on no other rank
-  pub acts-no-other : (t : Turned) → soundLines s .count ≤ k → wholeBeat s (run s cs .kept) g ≡ good t → isActed (t .world .acted) k ≡ false
+  pub acts-no-other : (t : Turned) → soundLines s .count ≤ k → wholeBeat s (engineRun s cs .kept) g ≡ good t → isActed (t .world .acted) k ≡ false
   acts-no-other t h = rw (demand-3 s cs) go
     where
-      go : wholeBeat s (stateBy (soundLines s) (runByRule s cs .kept) (runByRule s cs .written)) g ≡ good t → isActed (t .world .acted) k ≡ false
+      go : wholeBeat s (stateBy (soundLines s) (runByRule s cs .kept) (runByRule s cs .history)) g ≡ good t → isActed (t .world .acted) k ≡ false
       go e =
-          let u = unflagged s (runByRule s cs .kept) (runByRule s cs .written) g t e in
-          let b = beat-turns s (runByRule s cs .kept) (runByRule s cs .written) g (u .0) (u .1) in
+          let u = unflagged s (runByRule s cs .kept) (runByRule s cs .history) g t e in
+          let b = beat-turns s (runByRule s cs .kept) (runByRule s cs .history) g (u .0) (u .1) in
           ap (λ n. isActed n k) (u .2 ∙ ap (λ y. y .world .acted) (b .2))
-          ∙ no-other s (soundLines s) (soundLines s .count) k (beatIn (g .automatic) ∷ runByRule s cs .written) (begunBy (runByRule s cs .kept) g) (b .0) h (begun-none (runByRule s cs .kept) g) (b .1)
+          ∙ no-other s (soundLines s) (soundLines s .count) k (beatIn (g .automatic) ∷ runByRule s cs .history) (begunBy (runByRule s cs .kept) g) (b .0) h (begun-none (runByRule s cs .kept) g) (b .1)
 
   -- between two starts a WHEN line acts at most once: where it acts in a beat, it has not acted since the last start
   pub once : k < soundLines s .count → getD (soundLines s .items) k noLine .keyword ≡ WHEN →
-      isActed (beatAnswer s (run s cs .kept) g .acted) k ≡ true → actedSince k (run s cs .told) ≡ false
+      isActed (beatAnswer s (engineRun s cs .kept) g .acted) k ≡ true → actedSince k (engineRun s cs .told) ≡ false
   unfolding beatAnswer
   once h w e =
-      let a = acted-good (run s cs .kept) k (wholeBeat s (run s cs .kept) g) e in
+      let a = acted-good (engineRun s cs .kept) k (wholeBeat s (engineRun s cs .kept) g) e in
       let d = acts-just (a .0) h (a .1) in
       let line : Line = getD (soundLines s .items) k noLine in
-      not-yet (actedSince k (run s cs .told)) (everTrue k (run s cs .written)) (once-so-far s k h w cs)
-      (sym (d .ever-before) ∙ when-fresh s k line (after (d .before .entries) (beatIn (g .automatic) ∷ run s cs .written)) (d .before .world) w (sym (d .acted) ∙ a .2))
+      not-yet (actedSince k (engineRun s cs .told)) (everTrue k (engineRun s cs .history)) (once-so-far s k h w cs)
+      (sym (d .ever-before) ∙ when-fresh s k line (after (d .before .entries) (beatIn (g .automatic) ∷ engineRun s cs .history)) (d .before .world) w (sym (d .acted) ∙ a .2))
 
   -- an EVERY line acts only where its condition is true, in the world in which its turn comes, and at its turn before, since the last start, it was false or there was none
   pub edge : k < soundLines s .count → getD (soundLines s .items) k noLine .keyword ≡ EVERY →
-      isActed (beatAnswer s (run s cs .kept) g .acted) k ≡ true →
-      (before : Turned) × (turnsFrom s (soundLines s .numbers) (run s cs .kept .cancelled) (g .automatic) (soundLines s .items) k 0 (beatBegun (run s cs .kept) g) ≡ good before)
-      × (conditionNow s (getD (soundLines s .items) k noLine) (before .world) ≡ true) × (wasTrue k (run s cs .written) ≡ false)
+      isActed (beatAnswer s (engineRun s cs .kept) g .acted) k ≡ true →
+      (before : Turned) × (turnsFrom s (soundLines s .numbers) (engineRun s cs .kept .cancelled) (g .automatic) (soundLines s .items) k 0 (beatBegun (engineRun s cs .kept) g) ≡ good before)
+      × (conditionNow s (getD (soundLines s .items) k noLine) (before .world) ≡ true) × (wasTrue k (engineRun s cs .history) ≡ false)
   unfolding beatAnswer
   edge h w e =
-      let a = acted-good (run s cs .kept) k (wholeBeat s (run s cs .kept) g) e in
+      let a = acted-good (engineRun s cs .kept) k (wholeBeat s (engineRun s cs .kept) g) e in
       let d = acts-just (a .0) h (a .1) in
-      let f = every-edge s k (getD (soundLines s .items) k noLine) (after (d .before .entries) (beatIn (g .automatic) ∷ run s cs .written)) (d .before .world) w (sym (d .acted) ∙ a .2) in
+      let f = every-edge s k (getD (soundLines s .items) k noLine) (after (d .before .entries) (beatIn (g .automatic) ∷ engineRun s cs .history)) (d .before .world) w (sym (d .acted) ∙ a .2) in
       (d .before, d .come, f .0, sym (d .was-before) ∙ f .1)
 
 -- ---- locking and unlocking change no memory

@@ -25,7 +25,7 @@ use Rattle.engine.specs.Calls.{withLocked, withCancelled, called, lockedCall, l
 use Rattle.engine.specs.SetCountLaws.{sound-count}
 use Rattle.demands.specs.History.{History, after, isCancelled, isLocked}
 use Rattle.soundness.specs.Call.{Call, doBeat, doLock, doUnlock, doCancel, doReset}
-use Rattle.demands.specs.Run.{Now, coded, entriesOf, rankOf, hosted, beaten, step, runFrom, run, byRank, cancelledBy, lockedBy, remembersBy, memoryBy, Rest, restOf, withRest, stateBy, begunBy, endedBy, turnsByRule, beatByRule, codeByRule, hostedByRule, beatenByRule, cleared, resetByRule, stepByRule, runByRuleFrom, runByRule}
+use Rattle.demands.specs.Run.{Now, coded, entriesOf, rankOf, hosted, beaten, step, runFrom, engineRun, byRank, cancelledBy, lockedBy, remembersBy, memoryBy, Rest, restOf, withRest, stateBy, begunBy, endedBy, turnsByRule, beatByRule, codeByRule, hostedByRule, beatenByRule, cleared, resetByRule, stepByRule, runByRuleFrom, runByRule}
 use Rattle.demands.specs.FlagLaws.{byRank-at, lock-locked, cancel-cancelled, cancel-locked, cancel-memory, reset-locked, reset-cancelled, reset-memory, new-locked, new-cancelled, new-memory}
 use Rattle.tokens.specs.AnswerLaws.{Ok, is-ok, bind-ok}
 use Rattle.tokens.specs.ChooseLaws.{choose}
@@ -71,20 +71,20 @@ in-flags v p q h = cc
 -- ---- where the control stands that keeps no flags, with the flags that its history gives
 
 abbrev pub withFlags : List ℕ → Now Rest → Now State
-withFlags s n = record { kept = stateBy (soundLines s) (n .kept) (n .written); written = n .written; told = n .told }
+withFlags s n = record { kept = stateBy (soundLines s) (n .kept) (n .history); history = n .history; told = n .told }
 
 module _ (s : List ℕ) (n : Now Rest) where
   step-beat : (g : Given) → step s (doBeat g) (withFlags s n) ≡ withFlags s (stepByRule s (doBeat g) n)
   unfolding step stepByRule beatAnswer beatBuffer stateBy beatEnded endedBy
   step-beat g =
-      rw (beat-same s (n .kept) (n .written) g)
-      (go (beatByRule s (n .kept) (n .written) g) (beat-quiet s (n .kept) (n .written) g))
+      rw (beat-same s (n .kept) (n .history) g)
+      (go (beatByRule s (n .kept) (n .history) g) (beat-quiet s (n .kept) (n .history) g))
     where
       st : State
-      st = stateBy (soundLines s) (n .kept) (n .written)
+      st = stateBy (soundLines s) (n .kept) (n .history)
 
-      go : (a : Answer Turned) → Ok (λ t. byRank (cancelledBy (soundLines s) (after (t .entries) (n .written))) ≡ byRank (cancelledBy (soundLines s) (n .written))) a →
-          (let f : Answer Turned = a >>= flaggedTurn (soundLines s) (n .written) in beaten g (turnedAnswer st f) (buffered (g .buffer) f) (entriesOf f) (withFlags s n)) ≡ withFlags s (beatenByRule g a n)
+      go : (a : Answer Turned) → Ok (λ t. byRank (cancelledBy (soundLines s) (after (t .entries) (n .history))) ≡ byRank (cancelledBy (soundLines s) (n .history))) a →
+          (let f : Answer Turned = a >>= flaggedTurn (soundLines s) (n .history) in beaten g (turnedAnswer st f) (buffered (g .buffer) f) (entriesOf f) (withFlags s n)) ≡ withFlags s (beatenByRule g a n)
       go (good t) q = rw q
       go (stop c) q = refl
 
@@ -100,13 +100,13 @@ module _ (s : List ℕ) (n : Now Rest) where
   codeBy a b c = elim a [ true ↦ elim b [ true ↦ elim c [ true ↦ unknownLine | false ↦ 0 ] | false ↦ unknownLine ] | false ↦ unsound ]
 
   host-same : (x : Call) (es : List Entry) (change : ℕ → State) (number : ℕ) →
-      (rankOf s number < maxLines → ltb (rankOf s number) (soundLines s .count) ≡ true → cancelledBy (soundLines s) (n .written) (rankOf s number) ≡ false →
-      change (rankOf s number) ≡ stateBy (soundLines s) (n .kept) (after es (n .written))) →
-      hosted x (called (stateBy (soundLines s) (n .kept) (n .written)) (found s (stateBy (soundLines s) (n .kept) (n .written)) number) change) es (withFlags s n)
-      ≡ withFlags s (hostedByRule x (codeByRule s (n .kept) (n .written) number) es n)
+      (rankOf s number < maxLines → ltb (rankOf s number) (soundLines s .count) ≡ true → cancelledBy (soundLines s) (n .history) (rankOf s number) ≡ false →
+      change (rankOf s number) ≡ stateBy (soundLines s) (n .kept) (after es (n .history))) →
+      hosted x (called (stateBy (soundLines s) (n .kept) (n .history)) (found s (stateBy (soundLines s) (n .kept) (n .history)) number) change) es (withFlags s n)
+      ≡ withFlags s (hostedByRule x (codeByRule s (n .kept) (n .history) number) es n)
   unfolding called found foundAt codeByRule stateBy
   host-same x es change number h =
-      go (isSound s st) (ltb k (ls .count)) (getD (st .cancelled) k false) (isCancelled (getD (ls .items) k noLine .ids) k (n .written)) refl refl asked
+      go (isSound s st) (ltb k (ls .count)) (getD (st .cancelled) k false) (isCancelled (getD (ls .items) k noLine .ids) k (n .history)) refl refl asked
     where
       ls : Lines
       ls = soundLines s
@@ -115,15 +115,15 @@ module _ (s : List ℕ) (n : Now Rest) where
       k = rankOf s number
 
       st : State
-      st = stateBy ls (n .kept) (n .written)
+      st = stateBy ls (n .kept) (n .history)
 
       small : ltb k (ls .count) ≡ true → k < maxLines
       small b = omega (arith, ltb-true k (ls .count) b, sound-count s)
 
-      asked : ltb k (ls .count) ≡ true → getD (st .cancelled) k false ≡ isCancelled (getD (ls .items) k noLine .ids) k (n .written)
-      asked b = byRank-at (cancelledBy ls (n .written)) k (small b) ∙ rw b (and-true (isCancelled (getD (ls .items) k noLine .ids) k (n .written)))
+      asked : ltb k (ls .count) ≡ true → getD (st .cancelled) k false ≡ isCancelled (getD (ls .items) k noLine .ids) k (n .history)
+      asked b = byRank-at (cancelledBy ls (n .history)) k (small b) ∙ rw b (and-true (isCancelled (getD (ls .items) k noLine .ids) k (n .history)))
 
-      go : (a b c d : Bool) → ltb k (ls .count) ≡ b → isCancelled (getD (ls .items) k noLine .ids) k (n .written) ≡ d → (b ≡ true → c ≡ d) →
+      go : (a b c d : Bool) → ltb k (ls .count) ≡ b → isCancelled (getD (ls .items) k noLine .ids) k (n .history) ≡ d → (b ≡ true → c ≡ d) →
           hosted x (called st (foundBy a b c k) change) es (withFlags s n) ≡ withFlags s (hostedByRule x (codeBy a b d) es n)
       go true true true true p i q = refl
       go true true true false p i q = let z = q refl in cc
@@ -133,34 +133,34 @@ module _ (s : List ℕ) (n : Now Rest) where
       go false b c d p i q = refl
 
   step-lock : (x : Call) (b : Bool) (number : ℕ) →
-      hosted x (lockedCall s (stateBy (soundLines s) (n .kept) (n .written)) number b) (locks (rankOf s number) b ∷ []) (withFlags s n)
-      ≡ withFlags s (hostedByRule x (codeByRule s (n .kept) (n .written) number) (locks (rankOf s number) b ∷ []) n)
+      hosted x (lockedCall s (stateBy (soundLines s) (n .kept) (n .history)) number b) (locks (rankOf s number) b ∷ []) (withFlags s n)
+      ≡ withFlags s (hostedByRule x (codeByRule s (n .kept) (n .history) number) (locks (rankOf s number) b ∷ []) n)
   unfolding lockedCall stateBy
   step-lock x b number =
-      host-same x (locks (rankOf s number) b ∷ []) (λ k. withLocked (stateBy (soundLines s) (n .kept) (n .written)) k b) number
-      (λ h p c. rw (lock-locked (soundLines s) (rankOf s number) b (n .written) h c))
+      host-same x (locks (rankOf s number) b ∷ []) (λ k. withLocked (stateBy (soundLines s) (n .kept) (n .history)) k b) number
+      (λ h p c. rw (lock-locked (soundLines s) (rankOf s number) b (n .history) h c))
 
   step-cancel : (number : ℕ) → step s (doCancel number) (withFlags s n) ≡ withFlags s (stepByRule s (doCancel number) n)
   unfolding step stepByRule cancelCall stateBy
   step-cancel number =
-      host-same (doCancel number) (cancels (rankOf s number) ∷ []) (λ k. withCancelled (stateBy (soundLines s) (n .kept) (n .written)) k) number
+      host-same (doCancel number) (cancels (rankOf s number) ∷ []) (λ k. withCancelled (stateBy (soundLines s) (n .kept) (n .history)) k) number
       (λ h p c. rw (
-        cancel-locked (soundLines s) (rankOf s number) (n .written) h p,
-        cancel-cancelled (soundLines s) (rankOf s number) (n .written) h p,
-        cancel-memory (soundLines s) (rankOf s number) (n .written) h p,
+        cancel-locked (soundLines s) (rankOf s number) (n .history) h p,
+        cancel-cancelled (soundLines s) (rankOf s number) (n .history) h p,
+        cancel-memory (soundLines s) (rankOf s number) (n .history) h p,
       ))
 
   step-reset : step s doReset (withFlags s n) ≡ withFlags s (stepByRule s doReset n)
   unfolding step stepByRule resetCall resetByRule resetState stateBy
-  step-reset = go (isSound s (stateBy (soundLines s) (n .kept) (n .written)))
+  step-reset = go (isSound s (stateBy (soundLines s) (n .kept) (n .history)))
     where
-      after-reset : resetState (soundLines s .items) (soundLines s .count) (stateBy (soundLines s) (n .kept) (n .written)) ≡ stateBy (soundLines s) (cleared (n .kept) (soundLines s) (n .written)) (resets ∷ n .written)
-      after-reset = in-flags _ (reset-locked (soundLines s) (n .written)) (reset-cancelled (soundLines s) (n .written) (sound-count s)) (reset-memory (soundLines s) (n .written))
+      after-reset : resetState (soundLines s .items) (soundLines s .count) (stateBy (soundLines s) (n .kept) (n .history)) ≡ stateBy (soundLines s) (cleared (n .kept) (soundLines s) (n .history)) (resets ∷ n .history)
+      after-reset = in-flags _ (reset-locked (soundLines s) (n .history)) (reset-cancelled (soundLines s) (n .history) (sound-count s)) (reset-memory (soundLines s) (n .history))
 
       go : (a : Bool) →
-          (let c : Called = elim a [ true ↦ record { code = 0; state = resetState (soundLines s .items) (soundLines s .count) (stateBy (soundLines s) (n .kept) (n .written)) } | false ↦ record { code = unsound; state = stateBy (soundLines s) (n .kept) (n .written) } ] in
+          (let c : Called = elim a [ true ↦ record { code = 0; state = resetState (soundLines s .items) (soundLines s .count) (stateBy (soundLines s) (n .kept) (n .history)) } | false ↦ record { code = unsound; state = stateBy (soundLines s) (n .kept) (n .history) } ] in
           hosted doReset c (resets ∷ []) (withFlags s n))
-          ≡ (let m : Now Rest = elim a [ true ↦ record { kept = cleared (n .kept) (soundLines s) (n .written); written = resets ∷ n .written; told = (doReset, coded 0) ∷ n .told } | false ↦ record { kept = n .kept; written = n .written; told = (doReset, coded unsound) ∷ n .told } ] in
+          ≡ (let m : Now Rest = elim a [ true ↦ record { kept = cleared (n .kept) (soundLines s) (n .history); history = resets ∷ n .history; told = (doReset, coded 0) ∷ n .told } | false ↦ record { kept = n .kept; history = n .history; told = (doReset, coded unsound) ∷ n .told } ] in
           withFlags s m)
       go true = rw after-reset
       go false = refl
@@ -188,42 +188,42 @@ load-same s = in-flags _ (new-locked (soundLines s)) (new-cancelled (soundLines 
 module _ (s : List ℕ) (cs : List Call) where
   -- demand 3: after any calls the engine stands where the control stands that keeps no flags and decides by the rule alone. Its replies are the same (codes, orders, the
   -- words of the lines that acted), its history is the same, its variables are the same, and its flags are what the history says
-  pub demand-3 : run s cs ≡ withFlags s (runByRule s cs)
-  demand-3 = ap (λ st. runFrom s cs (record { kept = st; written = []; told = [] })) (load-same s) ∙ run-same s cs (record { kept = restOf powerOn; written = []; told = [] })
+  pub demand-3 : engineRun s cs ≡ withFlags s (runByRule s cs)
+  demand-3 = ap (λ st. runFrom s cs (record { kept = st; history = []; told = [] })) (load-same s) ∙ run-same s cs (record { kept = restOf powerOn; history = []; told = [] })
 
   -- its four parts: the same replies, the same history, the same variables, and
-  pub same-replies : run s cs .told ≡ runByRule s cs .told
+  pub same-replies : engineRun s cs .told ≡ runByRule s cs .told
   same-replies = ap (λ n. n .told) demand-3
 
-  pub same-history : run s cs .written ≡ runByRule s cs .written
-  same-history = ap (λ n. n .written) demand-3
+  pub same-history : engineRun s cs .history ≡ runByRule s cs .history
+  same-history = ap (λ n. n .history) demand-3
 
-  pub same-variables : restOf (run s cs .kept) ≡ runByRule s cs .kept
+  pub same-variables : restOf (engineRun s cs .kept) ≡ runByRule s cs .kept
   unfolding stateBy
   same-variables = ap (λ n. restOf (n .kept)) demand-3
 
   -- the flags that the engine stores are what its history says
-  pub state-says-the-history : run s cs .kept ≡ stateBy (soundLines s) (restOf (run s cs .kept)) (run s cs .written)
+  pub state-says-the-history : engineRun s cs .kept ≡ stateBy (soundLines s) (restOf (engineRun s cs .kept)) (engineRun s cs .history)
   state-says-the-history = ap (λ n. n .kept) demand-3 ∙ rw (same-variables, same-history)
 
   -- so for a line of the set, of rank k: it is cancelled if the history says so; it is locked if the history says so and it is not cancelled; it has in memory what its
   -- keyword makes it remember of the history, unless it is cancelled
   pub flags-say-the-history : (k : ℕ) → k < soundLines s .count →
-      let st = run s cs .kept in let r = run s cs .written in let l = getD (soundLines s .items) k noLine in let c = isCancelled (l .ids) k r in
+      let st = engineRun s cs .kept in let r = engineRun s cs .history in let l = getD (soundLines s .items) k noLine in let c = isCancelled (l .ids) k r in
       (getD (st .cancelled) k false ≡ c) × (getD (st .locked) k false ≡ isLocked k r && not c) × (getD (st .memory) k false ≡ remembersBy (l .keyword) k r && not c)
   unfolding stateBy
   flags-say-the-history k h =
       let b : k < maxLines = omega (arith, sound-count s) in
       let p : ltb k (soundLines s .count) ≡ true = lt-ltb k (soundLines s .count) h in (
-        ap (λ st. getD (st .cancelled) k false) state-says-the-history ∙ byRank-at (cancelledBy (soundLines s) (run s cs .written)) k b ∙ rw p (and-true _),
-        ap (λ st. getD (st .locked) k false) state-says-the-history ∙ byRank-at (lockedBy (soundLines s) (run s cs .written)) k b ∙ rw (p, and-true),
-        ap (λ st. getD (st .memory) k false) state-says-the-history ∙ byRank-at (memoryBy (soundLines s) (run s cs .written)) k b ∙ rw (p, and-true),
+        ap (λ st. getD (st .cancelled) k false) state-says-the-history ∙ byRank-at (cancelledBy (soundLines s) (engineRun s cs .history)) k b ∙ rw p (and-true _),
+        ap (λ st. getD (st .locked) k false) state-says-the-history ∙ byRank-at (lockedBy (soundLines s) (engineRun s cs .history)) k b ∙ rw (p, and-true),
+        ap (λ st. getD (st .memory) k false) state-says-the-history ∙ byRank-at (memoryBy (soundLines s) (engineRun s cs .history)) k b ∙ rw (p, and-true),
       )
 
   -- a cancelled line has neither lock nor memory
-  pub cancelled-is-bare : (k : ℕ) → k < soundLines s .count → getD (run s cs .kept .cancelled) k false ≡ true →
-      (getD (run s cs .kept .locked) k false ≡ false) × (getD (run s cs .kept .memory) k false ≡ false)
+  pub cancelled-is-bare : (k : ℕ) → k < soundLines s .count → getD (engineRun s cs .kept .cancelled) k false ≡ true →
+      (getD (engineRun s cs .kept .locked) k false ≡ false) × (getD (engineRun s cs .kept .memory) k false ≡ false)
   cancelled-is-bare k h e =
       let f = flags-say-the-history k h in
-      let c : isCancelled (getD (soundLines s .items) k noLine .ids) k (run s cs .written) ≡ true = sym (f .0) ∙ e in
+      let c : isCancelled (getD (soundLines s .items) k noLine .ids) k (engineRun s cs .history) ≡ true = sym (f .0) ∙ e in
       (f .1 ∙ rw (c, and-false), f .2 ∙ rw (c, and-false))

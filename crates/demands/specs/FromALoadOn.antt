@@ -34,7 +34,7 @@ abbrev pub withFlagsSince : Standing Rest → Standing State
 withFlagsSince n = record { set = n .set; code = n .code; line = n .line; since = withFlags (n .set) (n .since) }
 
 load-flags : (t : List ℕ) → newlyLoaded t ≡ withFlagsSince (newlyLoadedByRule t)
-load-flags t = rw (load-power-on t) (ap (λ st. record { set = loadSet t; code = loadAnswer t .code; line = loadAnswer t .line; since = record { kept = st; written = []; told = [] } }) (load-same (loadSet t)))
+load-flags t = rw (load-power-on t) (ap (λ st. record { set = loadSet t; code = loadAnswer t .code; line = loadAnswer t .line; since = record { kept = st; history = []; told = [] } }) (load-same (loadSet t)))
 
 asks-same : (qs : List Ask) (n : Standing Rest) → askAll qs (withFlagsSince n) ≡ withFlagsSince (askAllByRule qs n)
 unfolding askAll askAllByRule
@@ -61,7 +61,7 @@ askAll-append (doCall c ∷ qs) bs n = askAll-append qs bs _
 
 module _ (t u : List ℕ) (qs : List Ask) where
   -- A SECOND LOAD BEGINS ANEW, whatever was before it: its own set, the state of power-on, nothing written down
-  pub load-begins-anew : standing t (qs ++ (doLoad u ∷ [])) ≡ record { set = loadSet u; code = loadAnswer u .code; line = loadAnswer u .line; since = record { kept = powerOn; written = []; told = [] } }
+  pub load-begins-anew : standing t (qs ++ (doLoad u ∷ [])) ≡ record { set = loadSet u; code = loadAnswer u .code; line = loadAnswer u .line; since = record { kept = powerOn; history = []; told = [] } }
   unfolding askAll
   load-begins-anew = askAll-append qs (doLoad u ∷ []) (newlyLoaded t) ∙ rw (load-power-on u)
 
@@ -74,7 +74,7 @@ module _ (t u : List ℕ) (qs : List Ask) where
 module _ (t : List ℕ) (qs : List Ask) (g : Given) where
   -- for every line of the set, in a beat that answers 0: it takes a turn and acts by the rule; where it did not act it left all alone, and where it acted it did all its actions
   pub acts-from-a-load : let n = standing t qs in (k : ℕ) → k < soundLines (n .set) .count → beatAnswer (n .set) (n .since .kept) g .code ≡ 0 →
-      AtItsTurn (n .set) (n .since .kept) (n .since .written) g k (beatAnswer (n .set) (n .since .kept) g .acted)
+      AtItsTurn (n .set) (n .since .kept) (n .since .history) g k (beatAnswer (n .set) (n .since .kept) g .acted)
   acts-from-a-load = rw (since-the-load t qs) (at-its-turn (loadSet (lastText t qs)) (callsSince [] qs) g)
 
   -- and no other rank has a bit
@@ -95,5 +95,5 @@ module _ (t : List ℕ) (qs : List Ask) (g : Given) where
   pub edge-from-a-load : let n = standing t qs in (k : ℕ) → k < soundLines (n .set) .count → getD (soundLines (n .set) .items) k noLine .keyword ≡ EVERY →
       isActed (beatAnswer (n .set) (n .since .kept) g .acted) k ≡ true →
       (before : Turned) × (turnsFrom (n .set) (soundLines (n .set) .numbers) (n .since .kept .cancelled) (g .automatic) (soundLines (n .set) .items) k 0 (beatBegun (n .since .kept) g) ≡ good before)
-      × (conditionNow (n .set) (getD (soundLines (n .set) .items) k noLine) (before .world) ≡ true) × (wasTrue k (n .since .written) ≡ false)
+      × (conditionNow (n .set) (getD (soundLines (n .set) .items) k noLine) (before .world) ≡ true) × (wasTrue k (n .since .history) ≡ false)
   edge-from-a-load = rw (since-the-load t qs) (edge (loadSet (lastText t qs)) (callsSince [] qs) g)

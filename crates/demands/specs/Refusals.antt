@@ -71,10 +71,10 @@ noted-refused c es r h = go (eqb c 0) refl
 abbrev pub lastCode : Now State → ℕ
 lastCode n = elim (n .told) [ [] ↦ 0 | x ∷ xs ↦ x .1 .code ]
 
-pub step-refused : (s : List ℕ) (c : Call) (n : Now State) → lastCode (step s c n) ≢ 0 → (step s c n .kept ≡ n .kept) × (step s c n .written ≡ n .written)
+pub step-refused : (s : List ℕ) (c : Call) (n : Now State) → lastCode (step s c n) ≢ 0 → (step s c n .kept ≡ n .kept) × (step s c n .history ≡ n .history)
 unfolding step
 step-refused s (doBeat g) n h = let p = beat-refused s (n .kept) g h in (p .0, rw (p .4))
-step-refused s (doLock k) n h = (lock-refused s (n .kept) k h, noted-refused _ (locks (rankOf s k) true ∷ []) (n .written) h)
-step-refused s (doUnlock k) n h = (unlock-refused s (n .kept) k h, noted-refused _ (locks (rankOf s k) false ∷ []) (n .written) h)
-step-refused s (doCancel k) n h = (cancel-refused s (n .kept) k h, noted-refused _ (cancels (rankOf s k) ∷ []) (n .written) h)
-step-refused s doReset n h = (reset-refused s (n .kept) h, noted-refused _ (resets ∷ []) (n .written) h)
+step-refused s (doLock k) n h = (lock-refused s (n .kept) k h, noted-refused _ (locks (rankOf s k) true ∷ []) (n .history) h)
+step-refused s (doUnlock k) n h = (unlock-refused s (n .kept) k h, noted-refused _ (locks (rankOf s k) false ∷ []) (n .history) h)
+step-refused s (doCancel k) n h = (cancel-refused s (n .kept) k h, noted-refused _ (cancels (rankOf s k) ∷ []) (n .history) h)
+step-refused s doReset n h = (reset-refused s (n .kept) h, noted-refused _ (resets ∷ []) (n .history) h)

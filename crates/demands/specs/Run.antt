@@ -43,7 +43,7 @@ coded c = record { code = c; orders = 0; acted = 0; buffer = [] }
 -- where a run stands: what the control keeps, the history, and the calls so far with their replies, newest first
 pub record Now (S : Type 0) : Type 0 where
   pub kept : S
-  pub written : History
+  pub history : History
   pub told : List (Call × Reply)
 
 -- what a beat adds to the history: a failed one nothing
@@ -63,13 +63,13 @@ rankOf s n = rankIn (soundLines s .numbers) n 0
 
 -- a host's call that gave x and is written down as es
 abbrev pub hosted : Call → Called → List Entry → Now State → Now State
-hosted c x es n = record { kept = x .state; written = noted (x .code) es (n .written); told = (c, coded (x .code)) ∷ n .told }
+hosted c x es n = record { kept = x .state; history = noted (x .code) es (n .history); told = (c, coded (x .code)) ∷ n .told }
 
 -- a beat that was given g, gave x, left the buffer b and wrote down es
 abbrev pub beaten : Given → Beaten → List ℕ → List Entry → Now State → Now State
 beaten g x b es n = record {
   kept = x .state;
-  written = after es (n .written);
+  history = after es (n .history);
   told = (doBeat g, record { code = x .code; orders = x .orders; acted = x .acted; buffer = b }) ∷ n .told;
 }
 
@@ -88,11 +88,11 @@ runFrom s (c ∷ cs) n = runFrom s cs (step s c n)
 
 -- after a load: the state of power-on, and nothing written down
 abbrev pub loaded : Now State
-loaded = record { kept = powerOn; written = []; told = [] }
+loaded = record { kept = powerOn; history = []; told = [] }
 
 -- the engine's run of these calls over the set s, from the load on
-abbrev pub run : List ℕ → List Call → Now State
-run s cs = runFrom s cs loaded
+abbrev pub engineRun : List ℕ → List Call → Now State
+engineRun s cs = runFrom s cs loaded
 
 -- ---- what the history says of locks, cancels and memory
 
@@ -206,16 +206,16 @@ codeByRule s v r n =
 
 -- a host's call with the code k leaves the rest as it was
 abbrev pub hostedByRule : Call → ℕ → List Entry → Now Rest → Now Rest
-hostedByRule c k es n = record { kept = n .kept; written = noted k es (n .written); told = (c, coded k) ∷ n .told }
+hostedByRule c k es n = record { kept = n .kept; history = noted k es (n .history); told = (c, coded k) ∷ n .told }
 
 -- a failed beat leaves all as it was
 abbrev pub beatenByRule : Given → Answer Turned → Now Rest → Now Rest
 beatenByRule g (good t) n = record {
   kept = endedBy (n .kept) (t .world);
-  written = after (t .entries) (n .written);
+  history = after (t .entries) (n .history);
   told = (doBeat g, record { code = 0; orders = length (t .world .orders) / orderSize; acted = t .world .acted; buffer = buffered (g .buffer) (good t) }) ∷ n .told;
 }
-beatenByRule g (stop k) n = record { kept = n .kept; written = n .written; told = (doBeat g, record { code = k; orders = 0; acted = 0; buffer = g .buffer }) ∷ n .told }
+beatenByRule g (stop k) n = record { kept = n .kept; history = n .history; told = (doBeat g, record { code = k; orders = 0; acted = 0; buffer = g .buffer }) ∷ n .told }
 
 -- what the engine's reset leaves of the rest
 abbrev pub cleared : Rest → Lines → History → Rest
@@ -224,17 +224,17 @@ cleared v ls r = restOf (resetState (ls .items) (ls .count) (stateBy ls v r))
 -- a reset: one entry, and the rest cleared
 unfoldable pub resetByRule : List ℕ → Now Rest → Now Rest
 resetByRule s n =
-    elim (isSound s (stateBy (soundLines s) (n .kept) (n .written))) [
-      | true ↦ record { kept = cleared (n .kept) (soundLines s) (n .written); written = resets ∷ n .written; told = (doReset, coded 0) ∷ n .told }
-      | false ↦ record { kept = n .kept; written = n .written; told = (doReset, coded unsound) ∷ n .told }
+    elim (isSound s (stateBy (soundLines s) (n .kept) (n .history))) [
+      | true ↦ record { kept = cleared (n .kept) (soundLines s) (n .history); history = resets ∷ n .history; told = (doReset, coded 0) ∷ n .told }
+      | false ↦ record { kept = n .kept; history = n .history; told = (doReset, coded unsound) ∷ n .told }
     ]
 
 -- one call by the rule
 unfoldable pub stepByRule : List ℕ → Call → Now Rest → Now Rest
-stepByRule s (doBeat g) n = beatenByRule g (beatByRule s (n .kept) (n .written) g) n
-stepByRule s (doLock k) n = hostedByRule (doLock k) (codeByRule s (n .kept) (n .written) k) (locks (rankOf s k) true ∷ []) n
-stepByRule s (doUnlock k) n = hostedByRule (doUnlock k) (codeByRule s (n .kept) (n .written) k) (locks (rankOf s k) false ∷ []) n
-stepByRule s (doCancel k) n = hostedByRule (doCancel k) (codeByRule s (n .kept) (n .written) k) (cancels (rankOf s k) ∷ []) n
+stepByRule s (doBeat g) n = beatenByRule g (beatByRule s (n .kept) (n .history) g) n
+stepByRule s (doLock k) n = hostedByRule (doLock k) (codeByRule s (n .kept) (n .history) k) (locks (rankOf s k) true ∷ []) n
+stepByRule s (doUnlock k) n = hostedByRule (doUnlock k) (codeByRule s (n .kept) (n .history) k) (locks (rankOf s k) false ∷ []) n
+stepByRule s (doCancel k) n = hostedByRule (doCancel k) (codeByRule s (n .kept) (n .history) k) (cancels (rankOf s k) ∷ []) n
 stepByRule s doReset n = resetByRule s n
 
 -- the calls, one after the other
@@ -244,4 +244,4 @@ runByRuleFrom s (c ∷ cs) n = runByRuleFrom s cs (stepByRule s c n)
 
 -- the run of these calls by the rule alone, from the load on
 abbrev pub runByRule : List ℕ → List Call → Now Rest
-runByRule s cs = runByRuleFrom s cs (record { kept = restOf powerOn; written = []; told = [] })
+runByRule s cs = runByRuleFrom s cs (record { kept = restOf powerOn; history = []; told = [] })

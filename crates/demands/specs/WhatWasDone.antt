@@ -22,7 +22,7 @@ use Rattle.soundness.specs.Call.{Call}
 use Rattle.soundness.specs.CallCodes.{ended-well}
 use Rattle.tokens.specs.AnswerLaws.{is-ok}
 use Rattle.demands.specs.History.{History, after, takesByRule}
-use Rattle.demands.specs.Run.{run, runByRule, Rest, stateBy, begunBy, turnsByRule}
+use Rattle.demands.specs.Run.{engineRun, runByRule, Rest, stateBy, begunBy, turnsByRule}
 use Rattle.demands.specs.Demand3.{demand-3}
 use Rattle.demands.specs.Acts.{isActed, actsNow}
 use Rattle.demands.specs.Deed.{LeftAlone, DidAll, bytesOf, Each, Gave, OfActed}
@@ -67,11 +67,11 @@ module _ (s : List ℕ) (cancelled : List Bool) (m : Bool) (l : Line) (k : ℕ) 
 
 module _ (s : List ℕ) (cs : List Call) (g : Given) where
   -- IN EVERY BEAT THAT ANSWERS 0, for every line of the set
-  pub at-its-turn : (k : ℕ) → k < soundLines s .count → beatAnswer s (run s cs .kept) g .code ≡ 0 →
-      AtItsTurn s (run s cs .kept) (run s cs .written) g k (beatAnswer s (run s cs .kept) g .acted)
+  pub at-its-turn : (k : ℕ) → k < soundLines s .count → beatAnswer s (engineRun s cs .kept) g .code ≡ 0 →
+      AtItsTurn s (engineRun s cs .kept) (engineRun s cs .history) g k (beatAnswer s (engineRun s cs .kept) g .acted)
   unfolding beatAnswer
   at-its-turn k h z =
-      let w = ended-well s (run s cs .kept) g z in
+      let w = ended-well s (engineRun s cs .kept) g z in
       let c = acts-just s cs g k (w .0) h (w .1) in
       let line = getD (soundLines s .items) k noLine in
       let added : (a : Bool) → isActed (w .0 .world .acted) k ≡ a → c .own .world .acted ≡ c .before .world .acted + cond a (2 ^ k) 0 = λ a e. c .added ∙ rw e in
@@ -83,37 +83,37 @@ module _ (s : List ℕ) (cs : List Call) (g : Given) where
         taken = c .taken;
         takes = c .takes;
         acts = c .acted;
-        left = λ e. was-left s (run s cs .kept .cancelled) (g .automatic) line k (c .before .world) (c .own) (c .taken) (added false e);
-        did = λ e. was-done s (run s cs .kept .cancelled) (g .automatic) line k (c .before .world) (c .own) (c .taken) (added true e);
+        left = λ e. was-left s (engineRun s cs .kept .cancelled) (g .automatic) line k (c .before .world) (c .own) (c .taken) (added false e);
+        did = λ e. was-done s (engineRun s cs .kept .cancelled) (g .automatic) line k (c .before .world) (c .own) (c .taken) (added true e);
       })
 
   -- A LINE TAKES A TURN BY THE RULE ALONE, over the history so far
-  pub takes-turns-by-rule : (k : ℕ) → k < soundLines s .count → beatAnswer s (run s cs .kept) g .code ≡ 0 →
-      let st = run s cs .kept in let l = getD (soundLines s .items) k noLine in
+  pub takes-turns-by-rule : (k : ℕ) → k < soundLines s .count → beatAnswer s (engineRun s cs .kept) g .code ≡ 0 →
+      let st = engineRun s cs .kept in let l = getD (soundLines s .items) k noLine in
       (before : Turned) × (turnsFrom s (soundLines s .numbers) (st .cancelled) (g .automatic) (soundLines s .items) k 0 (beatBegun st g) ≡ good before)
-      × (takesTurn s (soundLines s .numbers) (st .cancelled) (g .automatic) l k (before .world) ≡ takesByRule l k (after (before .entries) (beatIn (g .automatic) ∷ run s cs .written)))
+      × (takesTurn s (soundLines s .numbers) (st .cancelled) (g .automatic) l k (before .world) ≡ takesByRule l k (after (before .entries) (beatIn (g .automatic) ∷ engineRun s cs .history)))
   takes-turns-by-rule k h z = let t = at-its-turn k h z in (t .before, t .come, t .takes)
 
   -- A LINE WHOSE BIT IS CLEAR LEFT ALL AS IT WAS, but for what it remembers itself
-  pub left-alone : (k : ℕ) → k < soundLines s .count → beatAnswer s (run s cs .kept) g .code ≡ 0 → isActed (beatAnswer s (run s cs .kept) g .acted) k ≡ false →
-      let st = run s cs .kept in let l = getD (soundLines s .items) k noLine in
+  pub left-alone : (k : ℕ) → k < soundLines s .count → beatAnswer s (engineRun s cs .kept) g .code ≡ 0 → isActed (beatAnswer s (engineRun s cs .kept) g .acted) k ≡ false →
+      let st = engineRun s cs .kept in let l = getD (soundLines s .items) k noLine in
       (before own : Turned) × (turnsFrom s (soundLines s .numbers) (st .cancelled) (g .automatic) (soundLines s .items) k 0 (beatBegun st g) ≡ good before)
       × (turnOf s (soundLines s .numbers) (st .cancelled) (g .automatic) l k (before .world) ≡ good own) × LeftAlone k (before .world) (own .world)
   left-alone k h z e = let t = at-its-turn k h z in (t .before, t .own, t .come, t .taken, t .left e)
 
   -- A LINE WHOSE BIT IS SET DID ITS ACTIONS, all of them
-  pub did-all : (k : ℕ) → k < soundLines s .count → beatAnswer s (run s cs .kept) g .code ≡ 0 → isActed (beatAnswer s (run s cs .kept) g .acted) k ≡ true →
-      let st = run s cs .kept in let l = getD (soundLines s .items) k noLine in
+  pub did-all : (k : ℕ) → k < soundLines s .count → beatAnswer s (engineRun s cs .kept) g .code ≡ 0 → isActed (beatAnswer s (engineRun s cs .kept) g .acted) k ≡ true →
+      let st = engineRun s cs .kept in let l = getD (soundLines s .items) k noLine in
       (before own : Turned) × (turnsFrom s (soundLines s .numbers) (st .cancelled) (g .automatic) (soundLines s .items) k 0 (beatBegun st g) ≡ good before)
       × (turnOf s (soundLines s .numbers) (st .cancelled) (g .automatic) l k (before .world) ≡ good own) × DidAll s (soundLines s .numbers) (st .cancelled) l k (before .world) (own .world)
   did-all k h z e = let t = at-its-turn k h z in (t .before, t .own, t .come, t .taken, t .did e)
 
   -- AND NO OTHER RANK HAS A BIT
-  pub no-other-bit : (k : ℕ) → soundLines s .count ≤ k → isActed (beatAnswer s (run s cs .kept) g .acted) k ≡ false
+  pub no-other-bit : (k : ℕ) → soundLines s .count ≤ k → isActed (beatAnswer s (engineRun s cs .kept) g .acted) k ≡ false
   unfolding beatAnswer
-  no-other-bit k h = go (wholeBeat s (run s cs .kept) g) (λ t. acts-no-other s cs g k t h)
+  no-other-bit k h = go (wholeBeat s (engineRun s cs .kept) g) (λ t. acts-no-other s cs g k t h)
     where
-      go : (a : Answer Turned) → ((t : Turned) → a ≡ good t → isActed (t .world .acted) k ≡ false) → isActed (turnedAnswer (run s cs .kept) a .acted) k ≡ false
+      go : (a : Answer Turned) → ((t : Turned) → a ≡ good t → isActed (t .world .acted) k ≡ false) → isActed (turnedAnswer (engineRun s cs .kept) a .acted) k ≡ false
       go (good t) f = f t refl
       go (stop c) f = no-bit k
 
@@ -137,16 +137,16 @@ module _ (s : List ℕ) (v : Rest) (r : History) (g : Given) (t : Turned) where
 module _ (s : List ℕ) (cs : List Call) (g : Given) where
   -- EACH ORDER IN THE BUFFER CARRIES THE NUMBER OF A LINE WHOSE BIT IS SET: the buffer begins with the bytes of some orders, as many as the answer says, and the bytes behind them stay
   pub orders-of-acting-lines :
-      let x = beatAnswer s (run s cs .kept) g in
-      (os : List Order) × (x .orders ≡ length os) × (beatBuffer s (run s cs .kept) g ≡ bytesOf os ++ drop (orderSize * length os) (g .buffer)) × Each (OfActed (soundLines s) (x .acted)) os
+      let x = beatAnswer s (engineRun s cs .kept) g in
+      (os : List Order) × (x .orders ≡ length os) × (beatBuffer s (engineRun s cs .kept) g ≡ bytesOf os ++ drop (orderSize * length os) (g .buffer)) × Each (OfActed (soundLines s) (x .acted)) os
   unfolding beatAnswer beatBuffer
-  orders-of-acting-lines = go (wholeBeat s (run s cs .kept) g) orders
+  orders-of-acting-lines = go (wholeBeat s (engineRun s cs .kept) g) orders
     where
-      orders : (t : Turned) → wholeBeat s (run s cs .kept) g ≡ good t → Gave (OfActed (soundLines s) (t .world .acted)) [] (t .world .orders)
-      orders t = rw (demand-3 s cs) (beat-orders s (runByRule s cs .kept) (runByRule s cs .written) g t)
+      orders : (t : Turned) → wholeBeat s (engineRun s cs .kept) g ≡ good t → Gave (OfActed (soundLines s) (t .world .acted)) [] (t .world .orders)
+      orders t = rw (demand-3 s cs) (beat-orders s (runByRule s cs .kept) (runByRule s cs .history) g t)
 
       go : (a : Answer Turned) → ((t : Turned) → a ≡ good t → Gave (OfActed (soundLines s) (t .world .acted)) [] (t .world .orders)) →
-          let x = turnedAnswer (run s cs .kept) a in
+          let x = turnedAnswer (engineRun s cs .kept) a in
           (os : List Order) × (x .orders ≡ length os) × (buffered (g .buffer) a ≡ bytesOf os ++ drop (orderSize * length os) (g .buffer)) × Each (OfActed (soundLines s) (x .acted)) os
       go (good t) f =
           let o = f t refl in let n : length (t .world .orders) ≡ orderSize * length (o .given) = ap length (o .bytes) ∙ bytes-length (o .given) in

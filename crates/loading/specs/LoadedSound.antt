@@ -15,7 +15,7 @@ use Rattle.soundness.specs.GoodAnswers.{Not22}
 use Rattle.soundness.specs.CellSoundLaws.{power-on}
 use Rattle.soundness.specs.Call.{Call, doBeat, doLock, doUnlock, doCancel, doReset, codeAfter, afterAll}
 use Rattle.soundness.specs.SoundLaws.{Whole, call-keeps, call-not22, power-on-whole, always-sound, never-22}
-use Rattle.demands.specs.Run.{Now, Reply, step, runFrom, run}
+use Rattle.demands.specs.Run.{Now, Reply, step, runFrom, engineRun}
 use Rattle.demands.specs.Asks.{Ask, standing, lastText, callsSince}
 use Rattle.demands.specs.AskLaws.{load-power-on}
 use Rattle.demands.specs.FromALoadOn.{since-the-load}
@@ -78,11 +78,11 @@ module _ (s : List ℕ) (size : length s ≤ setSize) where
   run-keeps [] n w h = (w, h)
   run-keeps (c ∷ cs) n w h = let (a, b) = step-keeps c n w h in run-keeps cs (step s c n) a b
 
-loaded-keeps : (t : List ℕ) (cs : List Call) → Whole (loadSet t) (run (loadSet t) cs .kept) × NoneIs22 (run (loadSet t) cs .told)
+loaded-keeps : (t : List ℕ) (cs : List Call) → Whole (loadSet t) (engineRun (loadSet t) cs .kept) × NoneIs22 (engineRun (loadSet t) cs .told)
 loaded-keeps t cs = let n = load-size t in run-keeps (loadSet t) (omega arith) cs _ (power-on-whole (loadSet t) (load-lines-sound t)) tt
 
 -- IN EVERY RUN OVER A LOADED SET no reply is a 22
-pub load-run-never-22 : (t : List ℕ) (cs : List Call) → NoneIs22 (run (loadSet t) cs .told)
+pub load-run-never-22 : (t : List ℕ) (cs : List Call) → NoneIs22 (engineRun (loadSet t) cs .told)
 load-run-never-22 t cs = loaded-keeps t cs .1
 
 -- LOADING AND ALL CALLS KEEP IT SO: from a load on, through any asks and further loads among them, the set and the state are sound
