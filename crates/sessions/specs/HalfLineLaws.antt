@@ -19,7 +19,7 @@ use Rattle.text.specs.Lines.{before as startOf, split, withoutReturn}
 use Rattle.text.specs.LinesLaws.{split-some}
 use Rattle.transcript.specs.declared.beat_line.HalfLine.{HalfLine}
 use Rattle.transcript.specs.BeatLine.{Lent, fields, modeOf, allDigits, areDigits, wholeOf, wordOf, positive, negative, lentNumber, withNumber, lentNumbers, lentOf, fieldsLent, lineLent}
-use Rattle.transcript.specs.SessionRoomLaws.{closed-field}
+use Rattle.transcript.specs.IntakeLaws.{closed-field}
 use Rattle.transcript.specs.HalfLine.{noHalfLine, illFormed, withStage, highest, greatest, signed, withField, closed, spaceAfter, modeByte, minusByte, digitByte, fieldByte, readByte, readOn, isUntouched, withoutCR, readLent}
 
 -- ---- the bytes of one field

@@ -1,12 +1,12 @@
 -- A session prints what the definition says, whatever the pieces of its input. Assumes nothing.
 use mathlib.Core.Path.{_≡_, refl, sym, ap, _∙_}
-use mathlib.Core.Bool.{true, false, _||_}
+use mathlib.Core.Option.{none, some}
 use mathlib.Core.List.{List, [], _∷_, _++_, append-assoc}
 use Prim.Native.Nat.{ℕ, _+_, min, _≤_}
 use native.Mathlib.Omega.{arith}
 use lib.Dec.{eqb, leb}
 use lib.ListN.{length, take, length-append, length-set}
-use borrow.Author.Tests.{leb-true, leb-false, eqb-true}
+use borrow.Author.Tests.{leb-true, leb-false, eqb-true, eqb-false}
 use Rattle.values.specs.Choice.{decide, either, eitherBoth}
 use Rattle.values.specs.Numbers.{clash}
 use Rattle.text.specs.Byte.{LF}
@@ -16,13 +16,16 @@ use Rattle.values.specs.PutAt.{putAt}
 use Rattle.values.specs.PutLaws.{put-length, put-past, put-join}
 use Rattle.transcript.specs.declared.set_text.Place.{Place}
 use Rattle.transcript.specs.declared.beat_line.HalfLine.{HalfLine}
+use Rattle.transcript.specs.declared.intake.Intake.{Intake}
 use Rattle.reader.specs.Load.{loadAnswer}
-use Rattle.transcript.specs.HalfLine.{readByte, readOn, withoutCR, readLent}
+use Rattle.transcript.specs.HalfLine.{readByte, readOn}
 use Rattle.transcript.specs.Totals.{maxBeats}
 use Rattle.transcript.specs.Tally.{counted, answerOf}
-use Rattle.transcript.specs.Machine.{TEXT, BEATS, Machine, Fed, withPlace, withHalfLine, opened, textEnd, beatOf, beatEnd, chunk, lineEnd, behind, fedLines}
-use Rattle.transcript.specs.SetText.{keptSize, starAfter, starOn, placeOn}
-use Rattle.transcript.specs.SessionRoomLaws.{byCode, byLent}
+use Rattle.transcript.specs.Intake.{TEXT, BEATS, withPlace, withHalfLine, bytesKept, Arrival, nothing, wholeText, beatLine, textLineKept, lineOver, lineKept}
+use Rattle.transcript.specs.IntakeLaws.{text-bytes, text-bytes-kept, beats-bytes, else-bytes, else-bytes-kept}
+use Rattle.transcript.specs.Machine.{Machine, Fed, opened, beatOf, beatEnd, arrivalWorked, keeping, chunk, lineEnd, behind, fedLines}
+use Rattle.transcript.specs.SetText.{keptSize, starAfter, starOn, starEnds, placeOn}
+use Rattle.transcript.specs.SessionRoomLaws.{byCode}
 
 -- ---- bytes of a line, in two parts
 
@@ -56,70 +59,72 @@ text-append s p l k h =
 
 -- by the phase
 abbrev textOn : Machine → List ℕ → Machine
-textOn m l = record { text = putAt (m .text) (m .session .place .size) l; lines = m .lines; session = withPlace (m .session) (placeOn (m .session .place) l) }
+textOn m l = let x = m .session .intake in keeping m (putAt (m .text) (x .place .size) l) (withPlace x (placeOn (x .place) l))
 
 abbrev beatsOn : Machine → List ℕ → Machine
-beatsOn m l = record { text = m .text; lines = m .lines; session = withHalfLine (m .session) (readOn (m .session .half) l) }
+beatsOn m l = let x = m .session .intake in keeping m (m .text) (withHalfLine x (readOn (x .half) l))
 
-pub chunk-text : (m : Machine) (l : List ℕ) → eqb (m .session .phase) TEXT ≡ true → chunk m l ≡ textOn m l
-unfolding chunk
-chunk-text m l h = either (λ (y : Machine). y ≡ textOn m l) (eqb (m .session .phase) TEXT) (λ e. refl) (λ e. clash (cc))
+module _ (m : Machine) (l : List ℕ) where
+  pub chunk-text : m .session .intake .phase ≡ TEXT → chunk m l ≡ textOn m l
+  unfolding chunk
+  chunk-text h = let x = m .session .intake in rw (text-bytes x h l, text-bytes-kept x h (m .text) l)
 
-pub chunk-beats : (m : Machine) (l : List ℕ) → eqb (m .session .phase) BEATS ≡ true → chunk m l ≡ beatsOn m l
-unfolding chunk
-chunk-beats m l h =
-    either (λ (y : Machine). y ≡ beatsOn m l) (eqb (m .session .phase) TEXT)
-    (λ e. absurd (omega (arith, eqb-true (m .session .phase) TEXT e, eqb-true (m .session .phase) BEATS h)))
-    (λ e. either (λ (y : Machine). y ≡ beatsOn m l) (eqb (m .session .phase) BEATS) (λ g. refl) (λ g. clash (cc)))
+  pub chunk-beats : m .session .intake .phase ≡ BEATS → chunk m l ≡ beatsOn m l
+  unfolding chunk
+  chunk-beats h = let x = m .session .intake in rw (beats-bytes x h l, else-bytes-kept x (λ e. omega arith) (m .text) l)
 
-pub chunk-else : (m : Machine) (l : List ℕ) → eqb (m .session .phase) TEXT ≡ false → eqb (m .session .phase) BEATS ≡ false → chunk m l ≡ m
-unfolding chunk
-chunk-else m l h g =
-    either (λ (y : Machine). y ≡ m) (eqb (m .session .phase) TEXT) (λ e. clash (cc))
-    (λ e. either (λ (y : Machine). y ≡ m) (eqb (m .session .phase) BEATS) (λ z. clash (cc)) (λ z. refl))
+  pub chunk-else : (m .session .intake .phase ≡ TEXT → ⊥) → (m .session .intake .phase ≡ BEATS → ⊥) → chunk m l ≡ m
+  unfolding chunk
+  chunk-else h g = let x = m .session .intake in rw (else-bytes x h g l, else-bytes-kept x h (m .text) l)
+
+-- what holds in each phase
+pub byPhase : (P : Type 0) (p : ℕ) → (p ≡ TEXT → P) → (p ≡ BEATS → P) → ((p ≡ TEXT → ⊥) → (p ≡ BEATS → ⊥) → P) → P
+byPhase P p f g h = decide P (eqb p TEXT) (λ e. f (eqb-true p TEXT e)) λ e. decide P (eqb p BEATS) (λ k. g (eqb-true p BEATS k)) (λ k. h (eqb-false p TEXT e) (eqb-false p BEATS k))
 
 -- bytes of a line in two parts are taken as the whole
 pub chunk-append : (m : Machine) (l k : List ℕ) → Held m → chunk m (l ++ k) ≡ chunk (chunk m l) k
 unfolding placeOn
 chunk-append m l k h =
-    decide (chunk m (l ++ k) ≡ chunk (chunk m l) k) (eqb (m .session .phase) TEXT)
-    (λ e. chunk-text m (l ++ k) e ∙ in-text ∙ sym (ap (λ (y : Machine). chunk y k) (chunk-text m l e) ∙ chunk-text (textOn m l) k e)) λ e.
-    decide (chunk m (l ++ k) ≡ chunk (chunk m l) k) (eqb (m .session .phase) BEATS)
-    (λ g. chunk-beats m (l ++ k) g ∙ in-beats ∙ sym (ap (λ (y : Machine). chunk y k) (chunk-beats m l g) ∙ chunk-beats (beatsOn m l) k g))
-    (λ g. chunk-else m (l ++ k) e g ∙ sym (chunk-else m k e g) ∙ sym (ap (λ (y : Machine). chunk y k) (chunk-else m l e g)))
+    let on : Machine → Machine = λ y. chunk y k in
+    byPhase (chunk m (l ++ k) ≡ chunk (chunk m l) k) (m .session .intake .phase)
+    (λ e. chunk-text m (l ++ k) e ∙ in-text ∙ sym (ap on (chunk-text m l e) ∙ chunk-text (textOn m l) k e))
+    (λ e. chunk-beats m (l ++ k) e ∙ in-beats ∙ sym (ap on (chunk-beats m l e) ∙ chunk-beats (beatsOn m l) k e))
+    (λ e g. chunk-else m (l ++ k) e g ∙ sym (chunk-else m k e g) ∙ sym (ap on (chunk-else m l e g)))
   where
     in-text : textOn m (l ++ k) ≡ textOn (textOn m l) k
-    in-text = λ i. record {
-      text = text-append (m .text) (m .session .place .size) l k h i;
-      lines = m .lines;
-      session = withPlace (m .session) (place-append (m .session .place) l k i);
-    }
+    in-text = let x = m .session .intake in λ i. keeping m (text-append (m .text) (x .place .size) l k h i) (withPlace x (place-append (x .place) l k i))
 
     in-beats : beatsOn m (l ++ k) ≡ beatsOn (beatsOn m l) k
-    in-beats = λ i. record { text = m .text; lines = m .lines; session = withHalfLine (m .session) (read-append (m .session .half) l k i) }
+    in-beats = let x = m .session .intake in λ i. keeping m (m .text) (withHalfLine x (read-append (x .half) l k i))
 
 -- ---- the text stays as long as it is
 
 pub chunk-held : (m : Machine) (l : List ℕ) → length (chunk m l .text) ≡ length (m .text)
-unfolding chunk
+unfolding chunk bytesKept
 chunk-held m l =
-    let P : Machine → Type 0 = λ y. length (y .text) ≡ length (m .text) in
-    either P (eqb (m .session .phase) TEXT) (λ e. put-length l (m .text) (m .session .place .size)) λ e.
-    either P (eqb (m .session .phase) BEATS) (λ g. refl) (λ g. refl)
+    let x = m .session .intake in
+    either (λ (y : List ℕ). length y ≡ length (m .text)) (eqb (x .phase) TEXT) (λ e. put-length l (m .text) (x .place .size)) (λ e. refl)
+
+-- what comes in is worked without it
+arrival-text : (m : Machine) (a : Arrival) → arrivalWorked m a .machine .text ≡ m .text
+unfolding arrivalWorked opened beatEnd beatOf
+arrival-text m nothing = refl
+arrival-text m (wholeText n) = byCode (λ (y : Fed). y .machine .text ≡ m .text) (loadAnswer (take n (m .text)) .code) (λ e. refl) (λ c e. refl)
+arrival-text m (beatLine none) = refl
+arrival-text m (beatLine (some l)) =
+    either (λ (y : Fed). y .machine .text ≡ m .text) (eqb (counted (m .session .totals) (answerOf (m .lines) (m .session .totals) l) .beats) maxBeats) (λ e. refl) (λ e. refl)
+
+kept-held : (x : Intake) (t : List ℕ) → length (lineKept x t) ≡ length t
+unfolding lineKept textLineKept
+kept-held x t =
+    let P : List ℕ → Type 0 = λ y. length y ≡ length t in
+    either P (eqb (x .phase) TEXT) (λ e. either P (starEnds (x .place .star)) (λ g. refl) (λ g. length-set t (x .place .size) LF)) (λ e. refl)
 
 pub line-held : (m : Machine) → length (lineEnd m .machine .text) ≡ length (m .text)
-unfolding lineEnd textEnd opened beatEnd beatOf
+unfolding lineEnd
 line-held m =
-    let P : Fed → Type 0 = λ y. length (y .machine .text) ≡ length (m .text) in
-    let p = m .session .place in
-    let r = withoutCR (m .session .half) in
-    either P (eqb (m .session .phase) TEXT)
-    (λ e. either P (eqb (p .star) 1 || eqb (p .star) 2)
-    (λ g. byCode P (loadAnswer (take (p .start) (m .text)) .code) (λ c. refl) (λ n c. refl))
-    (λ g. length-set (m .text) (p .size) LF)) λ e.
-    either P (eqb (m .session .phase) BEATS)
-    (λ g. byLent P (readLent r) (λ c. refl) (λ l c. either P (eqb (counted (m .session .totals) (answerOf (m .lines) (m .session .totals) l) .beats) maxBeats) (λ u. refl) (λ u. refl)))
-    (λ g. refl)
+    let x = m .session .intake in
+    ap length (arrival-text (keeping m (lineKept x (m .text)) (lineOver x .intake)) (lineOver x .arrival)) ∙ kept-held x (m .text)
 
 -- ---- lines
 

@@ -2,7 +2,7 @@
 use mathlib.Core.Path.{_≡_, refl, sym, ap, _∙_}
 use mathlib.Core.Bool.{false}
 use mathlib.Core.List.{List, [], _∷_, _++_, append-assoc, append-nil}
-use mathlib.Core.Logic.{inl, inr}
+use mathlib.Core.Logic.{_⊎_, inl, inr}
 use Prim.Native.Nat.{ℕ, zero, suc, _+_, min, _≤_, _<_}
 use native.Mathlib.Omega.{arith}
 use lib.Dec.{eqb, leb, ltb}
@@ -16,15 +16,19 @@ use Rattle.text.specs.ByteLaws.{run-within}
 use Rattle.text.specs.Lines.{before, split, textLines}
 use Rattle.text.specs.LinesLaws.{line-end, line-on, run-end, run-more, lines-last, split-some}
 use Rattle.transcript.specs.declared.set_text.Place.{Place}
-use Rattle.transcript.specs.Totals.{areFit}
+use Rattle.transcript.specs.declared.session.Session.{Session}
+use Rattle.transcript.specs.Totals.{maxBeats, areFit}
+use Rattle.transcript.specs.TotalsLaws.{FitTotals}
 use Rattle.transcript.specs.Output.{outSize, lineRoom}
 use Rattle.transcript.specs.Synrun.{synrun}
-use Rattle.transcript.specs.Machine.{TEXT, BEATS, Machine, Fed, begun, withPlace, isFit, chunk, lineEnd, behind, fedLines, finished, finishedText, Work, workFrom, worked}
+use Rattle.transcript.specs.Intake.{OVER, withPlace, intakeFits}
+use Rattle.transcript.specs.IntakeLaws.{FitIntake}
+use Rattle.transcript.specs.Machine.{Machine, Fed, begun, isFit, standing, keeping, chunk, lineEnd, behind, fedLines, finished, finishedText, Work, workFrom, worked}
 use Rattle.transcript.specs.SetText.{keptSize, placeOn, starOn}
 use Rattle.transcript.specs.HalfLine.{readOn}
-use Rattle.transcript.specs.SessionRoomLaws.{Fit, fit-parts, fit-whole, Lives, chunk-lives, line-lives}
+use Rattle.transcript.specs.SessionRoomLaws.{fit-parts, fit-whole, Lives, fit-lives, chunk-lives, line-lives}
 use Rattle.transcript.specs.BeatTakenLaws.{taken-some}
-use Rattle.sessions.specs.MachineLaws.{Held, chunk-text, chunk-beats, chunk-else, fed-line, fed-held, pieces}
+use Rattle.sessions.specs.MachineLaws.{Held, chunk-text, chunk-beats, chunk-else, byPhase, fed-line, fed-held, pieces}
 use Rattle.sessions.specs.SessionLaws.{prints, over-fed, over-finished, starting, session-prints}
 
 -- ---- no bytes of a line change nothing
@@ -35,21 +39,17 @@ same-place p h =
     let e : min keptSize (p .size + 0) ≡ p .size = omega arith in
     λ i. record { size = e i; start = p .start; star = p .star }
 
-fit-chunk : (m : Machine) → Fit (m .session) → chunk m [] ≡ m
+fit-chunk : (m : Machine) → FitIntake (m .session .intake) → chunk m [] ≡ m
 unfolding readOn
 fit-chunk m f =
-    let x = m .session in
-    decide (chunk m [] ≡ m) (eqb (x .phase) TEXT)
-    (λ e. chunk-text m [] e ∙ placed (same-place (x .place) (f .size))) λ e.
-    decide (chunk m [] ≡ m) (eqb (x .phase) BEATS) (λ g. chunk-beats m [] g) (λ g. chunk-else m [] e g)
-  where
-    placed : placeOn (m .session .place) [] ≡ m .session .place → record { text = m .text; lines = m .lines; session = withPlace (m .session) (placeOn (m .session .place) []) } ≡ m
-    placed q = λ i. record { text = m .text; lines = m .lines; session = withPlace (m .session) (q i) }
+    byPhase (chunk m [] ≡ m) (m .session .intake .phase)
+    (λ e. chunk-text m [] e ∙ ap (λ (p : Place). keeping m (m .text) (withPlace (m .session .intake) p)) (same-place (m .session .intake .place) (f .size)))
+    (chunk-beats m [])
+    (chunk-else m [])
 
-pub nothing-fed : (m : Machine) → Lives (m .session) → fedLines m (textLines []) ≡ record { machine = m; output = [] }
+pub nothing-fed : (m : Machine) → Lives (m .session) → fedLines m (textLines []) ≡ standing m
 unfolding split fedLines
-nothing-fed m (inl f) = λ i. record { machine = fit-chunk m f i; output = [] }
-nothing-fed m (inr o) = over-fed ([] ∷ []) m (o .0)
+nothing-fed m v = ap standing (fit-chunk m (v .intake))
 
 -- ---- the first line of some input
 
@@ -64,6 +64,14 @@ first-line (b ∷ bs) u h =
     rw (r, a) (line-on b (take (run inLine bs + 1) bs ++ u) e ∙ ap (before b) (first-line bs u (omega arith))))
 
 -- ---- a piece of input
+
+-- one that lives and is not fit is over
+unfit-over : {x : Session} → Lives x → isFit x ≡ false → x .intake .phase ≡ OVER
+unfit-over {x} v e = go (v .totals)
+  where
+    go : FitTotals (x .totals) ⊎ ((x .intake .phase ≡ OVER) × (x .totals .beats ≡ maxBeats)) → x .intake .phase ≡ OVER
+    go (inl f) = let q = fit-whole x (record { intake = v .intake; totals = f }) in clash (cc)
+    go (inr o) = o .0
 
 -- what was taken of t comes to this: the machine and the output of feeding it, behind k bytes taken and o printed
 pub record Works (m : Machine) (t : List ℕ) (k : ℕ) (o : List ℕ) (w : Work) : Type 0 where
@@ -139,11 +147,10 @@ work-feeds (suc n) m t k o h =
 -- a piece, and a session that is over
 worked-works : (m : Machine) (t : List ℕ) → Lives (m .session) → Works m t 0 [] (worked m t)
 unfolding worked
-worked-works m t h = either (Works m t 0 []) (isFit (m .session)) (λ e. work-feeds (length t + 1) m t 0 [] h) (λ e. passed-over e h)
+worked-works m t h = either (Works m t 0 []) (isFit (m .session)) (λ e. work-feeds (length t + 1) m t 0 [] h) passed-over
   where
-    passed-over : isFit (m .session) ≡ false → Lives (m .session) → Works m t 0 [] (record { machine = m; taken = length t; output = [] })
-    passed-over e (inl f) = let q = fit-whole (m .session) f in clash (cc)
-    passed-over e (inr o) = record { part = length t; taken = omega arith; within = omega arith; feeds = over-fed (textLines (take (length t) t)) m (o .0); lives = inr o }
+    passed-over : isFit (m .session) ≡ false → Works m t 0 [] (record { machine = m; taken = length t; output = [] })
+    passed-over e = record { part = length t; taken = omega arith; within = omega arith; feeds = over-fed (textLines (take (length t) t)) m (unfit-over h e); lives = h }
 
 -- what is taken of a piece is fed, line by line
 pub worked-feeds : (m : Machine) (t : List ℕ) → Lives (m .session) →
@@ -180,11 +187,7 @@ prints-append m a b h =
 -- the end of input
 finish-same : (m : Machine) → Lives (m .session) → finishedText m ≡ finished m
 unfolding finishedText
-finish-same m h = either (λ (y : List ℕ). y ≡ finished m) (isFit (m .session)) (λ e. refl) (λ e. sym (none-left e h))
-  where
-    none-left : isFit (m .session) ≡ false → Lives (m .session) → finished m ≡ []
-    none-left e (inl f) = let q = fit-whole (m .session) f in clash (cc)
-    none-left e (inr o) = over-finished m (o .0)
+finish-same m h = either (λ (y : List ℕ). y ≡ finished m) (isFit (m .session)) (λ e. refl) (λ e. sym (over-finished m (unfit-over h e)))
 
 finish-prints : (m : Machine) → Lives (m .session) → finishedText m ≡ prints m (textLines [])
 unfolding prints
@@ -213,8 +216,8 @@ handed-prints m ps o (works x p rest u w) h t =
 
 -- a session at the beginning is fit
 begun-lives : Lives begun
-unfolding isFit areFit
-begun-lives = inl (fit-parts begun refl)
+unfolding isFit intakeFits areFit
+begun-lives = fit-lives (fit-parts begun refl)
 
 -- THE PROMISE: whatever the pieces, and whatever the text and the set held before, the bytes handed over are those of the definition for the whole input
 pub whatever-pieces : (text set : List ℕ) (ps : List (List ℕ)) (o : List ℕ) → length text ≡ keptSize → Handed (starting text set) ps o → o ≡ synrun (joined ps)

@@ -1,14 +1,14 @@
 -- What a session prints, line by line, is what the definition says. Assumes nothing.
 use mathlib.Core.Path.{_≡_, refl, sym, ap, _∙_}
-use mathlib.Core.Bool.{Bool, true, false, _&&_, _||_, and-false}
+use mathlib.Core.Bool.{Bool, true, false, cond, _&&_, and-false}
 use mathlib.Core.List.{List, [], _∷_, _++_, append-assoc, append-nil}
-use mathlib.Core.Option.{none, some}
+use mathlib.Core.Option.{Option, none, some}
 use Prim.Native.Nat.{ℕ, zero, suc, _+_, min, _≤_, _<_}
 use native.Mathlib.Omega.{arith}
 use lib.Dec.{eqb, leb, ltb}
 use lib.ListN.{length, take, set, length-append, length-set, length-take}
 use lib.Seq.{take-all, take-append-le, take-suc-set, take-set-le, append-snoc}
-use borrow.Author.Tests.{leb-true, leb-false, eqb-true, lt-ltb}
+use borrow.Author.Tests.{leb-true, leb-false, eqb-true, ne-eqb, lt-ltb}
 use Rattle.values.specs.Codes.{tooLong}
 use Rattle.values.specs.Choice.{decide, either}
 use Rattle.values.specs.Numbers.{clash}
@@ -25,13 +25,16 @@ use Rattle.transcript.specs.declared.beat_line.HalfLine.{HalfLine}
 use Rattle.transcript.specs.Input.{Input, isStar, beatLines, lineBefore, cut, inputOf}
 use Rattle.transcript.specs.BeatLine.{Lent, lineLent}
 use Rattle.transcript.specs.Output.{loadLine, errorLine}
+use Rattle.transcript.specs.declared.session.Session.{Session}
 use Rattle.transcript.specs.declared.totals.Totals.{Totals}
 use Rattle.transcript.specs.Totals.{maxBeats, noTotals, ended}
 use Rattle.transcript.specs.Tally.{counted, answerOf, beatText}
 use Rattle.transcript.specs.Synrun.{beatsText, loadedText, synrun}
 use Rattle.transcript.specs.HalfLine.{noHalfLine, readOn, withoutCR, isUntouched, readLent}
-use Rattle.transcript.specs.Machine.{TEXT, BEATS, OVER, Machine, Fed, begun, withPhase, withTotals, opened, textEnd, beatOf, beatEnd, chunk, lineEnd, fedLines, textOver, lastOver, finished}
-use Rattle.transcript.specs.SetText.{keptSize, starAfter, starOn, placeOn, placeEnd}
+use Rattle.transcript.specs.Intake.{TEXT, BEATS, OVER, bytesTaken, bytesKept, lineOver, lineKept, inputOver}
+use Rattle.transcript.specs.IntakeLaws.{beats-input, star-line, star-line-kept, plain-line, plain-line-kept, over-input}
+use Rattle.transcript.specs.Machine.{Machine, Fed, begun, withTotals, stopped, standing, opened, beatOf, beatEnd, arrivalWorked, chunk, lineEnd, fedLines, endAfter, lastOutput, finished}
+use Rattle.transcript.specs.SetText.{keptSize, starAfter, starOn, starEnds, placeOn, placeEnd, lastSize}
 use Rattle.transcript.specs.SessionRoomLaws.{byCode, byLent, over-chunk, over-line}
 use Rattle.sessions.specs.HalfLineLaws.{byOption, lent-last, lent-ended, untouched}
 use Rattle.sessions.specs.MachineLaws.{text-append}
@@ -58,24 +61,25 @@ prints-line m l k ls =
 
 -- ---- over
 
-pub over-finished : (m : Machine) → m .session .phase ≡ OVER → finished m ≡ []
-unfolding finished
-over-finished m o =
-    let P : List ℕ → Type 0 = λ y. y ≡ [] in
-    either P (eqb (m .session .phase) TEXT) (λ e. absurd (omega (arith, eqb-true (m .session .phase) TEXT e))) λ e.
-    either P (eqb (m .session .phase) BEATS) (λ g. absurd (omega (arith, eqb-true (m .session .phase) BEATS g))) (λ g. refl)
+end-over : (x : Session) → x .intake .phase ≡ OVER → endAfter x ≡ []
+unfolding endAfter
+end-over x o = simp (endAfter, ne-eqb (x .intake .phase) BEATS (λ g. omega arith))
 
-pub over-fed : (ls : List (List ℕ)) (m : Machine) → m .session .phase ≡ OVER → fedLines m ls ≡ record { machine = m; output = [] }
+pub over-finished : (m : Machine) → m .session .intake .phase ≡ OVER → finished m ≡ []
+unfolding finished arrivalWorked
+over-finished m o = rw (over-input (m .session .intake) o) (end-over (m .session) o)
+
+pub over-fed : (ls : List (List ℕ)) (m : Machine) → m .session .intake .phase ≡ OVER → fedLines m ls ≡ standing m
 unfolding fedLines
 over-fed [] m o = refl
 over-fed (l ∷ []) m o = rw (over-chunk m l o)
 over-fed (l ∷ k ∷ ls) m o = rw (over-chunk m l o, over-line m o) (over-fed (k ∷ ls) m o)
 
-pub over-prints : (ls : List (List ℕ)) (m : Machine) → m .session .phase ≡ OVER → prints m ls ≡ []
+pub over-prints : (ls : List (List ℕ)) (m : Machine) → m .session .intake .phase ≡ OVER → prints m ls ≡ []
 unfolding prints
 over-prints ls m o = rw (over-fed ls m o) (over-finished m o)
 
-over-onward : (m : Machine) (o : List ℕ) (ls : List (List ℕ)) → m .session .phase ≡ OVER → onward (record { machine = m; output = o }) ls ≡ o
+over-onward : (m : Machine) (o : List ℕ) (ls : List (List ℕ)) → m .session .intake .phase ≡ OVER → onward (record { machine = m; output = o }) ls ≡ o
 over-onward m o ls h = ap (λ (y : List ℕ). o ++ y) (over-prints ls m h) ∙ append-nil o
 
 -- ---- beats
@@ -105,87 +109,89 @@ abbrev beating : List ℕ → List ℕ → Place → Totals → HalfLine → Mac
 beating t s p n r = record {
   text = t;
   lines = s;
-  session = record { phase = BEATS; place = p; half = r; totals = n };
+  session = record { intake = record { phase = BEATS; place = p; half = r }; totals = n };
 }
 
-module _ (m : Machine) where
+module _ (t s : List ℕ) (p : Place) (n : Totals) where
+  -- before the first byte of a line
+  abbrev awaiting : Machine
+  awaiting = beating t s p n noHalfLine
+
   -- an ill-formed line
   abbrev illEnded : Fed
-  illEnded = record { machine = record { text = m .text; lines = m .lines; session = withPhase (m .session) OVER }; output = errorLine (m .session .totals .beats + 1) }
+  illEnded = record { machine = record { text = t; lines = s; session = stopped (awaiting .session) }; output = errorLine (n .beats + 1) }
 
-  end-none : (r : HalfLine) → readLent r ≡ none → beatEnd m r ≡ illEnded
+  end-none : beatEnd awaiting none ≡ illEnded
   unfolding beatEnd
-  end-none r h = byLent (λ (y : Fed). y ≡ illEnded) (readLent r) (λ e. refl) (λ x e. clash (cc))
+  end-none = refl
 
-  end-some : (r : HalfLine) (x : Lent) → readLent r ≡ some x → beatEnd m r ≡ beatOf m x
-  unfolding beatEnd
-  end-some r x h = byLent (λ (y : Fed). y ≡ beatOf m x) (readLent r) (λ e. clash (cc)) (λ z e. let q : z ≡ x = cc in rw q)
+  module _ (x : Lent) where
+    abbrev next : Totals
+    next = counted n (answerOf s n x)
 
-module _ (t s : List ℕ) (p : Place) (n : Totals) (r : HalfLine) (x : Lent) where
-  abbrev next : Totals
-  next = counted n (answerOf s n x)
+    -- the last beat, and any other
+    abbrev lastBeat : Fed
+    lastBeat = record { machine = record { text = t; lines = s; session = stopped (withTotals (awaiting .session) next) }; output = beatText s n x ++ ended next }
 
-  -- the last beat, and any other
-  abbrev lastBeat : Fed
-  lastBeat = record { machine = record { text = t; lines = s; session = withPhase (withTotals (beating t s p n r .session) next) OVER }; output = beatText s n x ++ ended next }
+    abbrev oneBeat : Fed
+    oneBeat = record { machine = beating t s p next noHalfLine; output = beatText s n x }
 
-  abbrev oneBeat : Fed
-  oneBeat = record { machine = beating t s p next noHalfLine; output = beatText s n x }
+    beat-last : eqb (next .beats) maxBeats ≡ true → beatEnd awaiting (some x) ≡ lastBeat
+    unfolding beatEnd beatOf
+    beat-last h = either (λ (y : Fed). y ≡ lastBeat) (eqb (next .beats) maxBeats) (λ e. refl) (λ e. clash (cc))
 
-  beat-last : eqb (next .beats) maxBeats ≡ true → beatOf (beating t s p n r) x ≡ lastBeat
-  unfolding beatOf
-  beat-last h = either (λ (y : Fed). y ≡ lastBeat) (eqb (next .beats) maxBeats) (λ e. refl) (λ e. clash (cc))
+    beat-more : eqb (next .beats) maxBeats ≡ false → beatEnd awaiting (some x) ≡ oneBeat
+    unfolding beatEnd beatOf
+    beat-more h = either (λ (y : Fed). y ≡ oneBeat) (eqb (next .beats) maxBeats) (λ e. clash (cc)) (λ e. refl)
 
-  beat-more : eqb (next .beats) maxBeats ≡ false → beatOf (beating t s p n r) x ≡ oneBeat
-  unfolding beatOf
-  beat-more h = either (λ (y : Fed). y ≡ oneBeat) (eqb (next .beats) maxBeats) (λ e. clash (cc)) (λ e. refl)
+  -- a line with its LF, and a last line without
+  line-read : (l : List ℕ) → lineEnd (chunk awaiting l) ≡ beatEnd awaiting (readLent (withoutCR (readOn noHalfLine l)))
+  unfolding chunk bytesTaken bytesKept lineEnd lineOver lineKept arrivalWorked
+  line-read l = refl
+
+  nothing-read : finished (chunk awaiting []) ≡ beatsText s n []
+  unfolding finished chunk bytesTaken bytesKept inputOver arrivalWorked endAfter readOn isUntouched beatsText
+  nothing-read = refl
+
+  something-read : (b : ℕ) (bs : List ℕ) → finished (chunk awaiting (b ∷ bs)) ≡ lastOutput (beatEnd awaiting (readLent (readOn noHalfLine (b ∷ bs))))
+  unfolding finished chunk bytesTaken bytesKept arrivalWorked
+  something-read b bs = rw (beats-input (record { phase = BEATS; place = p; half = readOn noHalfLine (b ∷ bs) }) refl read)
+    where
+      read : isUntouched (readOn noHalfLine (b ∷ bs)) ≡ false
+      read = decide (isUntouched (readOn noHalfLine (b ∷ bs)) ≡ false) (isUntouched (readOn noHalfLine (b ∷ bs))) (λ e. let z = untouched (b ∷ bs) .0 e in clash (cc)) (λ e. e)
+
+  -- the last line, without an LF
+  last-beat : (l : List ℕ) → eqb (n .beats) maxBeats ≡ false → lastOutput (beatEnd awaiting (lineLent l)) ≡ beatsText s n (l ∷ [])
+  unfolding endAfter beatsText
+  last-beat l h =
+      let on : Option Lent → List ℕ = λ o. lastOutput (beatEnd awaiting o) in
+      byOption (on (lineLent l) ≡ beatsText s n (l ∷ [])) (lineLent l)
+      (λ e. ap on e ∙ ap lastOutput end-none ∙ append-nil (errorLine (n .beats + 1)) ∙ sym (beats-none s n l [] h e))
+      (λ x e. decide (on (lineLent l) ≡ beatsText s n (l ∷ [])) (eqb (next x .beats) maxBeats)
+      (λ g. ap on e ∙ ap lastOutput (beat-last x g) ∙ append-nil (beatText s n x ++ ended (next x)) ∙ sym (beats-some s n l [] x h e))
+      (λ g. ap on e ∙ ap lastOutput (beat-more x g) ∙ sym (beats-some s n l [] x h e)))
 
 module _ (t s : List ℕ) (p : Place) where
-  -- the last line, without an LF
-  last-beat : (n : Totals) (l : List ℕ) → eqb (n .beats) maxBeats ≡ false →
-      let m = beating t s p n (readOn noHalfLine l) in lastOver m (beatEnd m (readOn noHalfLine l)) ≡ beatsText s n (l ∷ [])
-  unfolding lastOver beatsText
-  last-beat n l h =
-      let r = readOn noHalfLine l in
-      let m = beating t s p n r in
-      let q = lent-last l in
-      byOption (lastOver m (beatEnd m r) ≡ beatsText s n (l ∷ [])) (lineLent l)
-      (λ e. ap (lastOver m) (end-none m r (q ∙ e)) ∙ sym (beats-none s n l [] h e))
-      (λ x e. decide (lastOver m (beatEnd m r) ≡ beatsText s n (l ∷ [])) (eqb (next t s p n r x .beats) maxBeats)
-      (λ g. ap (lastOver m) (end-some m r x (q ∙ e) ∙ beat-last t s p n r x g) ∙ sym (beats-some s n l [] x h e))
-      (λ g. ap (lastOver m) (end-some m r x (q ∙ e) ∙ beat-more t s p n r x g) ∙ sym (beats-some s n l [] x h e)))
-
-  nothing-read : (n : Totals) → finished (chunk (beating t s p n noHalfLine) []) ≡ beatsText s n []
-  unfolding finished chunk readOn isUntouched beatsText
-  nothing-read n = refl
-
-  something-read : (n : Totals) (b : ℕ) (bs : List ℕ) →
-      let m = beating t s p n (readOn noHalfLine (b ∷ bs)) in finished (chunk (beating t s p n noHalfLine) (b ∷ bs)) ≡ lastOver m (beatEnd m (readOn noHalfLine (b ∷ bs)))
-  unfolding finished chunk
-  something-read n b bs =
-      let r = readOn noHalfLine (b ∷ bs) in
-      let m = beating t s p n r in
-      either (λ (y : List ℕ). y ≡ lastOver m (beatEnd m r)) (isUntouched r) (λ e. let z = untouched (b ∷ bs) .0 e in clash (cc)) (λ e. refl)
-
-  beats-print : (ls : List (List ℕ)) (n : Totals) → (ls ≡ [] → ⊥) → eqb (n .beats) maxBeats ≡ false → prints (beating t s p n noHalfLine) ls ≡ beatsText s n (beatLines ls)
-  unfolding beatLines lineEnd chunk finished
+  beats-print : (ls : List (List ℕ)) (n : Totals) → (ls ≡ [] → ⊥) → eqb (n .beats) maxBeats ≡ false → prints (awaiting t s p n) ls ≡ beatsText s n (beatLines ls)
+  unfolding beatLines
   beats-print [] n g h = absurd (g refl)
-  beats-print ([] ∷ []) n g h = prints-last (beating t s p n noHalfLine) [] ∙ nothing-read n
-  beats-print ((b ∷ bs) ∷ []) n g h = prints-last (beating t s p n noHalfLine) (b ∷ bs) ∙ something-read n b bs ∙ last-beat n (b ∷ bs) h
+  beats-print ([] ∷ []) n g h = prints-last (awaiting t s p n) [] ∙ nothing-read t s p n
+  beats-print ((b ∷ bs) ∷ []) n g h =
+      prints-last (awaiting t s p n) (b ∷ bs) ∙ something-read t s p n b bs
+      ∙ ap (λ (o : Option Lent). lastOutput (beatEnd (awaiting t s p n) o)) (lent-last (b ∷ bs)) ∙ last-beat t s p n (b ∷ bs) h
   beats-print (l ∷ k ∷ ls) n g h =
-      let r = withoutCR (readOn noHalfLine l) in
-      let m = beating t s p n (readOn noHalfLine l) in
       let c = withoutReturn l in
-      let q = lent-ended l in
-      let on : Fed → List ℕ = λ f. onward f (k ∷ ls) in
-      prints-line (beating t s p n noHalfLine) l k ls
-      ∙ byOption (on (beatEnd m r) ≡ beatsText s n (c ∷ beatLines (k ∷ ls))) (lineLent c)
-      (λ e. ap on (end-none m r (q ∙ e)) ∙ over-onward _ (errorLine (n .beats + 1)) (k ∷ ls) refl ∙ sym (beats-none s n c (beatLines (k ∷ ls)) h e))
-      (λ x e. decide (on (beatEnd m r) ≡ beatsText s n (c ∷ beatLines (k ∷ ls))) (eqb (next t s p n r x .beats) maxBeats)
-      (λ z. ap on (end-some m r x (q ∙ e) ∙ beat-last t s p n (readOn noHalfLine l) x z) ∙ over-onward _ (beatText s n x ++ ended (next t s p n r x)) (k ∷ ls) refl
-      ∙ ap (λ (y : List ℕ). beatText s n x ++ y) (sym (beats-over s (next t s p n r x) (beatLines (k ∷ ls)) z)) ∙ sym (beats-some s n c (beatLines (k ∷ ls)) x h e))
-      (λ z. ap on (end-some m r x (q ∙ e) ∙ beat-more t s p n (readOn noHalfLine l) x z) ∙ ap (λ (y : List ℕ). beatText s n x ++ y) (beats-print (k ∷ ls) (next t s p n r x) (λ u. clash (cc)) z)
-      ∙ sym (beats-some s n c (beatLines (k ∷ ls)) x h e)))
+      let rest = beatLines (k ∷ ls) in
+      let to : Fed → List ℕ = λ f. onward f (k ∷ ls) in
+      let on : Option Lent → List ℕ = λ o. to (beatEnd (awaiting t s p n) o) in
+      prints-line (awaiting t s p n) l k ls ∙ ap to (line-read t s p n l) ∙ ap on (lent-ended l)
+      ∙ byOption (on (lineLent c) ≡ beatsText s n (c ∷ rest)) (lineLent c)
+      (λ e. ap on e ∙ ap to (end-none t s p n) ∙ over-onward _ (errorLine (n .beats + 1)) (k ∷ ls) refl ∙ sym (beats-none s n c rest h e))
+      (λ x e. decide (on (lineLent c) ≡ beatsText s n (c ∷ rest)) (eqb (next t s p n x .beats) maxBeats)
+      (λ z. ap on e ∙ ap to (beat-last t s p n x z) ∙ over-onward _ (beatText s n x ++ ended (next t s p n x)) (k ∷ ls) refl
+      ∙ ap (λ (y : List ℕ). beatText s n x ++ y) (sym (beats-over s (next t s p n x) rest z)) ∙ sym (beats-some s n c rest x h e))
+      (λ z. ap on e ∙ ap to (beat-more t s p n x z) ∙ ap (λ (y : List ℕ). beatText s n x ++ y) (beats-print (k ∷ ls) (next t s p n x) (λ u. clash (cc)) z)
+      ∙ sym (beats-some s n c rest x h e)))
 
 -- ---- set text: what is kept of it
 
@@ -277,31 +283,28 @@ star-last (b ∷ []) =
 star-last (b ∷ c ∷ cs) = star-two b c cs ∙ sym (and-false (eqb b 42))
 
 -- and before its LF, where a CR may stand behind it
-abbrev isEnded : ℕ → Bool
-isEnded x = eqb x 1 || eqb x 2
-
-star-three : (b c d : ℕ) (ds : List ℕ) → isEnded (starOn (starAfter (starAfter (starAfter 0 b) c) d) ds) ≡ false
+star-three : (b c d : ℕ) (ds : List ℕ) → starEnds (starOn (starAfter (starAfter (starAfter 0 b) c) d) ds) ≡ false
 star-three b c d ds =
-    let P : ℕ → Type 0 = λ y. isEnded (starOn (starAfter (starAfter y c) d) ds) ≡ false in
-    let Q : ℕ → Type 0 = λ y. isEnded (starOn (starAfter y d) ds) ≡ false in
+    let P : ℕ → Type 0 = λ y. starEnds (starOn (starAfter (starAfter y c) d) ds) ≡ false in
+    let Q : ℕ → Type 0 = λ y. starEnds (starOn (starAfter y d) ds) ≡ false in
     rw (star-byte b)
     (either P (eqb b 42) (λ e. rw (star-second c) (either Q (eqb c CR) (λ g. rw (third d, else-star ds)) (λ g. rw (else-second d, else-star ds))))
     (λ e. rw (else-second c, else-second d, else-star ds)))
 
-star-ended : (l : List ℕ) → isEnded (starOn 0 l) ≡ isStar (withoutReturn l)
+star-ended : (l : List ℕ) → starEnds (starOn 0 l) ≡ isStar (withoutReturn l)
 unfolding starOn withoutReturn
 star-ended [] = refl
 star-ended (b ∷ []) =
-    let Q : ℕ → Type 0 = λ y. isEnded y ≡ (eqb b 42 && true) in
-    either (λ (y : List ℕ). isEnded (starAfter 0 b) ≡ isStar y) (eqb b CR)
+    let Q : ℕ → Type 0 = λ y. starEnds y ≡ (eqb b 42 && true) in
+    either (λ (y : List ℕ). starEnds (starAfter 0 b) ≡ isStar y) (eqb b CR)
     (λ e. let q = eqb-true b CR e in rw (q, star-byte 13))
     (λ e. rw (star-byte b) (either Q (eqb b 42) (λ g. rw g) (λ g. rw g)))
 star-ended (b ∷ c ∷ []) =
-    either (λ (y : List ℕ). isEnded (starAfter (starAfter 0 b) c) ≡ isStar (b ∷ y)) (eqb c CR)
-    (λ e. let q = eqb-true c CR e in rw (q, star-byte b) (either (λ (y : ℕ). isEnded (starAfter y 13) ≡ (eqb b 42 && true)) (eqb b 42) (λ g. rw (g, star-second 13)) (λ g. rw (g, else-second 13))))
+    either (λ (y : List ℕ). starEnds (starAfter (starAfter 0 b) c) ≡ isStar (b ∷ y)) (eqb c CR)
+    (λ e. let q = eqb-true c CR e in rw (q, star-byte b) (either (λ (y : ℕ). starEnds (starAfter y 13) ≡ (eqb b 42 && true)) (eqb b 42) (λ g. rw (g, star-second 13)) (λ g. rw (g, else-second 13))))
     (λ e. rw (and-false (eqb b 42), star-byte b)
-    (either (λ (y : ℕ). isEnded (starAfter y c) ≡ false) (eqb b 42)
-    (λ g. rw (star-second c) (either (λ (y : ℕ). isEnded y ≡ false) (eqb c CR) (λ u. clash (cc)) (λ u. refl)))
+    (either (λ (y : ℕ). starEnds (starAfter y c) ≡ false) (eqb b 42)
+    (λ g. rw (star-second c) (either (λ (y : ℕ). starEnds y ≡ false) (eqb c CR) (λ u. clash (cc)) (λ u. refl)))
     (λ g. rw (else-second c))))
 star-ended (b ∷ c ∷ d ∷ ds) = star-three b c d ds ∙ sym (and-false (eqb b 42))
 
@@ -350,7 +353,7 @@ abbrev texting : List ℕ → List ℕ → Place → Machine
 texting t s p = record {
   text = t;
   lines = s;
-  session = record { phase = TEXT; place = p; half = noHalfLine; totals = noTotals };
+  session = record { intake = record { phase = TEXT; place = p; half = noHalfLine }; totals = noTotals };
 }
 
 -- the text before what is left of the input
@@ -358,26 +361,30 @@ abbrev withText : List ℕ → Input → Input
 withText d i = record { text = d ++ i .text; beats = i .beats }
 
 module _ (t s : List ℕ) (p : Place) where
+  -- the text is whole: beat lines are awaited
+  abbrev whole : Machine
+  whole = awaiting t s p noTotals
+
   -- a text that is taken, and one that is not
   abbrev takenText : List ℕ → Fed
-  takenText x = record { machine = beating t (loadSet x) p noTotals noHalfLine; output = [] }
+  takenText x = record { machine = awaiting t (loadSet x) p noTotals; output = [] }
 
   abbrev refusedText : List ℕ → ℕ → Fed
-  refusedText x c = record { machine = record { text = t; lines = loadSet x; session = withPhase (texting t s p .session) OVER }; output = loadLine (suc c) (loadAnswer x .line) }
+  refusedText x c = record { machine = record { text = t; lines = loadSet x; session = stopped (whole .session) }; output = loadLine (suc c) (loadAnswer x .line) }
 
-  opened-zero : (x : List ℕ) → loadAnswer x .code ≡ 0 → opened (texting t s p) x ≡ takenText x
+  opened-zero : (x : List ℕ) → loadAnswer x .code ≡ 0 → opened whole x ≡ takenText x
   unfolding opened
   opened-zero x h = byCode (λ (y : Fed). y ≡ takenText x) (loadAnswer x .code) (λ e. refl) (λ c e. absurd (omega arith))
 
-  opened-suc : (x : List ℕ) (c : ℕ) → loadAnswer x .code ≡ suc c → opened (texting t s p) x ≡ refusedText x c
+  opened-suc : (x : List ℕ) (c : ℕ) → loadAnswer x .code ≡ suc c → opened whole x ≡ refusedText x c
   unfolding opened
   opened-suc x c h = byCode (λ (y : Fed). y ≡ refusedText x c) (loadAnswer x .code) (λ e. absurd (omega arith)) (λ d e. let q : suc d ≡ suc c = sym e ∙ h in rw q)
 
   -- the text x is whole, and lines follow
-  opened-prints : (x k : List ℕ) (ls : List (List ℕ)) → onward (opened (texting t s p) x) (k ∷ ls) ≡ loadedText (record { text = x; beats = beatLines (k ∷ ls) })
+  opened-prints : (x k : List ℕ) (ls : List (List ℕ)) → onward (opened whole x) (k ∷ ls) ≡ loadedText (record { text = x; beats = beatLines (k ∷ ls) })
   opened-prints x k ls = by-code (loadAnswer x .code) refl
     where
-      by-code : (c : ℕ) → loadAnswer x .code ≡ c → onward (opened (texting t s p) x) (k ∷ ls) ≡ loadedText (record { text = x; beats = beatLines (k ∷ ls) })
+      by-code : (c : ℕ) → loadAnswer x .code ≡ c → onward (opened whole x) (k ∷ ls) ≡ loadedText (record { text = x; beats = beatLines (k ∷ ls) })
       by-code zero e =
           ap (λ (f : Fed). onward f (k ∷ ls)) (opened-zero x e) ∙ beats-print t (loadSet x) p (k ∷ ls) noTotals (λ z. clash (cc)) refl
           ∙ sym (loaded-zero (record { text = x; beats = beatLines (k ∷ ls) }) e)
@@ -386,33 +393,37 @@ module _ (t s : List ℕ) (p : Place) where
           ∙ sym (loaded-suc (record { text = x; beats = beatLines (k ∷ ls) }) c e)
 
   -- and none does
-  over-prints-text : (x : List ℕ) → textOver (texting t s p) x ≡ loadedText (record { text = x; beats = [] })
-  unfolding textOver loadedText beatsText
-  over-prints-text x = refl
+  opened-last : (x : List ℕ) → lastOutput (opened whole x) ≡ loadedText (record { text = x; beats = [] })
+  unfolding endAfter beatsText
+  opened-last x = by-code (loadAnswer x .code) refl
+    where
+      by-code : (c : ℕ) → loadAnswer x .code ≡ c → lastOutput (opened whole x) ≡ loadedText (record { text = x; beats = [] })
+      by-code zero e = ap lastOutput (opened-zero x e) ∙ sym (loaded-zero (record { text = x; beats = [] }) e)
+      by-code (suc c) e = ap lastOutput (opened-suc x c e) ∙ append-nil (loadLine (suc c) (loadAnswer x .line)) ∙ sym (loaded-suc (record { text = x; beats = [] }) c e)
 
   -- the input is over: the text is whole, the line * left off
+  input-ends : finished (texting t s p) ≡ loadedText (record { text = take (lastSize p) t; beats = [] })
+  unfolding finished inputOver arrivalWorked
+  input-ends = opened-last (take (lastSize p) t)
+
   finished-star : eqb (p .star) 1 ≡ true → finished (texting t s p) ≡ loadedText (record { text = take (p .start) t; beats = [] })
-  unfolding finished
-  finished-star h =
-      ap (textOver (texting t s p)) (either (λ (y : List ℕ). y ≡ take (p .start) t) (eqb (p .star) 1) (λ e. refl) (λ e. clash (cc))) ∙ over-prints-text (take (p .start) t)
+  finished-star h = input-ends ∙ ap (λ (b : Bool). loadedText (record { text = take (cond b (p .start) (p .size)) t; beats = [] })) h
 
   finished-text : eqb (p .star) 1 ≡ false → finished (texting t s p) ≡ loadedText (record { text = take (p .size) t; beats = [] })
-  unfolding finished
-  finished-text h =
-      ap (textOver (texting t s p)) (either (λ (y : List ℕ). y ≡ take (p .size) t) (eqb (p .star) 1) (λ e. clash (cc)) (λ e. refl)) ∙ over-prints-text (take (p .size) t)
+  finished-text h = input-ends ∙ ap (λ (b : Bool). loadedText (record { text = take (cond b (p .start) (p .size)) t; beats = [] })) h
 
   -- the line * is over
-  ended-star : isEnded (p .star) ≡ true → lineEnd (texting t s p) ≡ opened (texting t s p) (take (p .start) t)
-  unfolding lineEnd textEnd
-  ended-star h = either (λ (y : Fed). y ≡ opened (texting t s p) (take (p .start) t)) (isEnded (p .star)) (λ e. refl) (λ e. clash (cc))
+  ended-star : starEnds (p .star) ≡ true → lineEnd (texting t s p) ≡ opened whole (take (p .start) t)
+  unfolding lineEnd lineOver lineKept arrivalWorked
+  ended-star h = let x = texting t s p .session .intake in rw (star-line x h, star-line-kept x h t)
 
   -- any other line is
-  ended-text : isEnded (p .star) ≡ false → lineEnd (texting t s p) ≡ record { machine = texting (set t (p .size) LF) s (placeEnd p); output = [] }
-  unfolding lineEnd textEnd
-  ended-text h = either (λ (y : Fed). y ≡ record { machine = texting (set t (p .size) LF) s (placeEnd p); output = [] }) (isEnded (p .star)) (λ e. clash (cc)) (λ e. refl)
+  ended-text : starEnds (p .star) ≡ false → lineEnd (texting t s p) ≡ standing (texting (set t (p .size) LF) s (placeEnd p))
+  unfolding lineEnd lineOver lineKept arrivalWorked
+  ended-text h = let x = texting t s p .session .intake in rw (plain-line x h, plain-line-kept x h t)
 
 chunk-texting : (t s : List ℕ) (p : Place) (l : List ℕ) → chunk (texting t s p) l ≡ texting (putAt t (p .size) l) s (placeOn p l)
-unfolding chunk
+unfolding chunk bytesTaken bytesKept
 chunk-texting t s p l = refl
 
 -- the input cut at the line *
@@ -465,9 +476,9 @@ module _ (t s d l : List ℕ) (n : length t ≡ keptSize) (k : Begins keptSize t
       (λ e. ap finished (chunk-texting t s (atLine size) l) ∙ finished-text (putAt t size l) s p (st ∙ e) ∙ text-after ∙ ap (λ (y : Input). loadedText (withText d y)) (sym (cut-last l e)))
 
   -- the line * and what follows it
-  star-line : (k : List ℕ) (ls : List (List ℕ)) → isStar (withoutReturn l) ≡ true → onward (lineEnd (chunk begin l)) (k ∷ ls) ≡ loadedText (withText d (cut (l ∷ k ∷ ls)))
+  star-onward : (k : List ℕ) (ls : List (List ℕ)) → isStar (withoutReturn l) ≡ true → onward (lineEnd (chunk begin l)) (k ∷ ls) ≡ loadedText (withText d (cut (l ∷ k ∷ ls)))
   unfolding placeOn
-  star-line k ls e =
+  star-onward k ls e =
       let p = placeOn (atLine size) l in
       ap (λ (m : Machine). onward (lineEnd m) (k ∷ ls)) (chunk-texting t s (atLine size) l)
       ∙ ap (λ (f : Fed). onward f (k ∷ ls)) (ended-star (putAt t size l) s p (star-ended l ∙ e))
@@ -500,7 +511,7 @@ module _ (t s d l : List ℕ) (n : length t ≡ keptSize) (k : Begins keptSize t
       ∙ ap (λ (y : List ℕ). prints (texting y s (placeEnd p)) (k ∷ ls)) more-text
       ∙ ap (λ (y : Place). prints (texting (putAt t size more) s y) (k ∷ ls)) more-place
     where
-      star-ended-place : isStar (withoutReturn l) ≡ false → isEnded (placeOn (atLine size) l .star) ≡ false
+      star-ended-place : isStar (withoutReturn l) ≡ false → starEnds (placeOn (atLine size) l .star) ≡ false
       star-ended-place h = unfold placeOn in (star-ended l ∙ h)
 
   more-cut : (k : List ℕ) (ls : List (List ℕ)) → isStar (withoutReturn l) ≡ false → loadedText (withText (d ++ more) (cut (k ∷ ls))) ≡ loadedText (withText d (cut (l ∷ k ∷ ls)))
@@ -519,7 +530,7 @@ text-prints (l ∷ h ∷ ls) t s d g n k =
     let u = more t s d l n k in
     let z = min keptSize (length d) in
     decide (prints b (l ∷ h ∷ ls) ≡ loadedText (withText d (cut (l ∷ h ∷ ls)))) (isStar (withoutReturn l))
-    (λ e. prints-line b l h ls ∙ star-line t s d l n k h ls e)
+    (λ e. prints-line b l h ls ∙ star-onward t s d l n k h ls e)
     (λ e. prints-line b l h ls ∙ text-line t s d l n k h ls e
     ∙ text-prints (h ∷ ls) (putAt t z u) s (d ++ u) (λ y. clash (cc)) (put-length u t z ∙ n) (kept-put keptSize u t d n k)
     ∙ more-cut t s d l n k h ls e)

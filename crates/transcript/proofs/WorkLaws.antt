@@ -1,29 +1,30 @@
 -- A piece of input worked line by line, and the end of input, where the code's tests led.
 use mathlib.Core.Path.{_≡_, refl, sym, ap, _∙_}
-use mathlib.Core.Bool.{Bool, true, false, cond}
+use mathlib.Core.Bool.{true, false}
 use mathlib.Core.List.{List, [], _++_}
-use mathlib.Core.Logic.{inl}
 use Prim.Native.Nat.{ℕ, zero, suc, _+_, _-_, _≤_, _<_}
 use native.Mathlib.Omega.{arith}
 use borrow.Author.Tests.{eq-eqb, ne-eqb, le-leb, lt-leb, lt-ltb, le-ltb}
-use lib.Dec.{eqb}
 use lib.ListN.{length, take, drop, length-drop}
 use lib.Seq.{drop-drop}
 use Rattle.text.specs.Byte.{inLine, run}
 use Rattle.text.specs.ByteLaws.{run-within}
-use Rattle.reader.specs.declared.load_text.Loaded.{Loaded}
 use Rattle.values.specs.PutAt.{putAt, IsPut}
 use Rattle.values.specs.PutLaws.{put-both, put-nothing}
-use Rattle.reader.specs.Load.{loadAnswer}
+use Rattle.transcript.specs.declared.intake.Brought.{Brought}
+use Rattle.transcript.specs.declared.intake.Ending.the-variants as E
+use Rattle.transcript.specs.declared.intake.Intake.{Intake}
 use Rattle.transcript.specs.declared.session.Session.{Session}
 use Rattle.transcript.specs.declared.session.Ended.{Ended}
-use Rattle.transcript.specs.Output.{loadLine, outSize, lastStart, lineRoom}
-use Rattle.transcript.specs.HalfLine.{isUntouched}
+use Rattle.transcript.specs.Output.{outSize, lastStart, lineRoom}
 use Rattle.transcript.specs.Totals.{ended}
-use Rattle.transcript.specs.Machine.{TEXT, BEATS, Machine, Fed, Work, isFit, beatEnd, chunk, lineEnd, textOver, lastOver, finished, finishedText, workFrom, worked}
-use Rattle.transcript.specs.SetText.{keptSize}
+use Rattle.transcript.specs.Intake.{BEATS, bytesTaken, bytesKept, inputOver}
+use Rattle.transcript.specs.IntakeAnswers.{broughtBy}
+use Rattle.transcript.specs.MaybeLent.{lentOr}
+use Rattle.transcript.specs.Machine.{Machine, Fed, Work, withIntake, isFit, opened, beatEnd, arrivalWorked, chunk, lineEnd, endAfter, lastOutput, finished, finishedText, workFrom, worked}
 use Rattle.transcript.specs.SessionAnswers.{IsFed, machineOf, stepAnswer}
-use Rattle.transcript.specs.SessionRoomLaws.{Fit, Lives, fit-parts, chunk-lives, line-lives}
+use Rattle.transcript.specs.SessionRoomLaws.{Lives, fit-parts, fit-lives, chunk-lives, line-lives}
+use Rattle.transcript.proofs.StepLaws.{brought-nothing, brought-text, brought-beat}
 
 -- what is left to say once it is known what a piece came to
 pub work-is : {w : Work} {t s o b exit : List ℕ} {y : Session} {k q : ℕ} → w ≡ record { machine = machineOf t s y; taken = k; output = o } → IsPut b 0 o exit q →
@@ -38,6 +39,11 @@ module _ (m : Machine) (t : List ℕ) where
   pub fit-work : isFit (m .session) ≡ true → workFrom (length t + 1) m t 0 [] ≡ worked m t
   unfolding worked
   fit-work h = simp (worked, h)
+
+-- bytes of a line
+pub taken-in : (t s : List ℕ) (x : Session) (l : List ℕ) {i : Intake} → i ≡ bytesTaken (x .intake) l → {u : List ℕ} → u ≡ bytesKept (x .intake) t l → machineOf u s (withIntake x i) ≡ chunk (machineOf t s x) l
+unfolding chunk
+taken-in t s x l e f = rw (e, f)
 
 -- ---- with n lines left at most, k bytes taken, o printed
 
@@ -97,7 +103,7 @@ pub record Going (input : List ℕ) (w : Work) (buffer : List ℕ) (m : Machine)
 pub set-out : (input buffer : List ℕ) (m : Machine) → isFit (m .session) ≡ true → Going input (worked m input) buffer m 0 buffer 0
 set-out input buffer m h =
     record {
-      lives = inl (fit-parts (m .session) h);
+      lives = fit-lives (fit-parts (m .session) h);
       left = length input + 1;
       printed = [];
       enough = omega arith;
@@ -141,65 +147,42 @@ module _ {input : List ℕ} {w : Work} {buffer : List ℕ} {m : Machine} {i : �
 pub put-whole : {s a b t : List ℕ} {q : ℕ} → b ≡ a → IsPut s 0 a t q → (q ≡ length b) × (t ≡ putAt s 0 b)
 put-whole e h = rw e (let b = h .behind in omega arith, h .put)
 
-module _ (m : Machine) (u : List ℕ) {l : Loaded} (e : l ≡ loadAnswer u) where
-  loaded-code : loadAnswer u .code ≡ l .code
-  loaded-code = ap (λ (y : Loaded). y .code) (sym e)
+-- what came last is put, and END behind it
+pub put-after : {f : Fed} {w : List ℕ} → w ≡ lastOutput f → {t s b mid exit : List ℕ} {y : Ended} {q : ℕ} → IsFed f t s b 0 y mid → IsPut mid (y .end) (endAfter (y .session)) exit q →
+    (q ≡ length w) × (exit ≡ putAt b 0 w)
+put-after {f} e g p = put-whole (e ∙ ap (λ (x : Machine). f .output ++ endAfter (x .session)) (g .machine)) (put-both (g .output) p)
 
-  pub over-good : l .code ≡ 0 → textOver m u ≡ ended (m .session .totals)
-  unfolding textOver
-  over-good h = simp (textOver, loaded-code ∙ h)
+-- and END has room there
+pub end-has-room : {f : Fed} {t s b exit : List ℕ} {y : Ended} → IsFed f t s b 0 y exit → length (f .output) ≤ lineRoom → y .end ≤ outSize
+end-has-room g h = let e = g .output .behind in omega arith
 
-  pub over-not : (l .code ≡ 0 → ⊥) → textOver m u ≡ loadLine (l .code) (l .line)
-  unfolding textOver
-  over-not h = rw e (go (loadAnswer u .code) refl (λ g. h (sym loaded-code ∙ g)))
-    where
-      go : (n : ℕ) → loadAnswer u .code ≡ n → (n ≡ 0 → ⊥) → textOver m u ≡ loadLine (loadAnswer u .code) (loadAnswer u .line)
-      go zero g f = absurd (f refl)
-      go (suc n) g f = simp (textOver, g)
+pub end-beats : (x : Session) → x .intake .phase ≡ BEATS → endAfter x ≡ ended (x .totals)
+unfolding endAfter
+end-beats x h = simp (endAfter, eq-eqb _ _ h)
 
-module _ (m : Machine) (f : Fed) {x : Machine} (e : f .machine ≡ x) where
-  pub last-beats : x .session .phase ≡ BEATS → lastOver m f ≡ f .output ++ ended (x .session .totals)
-  unfolding lastOver
-  last-beats h = simp (lastOver, e, eq-eqb _ _ h)
-
-  pub last-else : (x .session .phase ≡ BEATS → ⊥) → lastOver m f ≡ f .output
-  unfolding lastOver
-  last-else h = simp (lastOver, e, ne-eqb _ _ h)
-
--- where a set text ends that has no LF at its end
-pub size-within : (x : Session) → Fit x → cond (eqb (x .place .star) 1) (x .place .start) (x .place .size) ≤ keptSize
-size-within x f = go (eqb (x .place .star) 1)
-  where
-    go : (b : Bool) → cond b (x .place .start) (x .place .size) ≤ keptSize
-    go true = let p = f .start in let q = f .size in omega arith
-    go false = f .size
+pub end-else : (x : Session) → (x .intake .phase ≡ BEATS → ⊥) → endAfter x ≡ []
+unfolding endAfter
+end-else x h = simp (endAfter, ne-eqb _ _ h)
 
 module _ (t s : List ℕ) (x : Session) where
   pub finish-unfit : isFit x ≡ false → finishedText (machineOf t s x) ≡ []
   unfolding finishedText
   finish-unfit h = simp (finishedText, h)
 
-  module _ (h : isFit x ≡ true) where
-    finish-fit : finishedText (machineOf t s x) ≡ finished (machineOf t s x)
-    unfolding finishedText
-    finish-fit = simp (finishedText, h)
+  module _ (h : isFit x ≡ true) {b : Brought} (e : b ≡ broughtBy (inputOver (x .intake))) where
+    -- the machine behind the end of input
+    abbrev behindInput : Machine
+    behindInput = machineOf t s (withIntake x (b .intake))
 
-    pub finish-text : x .phase ≡ TEXT → {n : ℕ} → n ≡ cond (eqb (x .place .star) 1) (x .place .start) (x .place .size) → finishedText (machineOf t s x) ≡ textOver (machineOf t s x) (take n t)
-    unfolding finished
-    finish-text p e = finish-fit ∙ simp (finished, eq-eqb _ _ p) (rw e (go (eqb (x .place .star) 1)))
-      where
-        go : (b : Bool) → textOver (machineOf t s x) (elim b [ true ↦ take (x .place .start) t | false ↦ take (x .place .size) t ]) ≡ textOver (machineOf t s x) (take (cond b (x .place .start) (x .place .size)) t)
-        go true = refl
-        go false = refl
+    finish-as : finishedText (machineOf t s x) ≡ lastOutput (arrivalWorked behindInput (inputOver (x .intake) .arrival))
+    unfolding finishedText finished
+    finish-as = simp (finishedText, h) (rw e)
 
-    pub finish-over : (x .phase ≡ TEXT → ⊥) → (x .phase ≡ BEATS → ⊥) → finishedText (machineOf t s x) ≡ []
-    unfolding finished
-    finish-over p q = finish-fit ∙ simp (finished, ne-eqb _ _ p) (simp (ne-eqb _ _ q))
+    pub finish-nothing : b .ending ≡ E.Nothing → finishedText (machineOf t s x) ≡ endAfter (withIntake x (b .intake))
+    finish-nothing g = finish-as ∙ ap lastOutput (brought-nothing behindInput (inputOver (x .intake)) e g)
 
-    pub finish-new : x .phase ≡ BEATS → isUntouched (x .half) ≡ true → finishedText (machineOf t s x) ≡ ended (x .totals)
-    unfolding finished
-    finish-new p q = finish-fit ∙ simp (finished, ne-eqb (x .phase) 0 (λ g. omega arith)) (simp (eq-eqb _ _ p) (simp q))
+    pub finish-text : b .ending ≡ E.Text → finishedText (machineOf t s x) ≡ lastOutput (opened behindInput (take (b .size) t))
+    finish-text g = finish-as ∙ ap lastOutput (brought-text behindInput (inputOver (x .intake)) e g)
 
-    pub finish-last : x .phase ≡ BEATS → isUntouched (x .half) ≡ false → finishedText (machineOf t s x) ≡ lastOver (machineOf t s x) (beatEnd (machineOf t s x) (x .half))
-    unfolding finished
-    finish-last p q = finish-fit ∙ simp (finished, ne-eqb (x .phase) 0 (λ g. omega arith)) (simp (eq-eqb _ _ p) (simp q))
+    pub finish-beat : b .ending ≡ E.Beat → finishedText (machineOf t s x) ≡ lastOutput (beatEnd behindInput (lentOr (b .lent)))
+    finish-beat g = finish-as ∙ ap lastOutput (brought-beat behindInput (inputOver (x .intake)) e g)

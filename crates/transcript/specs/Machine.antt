@@ -1,33 +1,20 @@
 -- A session of synrun as the code works it: line by line, whatever the pieces of its input. That this comes to what Synrun says is shown in the crate `sessions`. Definitions only.
-use mathlib.Core.Bool.{Bool, true, false, _&&_, _||_}
+use mathlib.Core.Bool.{Bool, true, false, _&&_}
 use mathlib.Core.List.{List, [], _∷_, _++_}
-use mathlib.Core.Option.{none, some}
+use mathlib.Core.Option.{Option, none, some}
 use Prim.Native.Nat.{ℕ, zero, suc, _+_}
 use lib.Dec.{eqb, leb, ltb}
-use lib.ListN.{length, set, take, drop}
-use Rattle.text.specs.Byte.{LF, inLine, run}
-use Rattle.values.specs.PutAt.{putAt}
+use lib.ListN.{length, take, drop}
+use Rattle.text.specs.Byte.{inLine, run}
 use Rattle.reader.specs.Load.{loadAnswer, loadSet}
-use Rattle.transcript.specs.declared.set_text.Place.{Place}
+use Rattle.transcript.specs.declared.intake.Intake.{Intake}
 use Rattle.transcript.specs.declared.session.Session.{Session}
-use Rattle.transcript.specs.declared.beat_line.HalfLine.{HalfLine}
+use Rattle.transcript.specs.declared.totals.Totals.{Totals}
 use Rattle.transcript.specs.BeatLine.{Lent}
 use Rattle.transcript.specs.Output.{loadLine, errorLine, outSize, lineRoom}
-use Rattle.transcript.specs.declared.totals.Totals.{Totals}
 use Rattle.transcript.specs.Totals.{maxBeats, noTotals, ended, areFit}
 use Rattle.transcript.specs.Tally.{counted, answerOf, beatText}
-use Rattle.transcript.specs.SetText.{keptSize, noPlace, placeOn, placeEnd}
-use Rattle.transcript.specs.HalfLine.{lastField, noHalfLine, readOn, isUntouched, withoutCR, readLent}
-
--- the phases: set text, beat lines, over
-abbrev pub TEXT : ℕ
-TEXT = 0
-
-abbrev pub BEATS : ℕ
-BEATS = 1
-
-abbrev pub OVER : ℕ
-OVER = 2
+use Rattle.transcript.specs.Intake.{BEATS, OVER, noIntake, withPhase, intakeFits, bytesTaken, bytesKept, Arrival, nothing, wholeText, beatLine, lineOver, lineKept, inputOver}
 
 -- the kept text, the set, and what is kept beside them
 pub record Machine : Type 0 where
@@ -43,48 +30,35 @@ pub record Fed : Type 0 where
 -- ---- a session
 
 abbrev pub begun : Session
-begun = record { phase = TEXT; place = noPlace; half = noHalfLine; totals = noTotals }
+begun = record { intake = noIntake; totals = noTotals }
 
-abbrev pub withPhase : Session → ℕ → Session
-withPhase x p = record { phase = p; place = x .place; half = x .half; totals = x .totals }
+abbrev pub withIntake : Session → Intake → Session
+withIntake x i = record { intake = i; totals = x .totals }
 
-abbrev pub withPlace : Session → Place → Session
-withPlace x p = record { phase = x .phase; place = p; half = x .half; totals = x .totals }
-
-abbrev pub withHalfLine : Session → HalfLine → Session
-withHalfLine x r = record { phase = x .phase; place = x .place; half = r; totals = x .totals }
-
--- a beat is over: its totals, and no byte of the next line
 abbrev pub withTotals : Session → Totals → Session
-withTotals x n = record { phase = x .phase; place = x .place; half = noHalfLine; totals = n }
+withTotals x n = record { intake = x .intake; totals = n }
+
+-- no more is taken in, and nothing more printed
+abbrev pub stopped : Session → Session
+stopped x = withIntake x (withPhase (x .intake) OVER)
 
 -- one that could have come from a beginning; any other is treated as over
 unfoldable pub isFit : Session → Bool
-isFit x =
-    leb (x .place .size) keptSize && (leb (x .place .start) (x .place .size) && (leb (x .half .field) lastField && areFit (x .totals)))
+isFit x = intakeFits (x .intake) && areFit (x .totals)
 
--- ---- set text
+-- ---- what came in is worked
+
+-- nothing
+abbrev pub standing : Machine → Fed
+standing m = record { machine = m; output = [] }
 
 -- the set text t is whole: it is loaded
 unfoldable pub opened : Machine → List ℕ → Fed
 opened m t =
     elim (loadAnswer t .code) [
-      | zero ↦ record { machine = record { text = m .text; lines = loadSet t; session = withPhase (withHalfLine (m .session) noHalfLine) BEATS }; output = [] }
-      | suc c ↦ record { machine = record { text = m .text; lines = loadSet t; session = withPhase (m .session) OVER }; output = loadLine (suc c) (loadAnswer t .line) }
+      | zero ↦ record { machine = record { text = m .text; lines = loadSet t; session = m .session }; output = [] }
+      | suc c ↦ record { machine = record { text = m .text; lines = loadSet t; session = stopped (m .session) }; output = loadLine (suc c) (loadAnswer t .line) }
     ]
-
--- the LF of a line of set text: behind the line * the text before it is whole
-unfoldable pub textEnd : Machine → Fed
-textEnd m =
-    elim (eqb (m .session .place .star) 1 || eqb (m .session .place .star) 2) [
-      | true ↦ opened m (take (m .session .place .start) (m .text))
-      | false ↦ record {
-        machine = record { text = set (m .text) (m .session .place .size) LF; lines = m .lines; session = withPlace (m .session) (placeEnd (m .session .place)) };
-        output = [];
-      }
-    ]
-
--- ---- beats
 
 -- a beat line that lends l
 unfoldable pub beatOf : Machine → Lent → Fed
@@ -92,35 +66,42 @@ beatOf m l =
     let n = counted (m .session .totals) (answerOf (m .lines) (m .session .totals) l) in
     let text = beatText (m .lines) (m .session .totals) l in
     elim (eqb (n .beats) maxBeats) [
-      | true ↦ record { machine = record { text = m .text; lines = m .lines; session = withPhase (withTotals (m .session) n) OVER }; output = text ++ ended n }
+      | true ↦ record { machine = record { text = m .text; lines = m .lines; session = stopped (withTotals (m .session) n) }; output = text ++ ended n }
       | false ↦ record { machine = record { text = m .text; lines = m .lines; session = withTotals (m .session) n }; output = text }
     ]
 
--- a beat line that was read
-unfoldable pub beatEnd : Machine → HalfLine → Fed
-beatEnd m r =
-    elim (readLent r) [
-      | none ↦ record { machine = record { text = m .text; lines = m .lines; session = withPhase (m .session) OVER }; output = errorLine (m .session .totals .beats + 1) }
+-- a beat line, ill-formed or not
+unfoldable pub beatEnd : Machine → Option Lent → Fed
+beatEnd m o =
+    elim o [
+      | none ↦ record { machine = record { text = m .text; lines = m .lines; session = stopped (m .session) }; output = errorLine (m .session .totals .beats + 1) }
       | some l ↦ beatOf m l
+    ]
+
+-- what the end of a line, or of the input, brought
+unfoldable pub arrivalWorked : Machine → Arrival → Fed
+arrivalWorked m a =
+    elim a [
+      | nothing ↦ standing m
+      | wholeText n ↦ opened m (take n (m .text))
+      | beatLine o ↦ beatEnd m o
     ]
 
 -- ---- input
 
+-- the machine with what is kept of some input: the text t, and i beside it
+abbrev pub keeping : Machine → List ℕ → Intake → Machine
+keeping m t i = record { text = t; lines = m .lines; session = withIntake (m .session) i }
+
 -- bytes of a line, no LF among them
 unfoldable pub chunk : Machine → List ℕ → Machine
-chunk m l =
-    elim (eqb (m .session .phase) TEXT) [
-      | true ↦ record { text = putAt (m .text) (m .session .place .size) l; lines = m .lines; session = withPlace (m .session) (placeOn (m .session .place) l) }
-      | false ↦ elim (eqb (m .session .phase) BEATS) [ true ↦ record { text = m .text; lines = m .lines; session = withHalfLine (m .session) (readOn (m .session .half) l) } | false ↦ m ]
-    ]
+chunk m l = keeping m (bytesKept (m .session .intake) (m .text) l) (bytesTaken (m .session .intake) l)
 
 -- an LF
 unfoldable pub lineEnd : Machine → Fed
 lineEnd m =
-    elim (eqb (m .session .phase) TEXT) [
-      | true ↦ textEnd m
-      | false ↦ elim (eqb (m .session .phase) BEATS) [ true ↦ beatEnd m (withoutCR (m .session .half)) | false ↦ record { machine = m; output = [] } ]
-    ]
+    let a = lineOver (m .session .intake) in
+    arrivalWorked (keeping m (lineKept (m .session .intake) (m .text)) (a .intake)) (a .arrival)
 
 -- the lines of some input
 abbrev pub behind : List ℕ → Fed → Fed
@@ -131,24 +112,18 @@ fedLines m [] = record { machine = m; output = [] }
 fedLines m (l ∷ []) = record { machine = chunk m l; output = [] }
 fedLines m (l ∷ k ∷ ls) = let f = lineEnd (chunk m l) in behind (f .output) (fedLines (f .machine) (k ∷ ls))
 
+-- END, where beat lines are still awaited
+unfoldable pub endAfter : Session → List ℕ
+endAfter x = elim (eqb (x .intake .phase) BEATS) [ true ↦ ended (x .totals) | false ↦ [] ]
+
+abbrev pub lastOutput : Fed → List ℕ
+lastOutput f = f .output ++ endAfter (f .machine .session)
+
 -- the end of input
-unfoldable pub textOver : Machine → List ℕ → List ℕ
-textOver m t = elim (loadAnswer t .code) [ zero ↦ ended (m .session .totals) | suc c ↦ loadLine (suc c) (loadAnswer t .line) ]
-
--- a last line without LF
-unfoldable pub lastOver : Machine → Fed → List ℕ
-lastOver m f = elim (eqb (f .machine .session .phase) BEATS) [ true ↦ f .output ++ ended (f .machine .session .totals) | false ↦ f .output ]
-
 unfoldable pub finished : Machine → List ℕ
 finished m =
-    elim (eqb (m .session .phase) TEXT) [
-      | true ↦ textOver m (elim (eqb (m .session .place .star) 1) [ true ↦ take (m .session .place .start) (m .text) | false ↦ take (m .session .place .size) (m .text) ])
-      | false ↦
-          elim (eqb (m .session .phase) BEATS) [
-            | true ↦ elim (isUntouched (m .session .half)) [ true ↦ ended (m .session .totals) | false ↦ lastOver m (beatEnd m (m .session .half)) ]
-            | false ↦ []
-          ]
-    ]
+    let a = inputOver (m .session .intake) in
+    lastOutput (arrivalWorked (keeping m (m .text) (a .intake)) (a .arrival))
 
 -- nothing more of a session that is not fit
 unfoldable pub finishedText : Machine → List ℕ

@@ -14,3 +14,7 @@ maybeLent (some l) = record { good = true; automatic = l .automatic; word = l .w
 -- what it lends, where it lends something
 abbrev pub lentIn : MaybeLent → Lent
 lentIn t = record { automatic = t .automatic; word = t .word; numbers = t .numbers }
+
+-- what it lends, if anything
+unfoldable pub lentOr : MaybeLent → Option Lent
+lentOr t = elim (t .good) [ true ↦ some (lentIn t) | false ↦ none ]

@@ -1,21 +1,18 @@
--- How much a line of input may print, and that a fit session stays fit while its input goes on. Assumes nothing.
+-- How much a line of input may print, and that a session lives on while its input goes on. Assumes nothing.
 use mathlib.Core.Path.{_≡_, refl}
-use mathlib.Core.Bool.{true, false, _&&_, _||_}
-use mathlib.Core.List.{List, [], _∷_}
+use mathlib.Core.Bool.{true, _&&_}
+use mathlib.Core.List.{List, []}
 use mathlib.Core.Logic.{_⊎_, inl, inr}
 use mathlib.Core.Option.{Option, none, some}
 use Prim.Native.Nat.{ℕ, zero, suc, _+_, _≤_}
 use native.Mathlib.Omega.{arith}
-use lib.Dec.{eqb, leb, ltb}
+use lib.Dec.{eqb}
 use lib.ListN.{length, take, length-append}
-use borrow.Author.Tests.{leb-true, le-leb, ltb-true, eqb-true, eqb-false}
+use borrow.Author.Tests.{eqb-true, eqb-false}
 use Rattle.values.specs.Choice.{either, both, and-true}
-use Rattle.text.specs.Byte.{CR, SPACE, isDigit}
 use Rattle.engine.specs.Order.{maxOrders}
 use Rattle.reader.specs.Load.{loadAnswer}
-use Rattle.transcript.specs.declared.set_text.Place.{Place}
 use Rattle.transcript.specs.declared.session.Session.{Session}
-use Rattle.transcript.specs.declared.beat_line.HalfLine.{HalfLine}
 use Rattle.transcript.specs.BeatLine.{Lent}
 use Rattle.transcript.specs.Output.{beatRoom, endRoom, lineRoom, outSize}
 use Rattle.transcript.specs.OutputLaws.{load-room, error-room, code-room, orders-room, end-room}
@@ -23,9 +20,9 @@ use Rattle.transcript.specs.declared.totals.Totals.{Totals}
 use Rattle.transcript.specs.Totals.{maxBeats, areFit}
 use Rattle.transcript.specs.TotalsLaws.{FitTotals, fit-totals, totals-fit, counting-fit}
 use Rattle.transcript.specs.Tally.{counted, givenBy, answerOf, bufferOf, beatText}
-use Rattle.transcript.specs.HalfLine.{lastField, withField, closed, spaceAfter, modeByte, minusByte, digitByte, fieldByte, readByte, readOn, greatest, readLent, withoutCR, isUntouched}
-use Rattle.transcript.specs.Machine.{TEXT, BEATS, OVER, Machine, Fed, isFit, opened, textEnd, beatOf, beatEnd, chunk, lineEnd, textOver, lastOver, finished, finishedText}
-use Rattle.transcript.specs.SetText.{keptSize, placeOn, placeEnd}
+use Rattle.transcript.specs.Machine.{Machine, Fed, isFit, opened, beatOf, beatEnd, chunk, lineEnd, finished, finishedText, stopped, standing, arrivalWorked, keeping, endAfter, lastOutput}
+use Rattle.transcript.specs.Intake.{BEATS, OVER, intakeFits, bytesTaken, Arrival, nothing, wholeText, beatLine, lineOver, lineKept, inputOver}
+use Rattle.transcript.specs.IntakeLaws.{FitIntake, intake-parts, intake-whole, phase-fit, bytes-fit, line-fit, over-bytes, over-bytes-kept, over-line as intake-line, over-line-kept}
 use Rattle.transcript.specs.OrdersLaws.{orders-within}
 
 -- ---- cases
@@ -71,54 +68,47 @@ beatOf-room m l =
     let b = end-room (n .beats) (n .coded) (n .orders) in
     either (Prints lineRoom) (eqb (n .beats) maxBeats) (λ e. simp length-append (omega arith)) (λ e. omega arith)
 
-pub beat-end-room : (m : Machine) (r : HalfLine) → length (beatEnd m r .output) ≤ lineRoom
+pub beat-end-room : (m : Machine) (o : Option Lent) → length (beatEnd m o .output) ≤ lineRoom
 unfolding beatEnd
-beat-end-room m r = byLent (Prints lineRoom) (readLent r) (λ e. let a = error-room (m .session .totals .beats + 1) in omega arith) (λ l e. beatOf-room m l)
+beat-end-room m none = let a = error-room (m .session .totals .beats + 1) in omega arith
+beat-end-room m (some l) = beatOf-room m l
 
-opened-room : (m : Machine) (t : List ℕ) → Prints 24 (opened m t)
+pub opened-room : (m : Machine) (t : List ℕ) → length (opened m t .output) ≤ lineRoom
 unfolding opened
-opened-room m t = byCode (Prints 24) (loadAnswer t .code) (λ e. omega arith) (λ c e. load-room (suc c) (loadAnswer t .line))
+opened-room m t = byCode (Prints lineRoom) (loadAnswer t .code) (λ e. omega arith) (λ c e. let a = load-room (suc c) (loadAnswer t .line) in omega arith)
 
-text-end-room : (m : Machine) → Prints 24 (textEnd m)
-unfolding textEnd
-text-end-room m =
-    let p = m .session .place in
-    either (Prints 24) (eqb (p .star) 1 || eqb (p .star) 2) (λ e. opened-room m (take (p .start) (m .text))) (λ e. omega arith)
+arrival-room : (m : Machine) (a : Arrival) → Prints lineRoom (arrivalWorked m a)
+unfolding arrivalWorked
+arrival-room m nothing = omega arith
+arrival-room m (wholeText n) = opened-room m (take n (m .text))
+arrival-room m (beatLine o) = beat-end-room m o
 
 -- a line of input prints at most this much
 pub line-room : (m : Machine) → length (lineEnd m .output) ≤ lineRoom
 unfolding lineEnd
 line-room m =
-    let a = text-end-room m in
-    let b = beat-end-room m (withoutCR (m .session .half)) in
-    either (Prints lineRoom) (eqb (m .session .phase) TEXT) (λ e. omega arith) λ e.
-    either (Prints lineRoom) (eqb (m .session .phase) BEATS) (λ g. omega arith) (λ g. omega arith)
+    let x = m .session .intake in
+    let a = arrival-room (keeping m (lineKept x (m .text)) (lineOver x .intake)) (lineOver x .arrival) in
+    omega arith
 
 -- and so does the end of input
-over-room : (m : Machine) (t : List ℕ) → Short endRoom (textOver m t)
-unfolding textOver
-over-room m t =
-    byCode (Short endRoom) (loadAnswer t .code) (λ e. let n = m .session .totals in end-room (n .beats) (n .coded) (n .orders)) (λ c e. let a = load-room (suc c) (loadAnswer t .line) in omega arith)
-
-last-room : (m : Machine) (f : Fed) → Prints lineRoom f → Short outSize (lastOver m f)
-unfolding lastOver
-last-room m f h =
-    let x = f .machine .session in
+end-after-room : (x : Session) → Short endRoom (endAfter x)
+unfolding endAfter
+end-after-room x =
     let n = x .totals in
     let a = end-room (n .beats) (n .coded) (n .orders) in
-    either (Short outSize) (eqb (x .phase) BEATS) (λ e. simp length-append (omega arith)) (λ e. omega arith)
+    either (Short endRoom) (eqb (x .intake .phase) BEATS) (λ e. a) (λ e. omega arith)
+
+last-room : (f : Fed) → Prints lineRoom f → Short outSize (lastOutput f)
+last-room f h = let a = end-after-room (f .machine .session) in simp length-append (omega arith)
 
 pub finished-room : (m : Machine) → length (finished m) ≤ outSize
 unfolding finished
 finished-room m =
-    let x = m .session in
-    let h = last-room m (beatEnd m (x .half)) (beat-end-room m (x .half)) in
-    let n = x .totals in
-    let k = end-room (n .beats) (n .coded) (n .orders) in
-    either (Short outSize) (eqb (x .phase) TEXT) (λ e. let a = over-room m (elim (eqb (x .place .star) 1) [ true ↦ take (x .place .start) (m .text) | false ↦ take (x .place .size) (m .text) ]) in omega arith) λ e.
-    either (Short outSize) (eqb (x .phase) BEATS)
-    (λ g. either (Short outSize) (isUntouched (x .half)) (λ u. omega arith) (λ u. omega arith))
-    (λ g. omega arith)
+    let x = m .session .intake in
+    let y = keeping m (m .text) (inputOver x .intake) in
+    let h = last-room (arrivalWorked y (inputOver x .arrival)) (arrival-room y (inputOver x .arrival)) in
+    omega arith
 
 pub finished-text-room : (m : Machine) → length (finishedText m) ≤ outSize
 unfolding finishedText
@@ -127,158 +117,87 @@ finished-text-room m = either (Short outSize) (isFit (m .session)) (λ e. finish
 -- ---- a fit session
 
 pub record Fit (x : Session) : Type 0 where
-  pub size : x .place .size ≤ keptSize
-  pub start : x .place .start ≤ x .place .size
-  pub field : x .half .field ≤ lastField
+  pub intake : FitIntake (x .intake)
   pub totals : FitTotals (x .totals)
 
 -- each of the tests
 pub fit-parts : (x : Session) → isFit x ≡ true → Fit x
 unfolding isFit
 fit-parts x h =
+    let i = intakeFits (x .intake) in
     let n = areFit (x .totals) in
-    let f = leb (x .half .field) lastField in
-    let s = leb (x .place .start) (x .place .size) in
-    let p = leb (x .place .size) keptSize in
-    let h₁ = both p (s && (f && n)) h .1 in
-    let h₂ = both s (f && n) h₁ .1 in
-    record {
-      size = leb-true _ _ (both p (s && (f && n)) h .0);
-      start = leb-true _ _ (both s (f && n) h₁ .0);
-      field = leb-true _ _ (both f n h₂ .0);
-      totals = fit-totals (x .totals) (both f n h₂ .1);
-    }
+    record { intake = intake-parts (x .intake) (both i n h .0); totals = fit-totals (x .totals) (both i n h .1) }
 
 pub fit-whole : (x : Session) → Fit x → isFit x ≡ true
 unfolding isFit
-fit-whole x f = and-true (le-leb _ _ (f .size)) (and-true (le-leb _ _ (f .start)) (and-true (le-leb _ _ (f .field)) (totals-fit (x .totals) (f .totals))))
+fit-whole x f = and-true (intake-whole (x .intake) (f .intake)) (totals-fit (x .totals) (f .totals))
 
--- ---- a line's fields: a space begins the next only below the fifteenth
+-- its intake is fit, and its totals are, or it is over after the last beat
+pub record Lives (x : Session) : Type 0 where
+  pub intake : FitIntake (x .intake)
+  pub totals : FitTotals (x .totals) ⊎ ((x .intake .phase ≡ OVER) × (x .totals .beats ≡ maxBeats))
 
-abbrev Narrow : HalfLine → Type 0
-Narrow r = r .field ≤ lastField
+pub fit-lives : {x : Session} → Fit x → Lives x
+fit-lives f = record { intake = f .intake; totals = inl (f .totals) }
 
-pub closed-field : (r : HalfLine) → closed r .field ≡ r .field
-unfolding closed withField
-closed-field r =
-    let P : HalfLine → Type 0 = λ y. y .field ≡ r .field in
-    either P (eqb (r .stage) 2)
-    (λ e. either P (eqb (r .field) 0) (λ g. refl) λ g.
-    either P (leb (r .value) (greatest r)) (λ h. either P (eqb (r .field) 1) (λ k. refl) (λ k. refl)) (λ h. refl))
-    (λ e. refl)
-
-space-narrow : (r : HalfLine) → Narrow r → Narrow (spaceAfter r)
-unfolding spaceAfter
-space-narrow r n =
-    either Narrow (eqb (r .stage) 2 && ltb (r .field) lastField)
-    (λ e. let h = ltb-true (r .field) lastField (both (eqb (r .stage) 2) (ltb (r .field) lastField) e .1) in omega arith)
-    (λ e. n)
-
-field-narrow : (r : HalfLine) (b : ℕ) → Narrow r → Narrow (fieldByte r b)
-unfolding fieldByte modeByte minusByte digitByte
-field-narrow r b n =
-    either Narrow (eqb (r .field) 0) (λ e. either Narrow (eqb (r .stage) 0 && (eqb b 65 || eqb b 77)) (λ g. n) (λ g. n)) λ e.
-    either Narrow (isDigit b) (λ g. n) λ g.
-    either Narrow (eqb b 45) (λ h. either Narrow (eqb (r .stage) 0 && leb 2 (r .field)) (λ k. n) (λ k. n)) (λ h. n)
-
-pub byte-narrow : (r : HalfLine) (b : ℕ) → r .field ≤ lastField → readByte r b .field ≤ lastField
-unfolding readByte
-byte-narrow r b n =
-    either Narrow (leb 3 (r .stage)) (λ e. n) λ e.
-    either Narrow (eqb b SPACE) (λ g. space-narrow (closed r) (rw closed-field n)) λ g.
-    either Narrow (eqb b CR) (λ h. either Narrow (eqb (r .stage) 2) (λ k. n) (λ k. n)) (λ h. field-narrow r b n)
-
-pub read-narrow : (r : HalfLine) (l : List ℕ) → r .field ≤ lastField → readOn r l .field ≤ lastField
-unfolding readOn
-read-narrow r [] n = n
-read-narrow r (b ∷ bs) n = read-narrow (readByte r b) bs (byte-narrow r b n)
-
--- ---- bytes of a line
-
-place-fit : (p : Place) (l : List ℕ) → p .size ≤ keptSize → p .start ≤ p .size → (placeOn p l .size ≤ keptSize) × (placeOn p l .start ≤ placeOn p l .size)
-unfolding placeOn
-place-fit p l h g = (omega arith, omega arith)
-
-pub chunk-fit : (m : Machine) (l : List ℕ) → Fit (m .session) → Fit (chunk m l .session)
-unfolding chunk
-chunk-fit m l f =
-    let x = m .session in
-    let P : Machine → Type 0 = λ y. Fit (y .session) in
-    let p = place-fit (x .place) l (f .size) (f .start) in
-    either P (eqb (x .phase) TEXT)
-    (λ e. record { size = p .0; start = p .1; field = f .field; totals = f .totals }) λ e.
-    either P (eqb (x .phase) BEATS)
-    (λ g. record { size = f .size; start = f .start; field = read-narrow (x .half) l (f .field); totals = f .totals })
-    (λ g. f)
-
--- ---- the line's end
-
--- fit, or over after the last beat
-abbrev pub Lives : Session → Type 0
-Lives x = Fit x ⊎ ((x .phase ≡ OVER) × (x .totals .beats ≡ maxBeats))
+-- ---- what came in is worked
 
 abbrev FedLives : Fed → Type 0
 FedLives f = Lives (f .machine .session)
 
-beatOf-fit : (m : Machine) (l : Lent) → Fit (m .session) → FedLives (beatOf m l)
+beatOf-lives : (m : Machine) (l : Lent) → Fit (m .session) → FedLives (beatOf m l)
 unfolding beatOf
-beatOf-fit m l f =
+beatOf-lives m l f =
     let x = m .session in
     let a = answerOf (m .lines) (x .totals) l in
     let n = counted (x .totals) a in
     let o = beat-orders (m .lines) (x .totals) l in
-    either FedLives (eqb (n .beats) maxBeats) (λ e. inr (refl, eqb-true (n .beats) maxBeats e))
-    (λ e. inl (record { size = f .size; start = f .start; field = omega arith; totals = counting-fit (x .totals) (a .code) (a .orders) (a .state) (f .totals) o (eqb-false (n .beats) maxBeats e) }))
+    either FedLives (eqb (n .beats) maxBeats) (λ e. record { intake = phase-fit OVER (f .intake); totals = inr (refl, eqb-true (n .beats) maxBeats e) })
+    (λ e. record { intake = f .intake; totals = inl (counting-fit (x .totals) (a .code) (a .orders) (a .state) (f .totals) o (eqb-false (n .beats) maxBeats e)) })
 
-beatEnd-fit : (m : Machine) (r : HalfLine) → Fit (m .session) → FedLives (beatEnd m r)
+stopped-lives : (x : Session) → Fit x → Lives (stopped x)
+stopped-lives x f = record { intake = phase-fit OVER (f .intake); totals = inl (f .totals) }
+
+beatEnd-lives : (m : Machine) (o : Option Lent) → Fit (m .session) → FedLives (beatEnd m o)
 unfolding beatEnd
-beatEnd-fit m r f =
-    byLent FedLives (readLent r)
-    (λ e. inl (record { size = f .size; start = f .start; field = f .field; totals = f .totals }))
-    (λ l e. beatOf-fit m l f)
+beatEnd-lives m none f = stopped-lives (m .session) f
+beatEnd-lives m (some l) f = beatOf-lives m l f
 
-opened-fit : (m : Machine) (t : List ℕ) → Fit (m .session) → FedLives (opened m t)
+opened-lives : (m : Machine) (t : List ℕ) → Fit (m .session) → FedLives (opened m t)
 unfolding opened
-opened-fit m t f =
-    byCode FedLives (loadAnswer t .code)
-    (λ e. inl (record { size = f .size; start = f .start; field = omega arith; totals = f .totals }))
-    (λ c e. inl (record { size = f .size; start = f .start; field = f .field; totals = f .totals }))
+opened-lives m t f = byCode FedLives (loadAnswer t .code) (λ e. fit-lives f) (λ c e. stopped-lives (m .session) f)
 
-textEnd-fit : (m : Machine) → Fit (m .session) → FedLives (textEnd m)
-unfolding textEnd placeEnd
-textEnd-fit m f =
-    let p = m .session .place in
-    either FedLives (eqb (p .star) 1 || eqb (p .star) 2) (λ e. opened-fit m (take (p .start) (m .text)) f)
-    (λ e. inl (record { size = omega arith; start = omega arith; field = f .field; totals = f .totals }))
-
-pub line-fit : (m : Machine) → Fit (m .session) → Lives (lineEnd m .machine .session)
-unfolding lineEnd
-line-fit m f =
-    either FedLives (eqb (m .session .phase) TEXT) (λ e. textEnd-fit m f) λ e.
-    either FedLives (eqb (m .session .phase) BEATS) (λ g. beatEnd-fit m (withoutCR (m .session .half)) f) (λ g. inl f)
+arrival-lives : (m : Machine) (a : Arrival) → Fit (m .session) → FedLives (arrivalWorked m a)
+unfolding arrivalWorked
+arrival-lives m nothing f = fit-lives f
+arrival-lives m (wholeText n) f = opened-lives m (take n (m .text)) f
+arrival-lives m (beatLine o) f = beatEnd-lives m o f
 
 -- ---- over
 
 -- a session that is over takes nothing in and prints nothing
-pub over-chunk : (m : Machine) (l : List ℕ) → m .session .phase ≡ OVER → chunk m l ≡ m
+pub over-chunk : (m : Machine) (l : List ℕ) → m .session .intake .phase ≡ OVER → chunk m l ≡ m
 unfolding chunk
-over-chunk m l o =
-    let P : Machine → Type 0 = λ y. y ≡ m in
-    either P (eqb (m .session .phase) TEXT) (λ e. absurd (omega (arith, eqb-true (m .session .phase) TEXT e))) λ e.
-    either P (eqb (m .session .phase) BEATS) (λ g. absurd (omega (arith, eqb-true (m .session .phase) BEATS g))) (λ g. refl)
+over-chunk m l o = let x = m .session .intake in rw (over-bytes x o l, over-bytes-kept x o (m .text) l)
 
-pub over-line : (m : Machine) → m .session .phase ≡ OVER → lineEnd m ≡ record { machine = m; output = [] }
-unfolding lineEnd
-over-line m o =
-    let P : Fed → Type 0 = λ y. y ≡ record { machine = m; output = [] } in
-    either P (eqb (m .session .phase) TEXT) (λ e. absurd (omega (arith, eqb-true (m .session .phase) TEXT e))) λ e.
-    either P (eqb (m .session .phase) BEATS) (λ g. absurd (omega (arith, eqb-true (m .session .phase) BEATS g))) (λ g. refl)
+pub over-line : (m : Machine) → m .session .intake .phase ≡ OVER → lineEnd m ≡ standing m
+unfolding lineEnd arrivalWorked
+over-line m o = let x = m .session .intake in rw (intake-line x o, over-line-kept x o (m .text))
 
--- so a session that is fit, or over after the last beat, is so throughout
+-- so a session that lives does so throughout
 pub chunk-lives : (m : Machine) (l : List ℕ) → Lives (m .session) → Lives (chunk m l .session)
-chunk-lives m l (inl f) = inl (chunk-fit m l f)
-chunk-lives m l (inr o) = inr (rw (over-chunk m l (o .0)) o)
+unfolding chunk
+chunk-lives m l v = record { intake = bytes-fit (m .session .intake) l (v .intake); totals = go (v .totals) }
+  where
+    go : FitTotals (m .session .totals) ⊎ ((m .session .intake .phase ≡ OVER) × (m .session .totals .beats ≡ maxBeats)) → FitTotals (m .session .totals) ⊎ ((bytesTaken (m .session .intake) l .phase ≡ OVER) × (m .session .totals .beats ≡ maxBeats))
+    go (inl f) = inl f
+    go (inr o) = inr (rw (over-bytes (m .session .intake) (o .0) l) o)
 
 pub line-lives : (m : Machine) → Lives (m .session) → Lives (lineEnd m .machine .session)
-line-lives m (inl f) = line-fit m f
-line-lives m (inr o) = inr (rw (over-line m (o .0)) o)
+line-lives m v = go (v .totals)
+  where
+    go : FitTotals (m .session .totals) ⊎ ((m .session .intake .phase ≡ OVER) × (m .session .totals .beats ≡ maxBeats)) → Lives (lineEnd m .machine .session)
+    go (inl f) =
+        let x = m .session .intake in
+        unfold lineEnd in arrival-lives (keeping m (lineKept x (m .text)) (lineOver x .intake)) (lineOver x .arrival) (record { intake = line-fit x (v .intake) .0; totals = f })
+    go (inr o) = rw (over-line m (o .0)) v

@@ -1,5 +1,5 @@
 -- The set text as the code takes it in, and the line * that ends it. Definitions only.
-use mathlib.Core.Bool.{true, false, _&&_}
+use mathlib.Core.Bool.{Bool, true, false, cond, _&&_, _||_}
 use mathlib.Core.List.{List, [], _∷_}
 use Prim.Native.Nat.{ℕ, _+_, min}
 use lib.Dec.{eqb}
@@ -28,6 +28,10 @@ unfoldable pub starOn : ℕ → List ℕ → ℕ
 starOn s [] = s
 starOn s (b ∷ bs) = starOn (starAfter s b) bs
 
+-- whether a line that ends there is *, with or without a CR behind it
+abbrev pub starEnds : ℕ → Bool
+starEnds s = eqb s 1 || eqb s 2
+
 -- bytes of a line of set text
 unfoldable pub placeOn : Place → List ℕ → Place
 placeOn p l = record { size = min keptSize (p .size + length l); start = p .start; star = starOn (p .star) l }
@@ -35,3 +39,7 @@ placeOn p l = record { size = min keptSize (p .size + length l); start = p .star
 -- its LF
 unfoldable pub placeEnd : Place → Place
 placeEnd p = record { size = min keptSize (p .size + 1); start = min keptSize (p .size + 1); star = 0 }
+
+-- where the set text ends if its last line has no LF: before the line *, or behind all of it
+abbrev pub lastSize : Place → ℕ
+lastSize p = cond (eqb (p .star) 1) (p .start) (p .size)

@@ -325,7 +325,7 @@ pub fn without_cr(r: HalfLine) -> HalfLine
     r
 }
 
-fn nothing_lent() -> MaybeLent
+pub fn nothing_lent() -> MaybeLent
     ensures { λ x. ⌜ x ≡ maybeLent none ⌝ }
 {
     MaybeLent {

@@ -1,32 +1,32 @@
-// A session of synrun: what it keeps between two pieces of its input, and how it works them line by line.
+// A session of synrun: the lines of its input, as the intake brings them, are worked and printed.
 ghost use mathlib.Core.Path.{_≡_};
 ghost use mathlib.Core.List.{List};
 ghost use Prim.Native.Nat.{ℕ, _≤_};
 ghost use lib.Dec.{eqb};
 ghost use lib.ListN.{length};
 ghost use Rattle.values.specs.PutAt.{putAt, IsPut};
-ghost use Rattle.transcript.specs.Machine.{OVER, begun, isFit, opened, textEnd, beatOf, beatEnd, chunk, lineEnd, textOver, lastOver, finishedText, worked};
-ghost use Rattle.transcript.specs.Output.{lastStart};
+ghost use Rattle.transcript.specs.Intake.{OVER};
+ghost use Rattle.transcript.specs.Machine.{begun, stopped, isFit, opened, beatOf, beatEnd, lineEnd, endAfter, finishedText, worked};
+ghost use Rattle.transcript.specs.Output.{lastStart, outSize};
 ghost use Rattle.transcript.specs.SessionAnswers.{IsFed, machineOf, stepAnswer};
-ghost use Rattle.transcript.specs.MaybeLent.{lentIn};
-ghost use Rattle.transcript.specs.SessionRoomLaws.{Fit, Lives};
-use crate::beat_line::HalfLine;
-use crate::beat_line::LAST_FIELD;
+ghost use Rattle.transcript.specs.MaybeLent.{lentIn, lentOr};
+ghost use Rattle.transcript.specs.TotalsLaws.{FitTotals};
+ghost use Rattle.transcript.specs.SessionRoomLaws.{Lives};
 use crate::beat_line::MaybeLent;
-use crate::beat_line::is_untouched;
-use crate::beat_line::no_half_line;
-use crate::beat_line::read_bytes;
-use crate::beat_line::read_lent;
-use crate::beat_line::without_cr;
 use crate::printing::LAST_START;
 use crate::printing::OUT;
+use crate::intake::BEATS;
+use crate::intake::Ending;
+use crate::intake::Intake;
+use crate::intake::OVER;
+use crate::intake::end_input;
+use crate::intake::end_line;
+use crate::intake::intake_fits;
+use crate::intake::no_intake;
+use crate::intake::stop;
+use crate::intake::take_in;
 use crate::printing::load_line;
 use crate::set_text::KEPT;
-use crate::set_text::Place;
-use crate::set_text::is_star;
-use crate::set_text::place_end;
-use crate::set_text::place_on;
-use crate::set_text::text_size;
 use crate::tally::tally_beat;
 use crate::totals::MAX_BEATS;
 use crate::totals::Totals;
@@ -34,25 +34,15 @@ use crate::totals::are_fit;
 use crate::totals::no_totals;
 use crate::totals::put_end;
 use crate::totals::put_error;
+use engine::empty_set;
 use reader::load;
-use text::buffer::put;
-use text::buffer::put_bytes;
 use text::bytes::Kind;
-use text::bytes::LF;
 use text::bytes::run_end;
 use tokens::token::SIZE;
 
-// The phases: set text, beat lines, over.
-const TEXT: u8 = 0;
-
-const BEATS: u8 = 1;
-
-const OVER: u8 = 2;
-
+// What is kept between two pieces of input.
 pub struct Session {
-    pub phase: u8,
-    pub place: Place,
-    pub half: HalfLine,
+    pub intake: Intake,
     pub totals: Totals,
 }
 
@@ -74,22 +64,16 @@ pub fn begin() -> Session
     ensures { λ x. ⌜ x ≡ begun ⌝ }
 {
     Session {
-        phase: TEXT,
-        place: Place {
-            size: 0,
-            start: 0,
-            star: 0,
-        },
-        half: no_half_line(),
+        intake: no_intake(),
         totals: no_totals(),
     }
 }
 
 // Whether a session is over: it prints nothing more.
 pub fn is_over(session: Session) -> bool
-    ensures { λ x. ⌜ x ≡ eqb (session .phase) OVER ⌝ }
+    ensures { λ x. ⌜ x ≡ eqb (session .intake .phase) OVER ⌝ }
 {
-    let phase = session.phase;
+    let phase = session.intake.phase;
     phase == OVER
 }
 
@@ -97,21 +81,25 @@ pub fn is_over(session: Session) -> bool
 fn is_fit(session: Session) -> bool
     ensures { λ x. ⌜ x ≡ isFit session ⌝ }
 {
-    let size = session.place.size;
-    if KEPT < size {
-        return false;
-    }
-    if size < session.place.start {
-        return false;
-    }
-    if LAST_FIELD < session.half.field {
+    let intake = session.intake;
+    if !intake_fits(intake) {
         return false;
     }
     let totals = session.totals;
     are_fit(totals)
 }
 
-// ---- beats
+// The session is over.
+fn stop_session(session: Session) -> Session
+    ensures { λ x. ⌜ x ≡ stopped session ⌝ }
+{
+    let intake = session.intake;
+    let mut x = session;
+    x.intake = stop(intake);
+    x
+}
+
+// ---- what came in is worked
 
 // A beat line that lends something: C, an O per order, and END behind the last beat.
 fn work_beat(
@@ -121,20 +109,18 @@ fn work_beat(
     out: &mut [u8],
     at: usize,
 ) -> Ended
-    requires { ⌜ Fit session × (at ≤ lastStart) ⌝ }
+    requires { ⌜ FitTotals (session .totals) × (at ≤ lastStart) ⌝ }
     ensures { λ x. ⌜ ((t : List ℕ) → IsFed (beatOf (machineOf t (now (set .entry)) session) (lentIn lent)) t (now (set .entry)) (now (out .entry)) at x (now (out .exit))) ⌝ }
 {
     let totals = session.totals;
     let t = tally_beat(totals, set, lent, out, at);
     let next = t.totals;
     let mut x = session;
-    x.half = no_half_line();
     x.totals = next;
     if next.beats == MAX_BEATS {
         let end = put_end(next, out, t.end);
-        x.phase = OVER;
         return Ended {
-            session: x,
+            session: stop_session(x),
             end: end,
         };
     }
@@ -144,100 +130,50 @@ fn work_beat(
     }
 }
 
-// A beat line that was read: E if it is ill-formed.
-fn beat_end(session: Session, set: &[u32; SIZE], half: HalfLine, out: &mut [u8], at: usize) -> Ended
-    requires { ⌜ Fit session × (at ≤ lastStart) ⌝ }
-    ensures { λ x. ⌜ ((t : List ℕ) → IsFed (beatEnd (machineOf t (now (set .entry)) session) half) t (now (set .entry)) (now (out .entry)) at x (now (out .exit))) ⌝ }
+// A beat line: E if it is ill-formed.
+fn beat_end(
+    session: Session,
+    set: &[u32; SIZE],
+    lent: MaybeLent,
+    out: &mut [u8],
+    at: usize,
+) -> Ended
+    requires { ⌜ FitTotals (session .totals) × (at ≤ lastStart) ⌝ }
+    ensures { λ x. ⌜ ((t : List ℕ) → IsFed (beatEnd (machineOf t (now (set .entry)) session) (lentOr lent)) t (now (set .entry)) (now (out .entry)) at x (now (out .exit))) ⌝ }
 {
-    let lent = read_lent(half);
     let good = lent.good;
     if good {
         return work_beat(session, set, lent, out, at);
     }
     let totals = session.totals;
     let end = put_error(totals, out, at);
-    let mut x = session;
-    x.phase = OVER;
     Ended {
-        session: x,
+        session: stop_session(session),
         end: end,
     }
-}
-
-// ---- lines
-
-// Bytes of a line, no LF among them.
-fn take_bytes(session: Session, text: &mut [u8; KEPT], part: &[u8]) -> Session
-    requires { ⌜ Lives session ⌝ }
-    ensures { λ x. ⌜ ((s : List ℕ) → machineOf (now (text .exit)) s x ≡ chunk (machineOf (now (text .entry)) s session) (now (part .entry))) ⌝ }
-{
-    let mut x = session;
-    let phase = session.phase;
-    if phase == TEXT {
-        let place = session.place;
-        put_bytes(text, place.size, part);
-        x.place = place_on(place, part);
-        return x;
-    }
-    if phase == BEATS {
-        let half = session.half;
-        x.half = read_bytes(part, half);
-        return x;
-    }
-    x
 }
 
 // The set text is whole: it is loaded.
 fn open_set(session: Session, t: &[u8], set: &mut [u32; SIZE], out: &mut [u8], at: usize) -> Ended
     requires { ⌜ at ≤ lastStart ⌝ }
-    ensures { λ x. ⌜ ((m : List ℕ) → IsFed (opened (machineOf m (now (set .entry)) session) (now (t .entry))) m (now (set .exit)) (now (out .entry)) at x (now (out .exit))) ⌝ }
+    ensures { λ x. ⌜ ((m s : List ℕ) → IsFed (opened (machineOf m s session) (now (t .entry))) m (now (set .exit)) (now (out .entry)) at x (now (out .exit))) ⌝ }
 {
     let l = load(t, set);
     let code = l.code;
-    let mut x = session;
     if code != 0 {
-        x.phase = OVER;
         let end = load_line(out, at, code, l.line);
         return Ended {
-            session: x,
+            session: stop_session(session),
             end: end,
         };
     }
-    x.phase = BEATS;
-    x.half = no_half_line();
     Ended {
-        session: x,
+        session: session,
         end: at,
     }
 }
 
-// The LF of a line of set text: behind the line * the text before it is whole.
-fn text_end(
-    session: Session,
-    text: &mut [u8; KEPT],
-    set: &mut [u32; SIZE],
-    out: &mut [u8],
-    at: usize,
-) -> Ended
-    requires { ⌜ Fit session × (at ≤ lastStart) ⌝ }
-    ensures { λ x. ⌜ IsFed (textEnd (machineOf (now (text .entry)) (now (set .entry)) session)) (now (text .exit)) (now (set .exit)) (now (out .entry)) at x (now (out .exit)) ⌝ }
-{
-    let place = session.place;
-    if is_star(place.star) {
-        let all = &text[..];
-        let start = place.start;
-        return open_set(session, &all[..start], set, out, at);
-    }
-    put(text, place.size, LF);
-    let mut x = session;
-    x.place = place_end(place);
-    Ended {
-        session: x,
-        end: at,
-    }
-}
-
-// An LF.
+// An LF: what it brings is worked.
 fn line_end(
     session: Session,
     text: &mut [u8; KEPT],
@@ -248,17 +184,26 @@ fn line_end(
     requires { ⌜ Lives session × (at ≤ lastStart) ⌝ }
     ensures { λ x. ⌜ IsFed (lineEnd (machineOf (now (text .entry)) (now (set .entry)) session)) (now (text .exit)) (now (set .exit)) (now (out .entry)) at x (now (out .exit)) ⌝ }
 {
-    let phase = session.phase;
-    if phase == TEXT {
-        return text_end(session, text, set, out, at);
-    }
-    if phase == BEATS {
-        let half = session.half;
-        return beat_end(session, set, without_cr(half), out, at);
-    }
-    Ended {
-        session: session,
-        end: at,
+    let intake = session.intake;
+    let b = end_line(intake, text);
+    let next = b.intake;
+    let mut x = session;
+    x.intake = next;
+    let ending = b.ending;
+    match ending {
+        Ending::Nothing => Ended {
+            session: x,
+            end: at,
+        },
+        Ending::Text => {
+            let all = &text[..];
+            let size = b.size;
+            open_set(x, &all[..size], set, out, at)
+        }
+        Ending::Beat => {
+            let lent = b.lent;
+            beat_end(x, set, lent, out, at)
+        }
     }
 }
 
@@ -289,7 +234,8 @@ pub fn step(
     }
     while at <= LAST_START {
         let end = run_end(input, i, Kind::Line);
-        s = take_bytes(s, text, &input[i..end]);
+        let intake = s.intake;
+        s.intake = take_in(intake, text, &input[i..end]);
         if input.len() <= end {
             return Stepped {
                 session: s,
@@ -310,34 +256,17 @@ pub fn step(
     }
 }
 
-// All input is set text: L, or END of no beat.
-fn text_over(session: Session, t: &[u8], out: &mut [u8]) -> usize
-    ensures { λ x. ⌜ ((m s : List ℕ) → IsPut (now (out .entry)) 0 (textOver (machineOf m s session) (now (t .entry))) (now (out .exit)) x) ⌝ }
+// END, where beat lines are still awaited.
+fn put_last(session: Session, out: &mut [u8], at: usize) -> usize
+    requires { ⌜ at ≤ outSize ⌝ }
+    ensures { λ x. ⌜ IsPut (now (out .entry)) at (endAfter session) (now (out .exit)) x ⌝ }
 {
-    let mut lines = [0u32; SIZE];
-    let l = load(t, &mut lines);
-    let code = l.code;
-    if code != 0 {
-        return load_line(out, 0, code, l.line);
+    let phase = session.intake.phase;
+    if phase != BEATS {
+        return at;
     }
     let totals = session.totals;
-    put_end(totals, out, 0)
-}
-
-// A last beat line without LF.
-fn last_over(session: Session, set: &[u32; SIZE], half: HalfLine, out: &mut [u8]) -> usize
-    requires { ⌜ Fit session ⌝ }
-    ensures { λ x. ⌜ ((t : List ℕ) → IsPut (now (out .entry)) 0 (lastOver (machineOf t (now (set .entry)) session) (beatEnd (machineOf t (now (set .entry)) session) half)) (now (out .exit)) x) ⌝ }
-{
-    let f = beat_end(session, set, half, out, 0);
-    let s = f.session;
-    let end = f.end;
-    let phase = s.phase;
-    if phase == BEATS {
-        let totals = s.totals;
-        return put_end(totals, out, end);
-    }
-    end
+    put_end(totals, out, at)
 }
 
 // The end of input: what is still to be printed, and how many bytes it is.
@@ -348,20 +277,27 @@ pub fn finish(session: Session, text: &[u8; KEPT], set: &[u32; SIZE], out: &mut 
     if !is_fit(session) {
         return 0;
     }
-    let phase = session.phase;
-    if phase == TEXT {
-        let all = &text[..];
-        let place = session.place;
-        let n = text_size(place);
-        return text_over(session, &all[..n], out);
+    let intake = session.intake;
+    let b = end_input(intake);
+    let next = b.intake;
+    let mut x = session;
+    x.intake = next;
+    let ending = b.ending;
+    match ending {
+        Ending::Nothing => put_last(x, out, 0),
+        Ending::Text => {
+            let mut loaded = empty_set();
+            let all = &text[..];
+            let size = b.size;
+            let f = open_set(x, &all[..size], &mut loaded, out, 0);
+            let s = f.session;
+            put_last(s, out, f.end)
+        }
+        Ending::Beat => {
+            let lent = b.lent;
+            let f = beat_end(x, set, lent, out, 0);
+            let s = f.session;
+            put_last(s, out, f.end)
+        }
     }
-    if phase != BEATS {
-        return 0;
-    }
-    let half = session.half;
-    if is_untouched(half) {
-        let totals = session.totals;
-        return put_end(totals, out, 0);
-    }
-    last_over(session, set, half, out)
 }

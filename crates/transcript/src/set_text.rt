@@ -1,9 +1,7 @@
 // The set text as it comes in: how much of it is kept, and whether its last line is the line * that ends it.
 ghost use mathlib.Core.Path.{_≡_};
-ghost use mathlib.Core.Bool.{cond, _||_};
 ghost use Prim.Native.Nat.{_+_, _≤_, min};
-ghost use lib.Dec.{eqb};
-ghost use Rattle.transcript.specs.SetText.{keptSize, starAfter, starOn, placeOn, placeEnd};
+ghost use Rattle.transcript.specs.SetText.{keptSize, noPlace, starAfter, starOn, starEnds, placeOn, placeEnd, lastSize};
 use text::bytes::CR;
 use tokens::token::TEXT_SIZE;
 
@@ -17,6 +15,17 @@ pub struct Place {
     pub size: usize,
     pub start: usize,
     pub star: u8,
+}
+
+// Before the first byte.
+pub fn no_place() -> Place
+    ensures { λ x. ⌜ x ≡ noPlace ⌝ }
+{
+    Place {
+        size: 0,
+        start: 0,
+        star: 0,
+    }
 }
 
 // What a line is with one more byte.
@@ -49,7 +58,7 @@ fn star_on(part: &[u8], star: u8) -> u8
 
 // Whether a line is *, with or without a CR behind it.
 pub fn is_star(star: u8) -> bool
-    ensures { λ x. ⌜ x ≡ eqb star 1 || eqb star 2 ⌝ }
+    ensures { λ x. ⌜ x ≡ starEnds star ⌝ }
 {
     if star == 1 {
         return true;
@@ -97,7 +106,7 @@ pub fn place_end(place: Place) -> Place
 
 // Where the set text ends if its last line has no LF: before the line *, or behind all of it.
 pub fn text_size(place: Place) -> usize
-    ensures { λ x. ⌜ x ≡ cond (eqb (place .star) 1) (place .start) (place .size) ⌝ }
+    ensures { λ x. ⌜ x ≡ lastSize place ⌝ }
 {
     let star = place.star;
     if star == 1 { place.start } else { place.size }

@@ -9,4 +9,4 @@ begin-spec =
     (tie.spec
     (λ c κs. search needs)
     (λ c κs. search needs)
-    (λ c. rw (c .before .no-half-line .ensures, c .no-totals .ensures)))
+    (λ c. rw (c .before .no-intake .ensures, c .no-totals .ensures)))

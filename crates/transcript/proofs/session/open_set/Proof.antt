@@ -11,14 +11,11 @@ open-set-spec =
     (tie.spec
     (λ c κs. search needs)
     (λ c κs. search needs)
+    (λ c κs. search needs)
     (λ c. search needs)
-    (λ c m.
-    let p = c .before .before in
+    (λ c m s.
+    let p = c .before .before .before in
     let i = p .before .before in
     let l = i .before .load in
-    fed (opens-not m _ _ _ (l .ensures .0) (l .ensures .1) (i .if1 .taken)) (p .load-line .ensures))
-    (λ c κs. search needs)
-    (λ c m.
-    let i = c .before in
-    let l = i .before .load in
-    fed (opens m _ _ _ (l .ensures .0) (l .ensures .1) (i .if1 .left) (c .no-half-line .ensures)) put-nothing))
+    fed (opens-not m s _ _ (l .ensures .0) (l .ensures .1) (i .if1 .taken) (c .stop-session .ensures)) (p .load-line .ensures))
+    (λ c m s. let l = c .before .load in fed (opens m s _ _ (l .ensures .0) (l .ensures .1) (c .if1 .left)) put-nothing))

@@ -11,25 +11,22 @@ pub work-beat-spec : {M : Type 1} → statement M
 work-beat-spec =
     tie.close
     (tie.spec
-    (λ c κs. let p = c .before .before .before .pre in (p .0 .totals, p .1))
-    (λ c κs. search needs)
+    (λ c κs. c .before .before .before .pre)
     (λ c κs.
-    let b = c .before .before .before .before .before .before .before in
+    let b = c .before .before .before .before .before .before in
     let a = b .before .before .before .before in
     end-near (now (a .args .set)) (a .args .session .totals) (lentIn (a .args .lent)) (a .pre .1) (b .tally-beat .ensures .1))
+    (λ c κs. search needs)
     (λ c. search needs)
     (λ c t.
-    let e = c .before .before in
+    let e = c .before .before .before in
     let i = e .before .before in
-    let r = i .before .before in
-    let b = r .before .before .before .before in
+    let b = i .before .before .before .before .before in
     let a = b .before .before .before .before in
-    let l = lentIn (a .args .lent) in
-    fed (beat-last t _ _ l (b .tally-beat .ensures .0) (r .no-half-line .ensures) (i .if1 .taken))
+    fed (beat-last t _ _ (lentIn (a .args .lent)) (b .tally-beat .ensures .0) (i .if1 .taken) (c .stop-session .ensures))
     (put-both (b .tally-beat .ensures .1) (e .put-end .ensures)))
     (λ c. search needs)
     (λ c t.
-    let r = c .before .before in
-    let b = r .before .before .before .before in
+    let b = c .before .before .before .before .before in
     let a = b .before .before .before .before in
-    fed (beat-more t _ _ (lentIn (a .args .lent)) (b .tally-beat .ensures .0) (r .no-half-line .ensures) (c .if1 .left)) (b .tally-beat .ensures .1)))
+    fed (beat-more t _ _ (lentIn (a .args .lent)) (b .tally-beat .ensures .0) (c .if1 .left)) (b .tally-beat .ensures .1)))
