@@ -21,6 +21,7 @@ unfolding sought
 sought-some n k zero h = absurd (h refl)
 sought-some n k (suc t) h = refl
 
+-- n is not tried yet, or was
 sought-from : (n k : ℕ) → k ≤ n → sought n k 0 ≡ n
 unfolding sought
 sought-from n k h = rw (sought, le-leb k n h)
@@ -33,6 +34,10 @@ sought-below n k (suc t) h = refl
 sought-zero : (k : ℕ) → sought 0 k 0 ≡ 0
 unfolding sought
 sought-zero k = decide _ (leb k 0) (λ e. rw (sought, e)) (λ e. rw (sought, e))
+
+-- nothing was found
+pub going-on : (n k t : ℕ) → t ≡ 0 → sought n k 0 ≡ sought n k t
+going-on n k t z = ap (sought n k) (sym z)
 
 -- nothing is sought from a to b
 sought-past : (n a b t : ℕ) → a ≤ b → ((n ≡ 0 → ⊥) → a ≤ n → b ≤ n) → sought n b t ≡ sought n a t
@@ -57,7 +62,7 @@ module _ (word name : List ℕ) (t k : ℕ) (some : 0 < length word) (real : 0 <
     pub is-named : same ≡ true → sought (wordToken word) (k + 1) k ≡ sought (wordToken word) k t
     is-named h =
         let e : wordToken word ≡ k = words-both-ways word k (some-bytes word some) (λ z. omega arith) .1 (own ∙ sym (same-is word name (sym g ∙ h))) in
-        sought-some (wordToken word) (k + 1) k (λ z. omega arith) ∙ sym e ∙ sym (sought-from (wordToken word) k (omega arith)) ∙ ap (sought (wordToken word) k) (sym none)
+        sought-some (wordToken word) (k + 1) k (λ z. omega arith) ∙ sym e ∙ sym (sought-from (wordToken word) k (omega arith)) ∙ going-on (wordToken word) k t none
 
     other : same ≡ false → wordToken word ≡ k → ⊥
     other h e = contrary (is-same word name (sym (words-both-ways word k (some-bytes word some) (λ z. omega arith) .0 e) ∙ own)) (sym g ∙ h)
@@ -65,7 +70,7 @@ module _ (word name : List ℕ) (t k : ℕ) (some : 0 < length word) (real : 0 <
     pub not-named : same ≡ false → sought (wordToken word) (k + 1) 0 ≡ sought (wordToken word) k t
     not-named h =
         let o = other h in
-        sought-past (wordToken word) k (k + 1) 0 (omega arith) (λ _ l. above (wordToken word) k l o) ∙ ap (sought (wordToken word) k) (sym none)
+        sought-past (wordToken word) k (k + 1) 0 (omega arith) (λ _ l. above (wordToken word) k l o) ∙ going-on (wordToken word) k t none
       where
         above : (n k : ℕ) → k ≤ n → (n ≡ k → ⊥) → k + 1 ≤ n
         above n k l o = decide _ (leb (k + 1) n) (leb-true (k + 1) n) (λ e. let g = leb-false (k + 1) n e in absurd (o (omega arith)))
@@ -89,6 +94,7 @@ passes : (f : List ℕ → ℕ → Bool) (word : List ℕ) → rows f words ≡ 
 unfolding wordToken
 passes f word g z = found-passes f words word g z
 
+-- so no token of such a word stands from a to b, none from a on, none below a
 module _ (p : List ℕ → Bool) (word : List ℕ) (h : p word ≡ true) where
   past : (a b t : ℕ) → a ≤ b → rows (isPast p a b) words ≡ true → sought (wordToken word) b t ≡ sought (wordToken word) a t
   past a b t l g =
@@ -122,15 +128,15 @@ module _ (word : List ℕ) where
       let w = eq-eqb (getD word 0 0) DOLLAR d in
       sym (last withDollar word w (IM + 1) t (omega arith) refl) ∙ e ∙ first withDollar word w IN refl
 
-  -- the keywords were; and the actions and the axes
-  module _ (d : getD word 0 0 ≡ DOLLAR → ⊥) (t : ℕ) (e : sought (wordToken word) (XOR + 1) t ≡ sought (wordToken word) ID 0) where
+  -- the others were: the keywords up to b; and the actions and the axes
+  module _ (d : getD word 0 0 ≡ DOLLAR → ⊥) where
     plain : without word ≡ true
     plain = rw (ne-eqb (getD word 0 0) DOLLAR d)
 
-    pub word-keyword : (t ≡ 0 → ⊥) → t ≡ wordToken word
-    word-keyword z = sym (sought-some (wordToken word) (XOR + 1) t z) ∙ e ∙ first without word plain ID refl
+    pub word-keyword : (b t : ℕ) → sought (wordToken word) b t ≡ sought (wordToken word) ID 0 → (t ≡ 0 → ⊥) → t ≡ wordToken word
+    word-keyword b t e z = sym (sought-some (wordToken word) b t z) ∙ e ∙ first without word plain ID refl
 
-    pub word-action : t ≡ 0 → (u v : ℕ) → sought (wordToken word) (UNLOCK + 1) u ≡ sought (wordToken word) POS 0 → sought (wordToken word) (W + 1) v ≡ sought (wordToken word) X u → v ≡ wordToken word
-    word-action z u v g f =
+    pub word-action : (t u v : ℕ) → sought (wordToken word) (XOR + 1) t ≡ sought (wordToken word) ID 0 → t ≡ 0 → sought (wordToken word) (UNLOCK + 1) u ≡ sought (wordToken word) POS 0 → sought (wordToken word) (W + 1) v ≡ sought (wordToken word) X u → v ≡ wordToken word
+    word-action t u v e z g f =
         sym (last without word plain (W + 1) v (omega arith) refl) ∙ f ∙ past without word plain (UNLOCK + 1) X u (omega arith) refl ∙ g
-        ∙ past without word plain (XOR + 1) POS 0 (omega arith) refl ∙ ap (sought (wordToken word) (XOR + 1)) (sym z) ∙ e ∙ first without word plain ID refl
+        ∙ past without word plain (XOR + 1) POS 0 (omega arith) refl ∙ going-on (wordToken word) (XOR + 1) t z ∙ e ∙ first without word plain ID refl

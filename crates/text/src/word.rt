@@ -157,9 +157,13 @@ pub fn word_token(word: &[u8]) -> u32
     if word[0] == DOLLAR {
         return from_timer(from_in(0, word), word);
     }
-    let t = from_do(from_id(0, word), word);
+    let t = from_id(0, word);
     if t != 0 {
         return t;
+    }
+    let u = from_do(0, word);
+    if u != 0 {
+        return u;
     }
     from_x(from_pos(0, word), word)
 }
