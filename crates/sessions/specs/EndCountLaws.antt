@@ -250,9 +250,9 @@ module _ (s : List ℕ) (n : Totals) (l : Lent) (rest : List ℕ) where
 abbrev endFrom : Totals → List ℕ → List ℕ
 endFrom n shown = endLine (n .beats + linesIn isBeat shown) (n .coded + linesIn isCoded shown) (n .orders + linesIn isOrder shown)
 
--- E with the number of the line behind those of the beats
+-- E with the number of the line behind those taken, each a beat
 abbrev errorFrom : Totals → List ℕ → List ℕ
-errorFrom n shown = errorLine (n .beats + linesIn isBeat shown + 1)
+errorFrom n shown = errorLine (n .lines + linesIn isBeat shown + 1)
 
 nothing-counted : (n : Totals) → (n .beats + linesIn isBeat [] ≡ n .beats) × (n .coded + linesIn isCoded [] ≡ n .coded) × (n .orders + linesIn isOrder [] ≡ n .orders)
 unfolding count split
@@ -261,8 +261,9 @@ nothing-counted n = (omega arith, omega arith, omega arith)
 end-now : (n : Totals) → ended n ≡ endFrom n []
 end-now n = let e = nothing-counted n in rw (e .0, e .1, e .2)
 
-error-now : (n : Totals) → errorLine (n .beats + 1) ≡ errorFrom n []
-error-now n = let e = nothing-counted n in rw (e .0)
+error-now : (n : Totals) → errorLine (n .lines + 1) ≡ errorFrom n []
+unfolding count split
+error-now n = let e : n .lines + 1 ≡ n .lines + linesIn isBeat [] + 1 = omega arith in ap errorLine e
 
 module _ (s : List ℕ) (n : Totals) (x : Lent) (shown : List ℕ) where
   abbrev then : Totals
@@ -281,7 +282,7 @@ module _ (s : List ℕ) (n : Totals) (x : Lent) (shown : List ℕ) where
   error-later : errorFrom then shown ≡ errorFrom n (beatText s n x ++ shown)
   error-later =
       let b = beats-one s n x shown in
-      let p : then .beats + linesIn isBeat shown + 1 ≡ n .beats + linesIn isBeat (beatText s n x ++ shown) + 1 = omega arith in
+      let p : then .lines + linesIn isBeat shown + 1 ≡ n .lines + linesIn isBeat (beatText s n x ++ shown) + 1 = omega arith in
       ap errorLine p
 
   -- a beat before what follows

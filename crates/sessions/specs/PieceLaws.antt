@@ -2,7 +2,7 @@
 use mathlib.Core.Path.{_≡_, refl, sym, ap, _∙_}
 use mathlib.Core.Bool.{false}
 use mathlib.Core.List.{List, [], _∷_, _++_, append-assoc, append-nil}
-use mathlib.Core.Logic.{_⊎_, inl, inr}
+use mathlib.Core.Logic.{inl, inr}
 use Prim.Native.Nat.{ℕ, zero, suc, _+_, min, _≤_, _<_}
 use native.Mathlib.Omega.{arith}
 use lib.Dec.{eqb, leb, ltb}
@@ -17,8 +17,7 @@ use Rattle.text.specs.Lines.{before, split, textLines}
 use Rattle.text.specs.LinesLaws.{line-end, line-on, run-end, run-more, lines-last, split-some}
 use Rattle.transcript.specs.declared.set_text.Place.{Place}
 use Rattle.transcript.specs.declared.session.Session.{Session}
-use Rattle.transcript.specs.Totals.{maxBeats, areFit}
-use Rattle.transcript.specs.TotalsLaws.{FitTotals}
+use Rattle.transcript.specs.Totals.{areFit}
 use Rattle.transcript.specs.Output.{outSize, lineRoom}
 use Rattle.transcript.specs.Synrun.{synrun}
 use Rattle.transcript.specs.Intake.{OVER, withPlace, intakeFits}
@@ -26,7 +25,7 @@ use Rattle.transcript.specs.IntakeLaws.{FitIntake}
 use Rattle.transcript.specs.Machine.{Machine, Fed, begun, isFit, standing, keeping, chunk, lineEnd, behind, fedLines, finished, finishedText, Work, workFrom, worked}
 use Rattle.transcript.specs.SetText.{keptSize, placeOn, starOn}
 use Rattle.transcript.specs.HalfLine.{readOn}
-use Rattle.transcript.specs.SessionRoomLaws.{fit-parts, fit-whole, Lives, fit-lives, chunk-lives, line-lives}
+use Rattle.transcript.specs.SessionRoomLaws.{fit-parts, fit-whole, LiveTotals, Lives, fit-lives, chunk-lives, line-lives}
 use Rattle.transcript.specs.BeatTakenLaws.{taken-some}
 use Rattle.sessions.specs.MachineLaws.{Held, chunk-text, chunk-beats, chunk-else, byPhase, fed-line, fed-held, pieces}
 use Rattle.sessions.specs.SessionLaws.{prints, over-fed, over-finished, starting, session-prints}
@@ -69,7 +68,7 @@ first-line (b ∷ bs) u h =
 unfit-over : {x : Session} → Lives x → isFit x ≡ false → x .intake .phase ≡ OVER
 unfit-over {x} v e = go (v .totals)
   where
-    go : FitTotals (x .totals) ⊎ ((x .intake .phase ≡ OVER) × (x .totals .beats ≡ maxBeats)) → x .intake .phase ≡ OVER
+    go : LiveTotals x → x .intake .phase ≡ OVER
     go (inl f) = let q = fit-whole x (record { intake = v .intake; totals = f }) in clash (cc)
     go (inr o) = o .0
 

@@ -91,10 +91,10 @@ module _ (s : List ℕ) (n : Totals) where
   beats-over [] h = refl
   beats-over (l ∷ ls) h = either (λ (y : List ℕ). y ≡ ended n) (eqb (n .beats) maxBeats) (λ e. refl) (λ e. clash (cc))
 
-  beats-none : (l : List ℕ) (ls : List (List ℕ)) → eqb (n .beats) maxBeats ≡ false → lineLent l ≡ none → beatsText s n (l ∷ ls) ≡ errorLine (n .beats + 1)
+  beats-none : (l : List ℕ) (ls : List (List ℕ)) → eqb (n .beats) maxBeats ≡ false → lineLent l ≡ none → beatsText s n (l ∷ ls) ≡ errorLine (n .lines + 1)
   unfolding beatsText
   beats-none l ls h g =
-      let P : List ℕ → Type 0 = λ y. y ≡ errorLine (n .beats + 1) in
+      let P : List ℕ → Type 0 = λ y. y ≡ errorLine (n .lines + 1) in
       either P (eqb (n .beats) maxBeats) (λ e. clash (cc)) (λ e. byLent P (lineLent l) (λ u. refl) (λ x u. clash (cc)))
 
   pub beats-some : (l : List ℕ) (ls : List (List ℕ)) (x : Lent) → eqb (n .beats) maxBeats ≡ false → lineLent l ≡ some x →
@@ -108,7 +108,7 @@ module _ (s : List ℕ) (n : Totals) where
 abbrev beating : List ℕ → List ℕ → Place → Totals → HalfLine → Machine
 beating t s p n r = record {
   text = t;
-  lines = s;
+  set = s;
   session = record { intake = record { phase = BEATS; place = p; half = r }; totals = n };
 }
 
@@ -119,7 +119,7 @@ module _ (t s : List ℕ) (p : Place) (n : Totals) where
 
   -- an ill-formed line
   abbrev illEnded : Fed
-  illEnded = record { machine = record { text = t; lines = s; session = stopped (awaiting .session) }; output = errorLine (n .beats + 1) }
+  illEnded = record { machine = record { text = t; set = s; session = stopped (awaiting .session) }; output = errorLine (n .lines + 1) }
 
   end-none : beatEnd awaiting none ≡ illEnded
   unfolding beatEnd
@@ -131,7 +131,7 @@ module _ (t s : List ℕ) (p : Place) (n : Totals) where
 
     -- the last beat, and any other
     abbrev lastBeat : Fed
-    lastBeat = record { machine = record { text = t; lines = s; session = stopped (withTotals (awaiting .session) next) }; output = beatText s n x ++ ended next }
+    lastBeat = record { machine = record { text = t; set = s; session = stopped (withTotals (awaiting .session) next) }; output = beatText s n x ++ ended next }
 
     abbrev oneBeat : Fed
     oneBeat = record { machine = beating t s p next noHalfLine; output = beatText s n x }
@@ -166,7 +166,7 @@ module _ (t s : List ℕ) (p : Place) (n : Totals) where
   last-beat l h =
       let on : Option Lent → List ℕ = λ o. lastOutput (beatEnd awaiting o) in
       byOption (on (lineLent l) ≡ beatsText s n (l ∷ [])) (lineLent l)
-      (λ e. ap on e ∙ ap lastOutput end-none ∙ append-nil (errorLine (n .beats + 1)) ∙ sym (beats-none s n l [] h e))
+      (λ e. ap on e ∙ ap lastOutput end-none ∙ append-nil (errorLine (n .lines + 1)) ∙ sym (beats-none s n l [] h e))
       (λ x e. decide (on (lineLent l) ≡ beatsText s n (l ∷ [])) (eqb (next x .beats) maxBeats)
       (λ g. ap on e ∙ ap lastOutput (beat-last x g) ∙ append-nil (beatText s n x ++ ended (next x)) ∙ sym (beats-some s n l [] x h e))
       (λ g. ap on e ∙ ap lastOutput (beat-more x g) ∙ sym (beats-some s n l [] x h e)))
@@ -186,7 +186,7 @@ module _ (t s : List ℕ) (p : Place) where
       let on : Option Lent → List ℕ = λ o. to (beatEnd (awaiting t s p n) o) in
       prints-line (awaiting t s p n) l k ls ∙ ap to (line-read t s p n l) ∙ ap on (lent-ended l)
       ∙ byOption (on (lineLent c) ≡ beatsText s n (c ∷ rest)) (lineLent c)
-      (λ e. ap on e ∙ ap to (end-none t s p n) ∙ over-onward _ (errorLine (n .beats + 1)) (k ∷ ls) refl ∙ sym (beats-none s n c rest h e))
+      (λ e. ap on e ∙ ap to (end-none t s p n) ∙ over-onward _ (errorLine (n .lines + 1)) (k ∷ ls) refl ∙ sym (beats-none s n c rest h e))
       (λ x e. decide (on (lineLent c) ≡ beatsText s n (c ∷ rest)) (eqb (next t s p n x .beats) maxBeats)
       (λ z. ap on e ∙ ap to (beat-last t s p n x z) ∙ over-onward _ (beatText s n x ++ ended (next t s p n x)) (k ∷ ls) refl
       ∙ ap (λ (y : List ℕ). beatText s n x ++ y) (sym (beats-over s (next t s p n x) rest z)) ∙ sym (beats-some s n c rest x h e))
@@ -352,7 +352,7 @@ atLine n = record { size = n; start = n; star = 0 }
 abbrev texting : List ℕ → List ℕ → Place → Machine
 texting t s p = record {
   text = t;
-  lines = s;
+  set = s;
   session = record { intake = record { phase = TEXT; place = p; half = noHalfLine }; totals = noTotals };
 }
 
@@ -370,7 +370,7 @@ module _ (t s : List ℕ) (p : Place) where
   takenText x = record { machine = awaiting t (loadSet x) p noTotals; output = [] }
 
   abbrev refusedText : List ℕ → ℕ → Fed
-  refusedText x c = record { machine = record { text = t; lines = loadSet x; session = stopped (whole .session) }; output = loadLine (suc c) (loadAnswer x .line) }
+  refusedText x c = record { machine = record { text = t; set = loadSet x; session = stopped (whole .session) }; output = loadLine (suc c) (loadAnswer x .line) }
 
   opened-zero : (x : List ℕ) → loadAnswer x .code ≡ 0 → opened whole x ≡ takenText x
   unfolding opened
@@ -539,7 +539,7 @@ text-prints (l ∷ h ∷ ls) t s d g n k =
 
 -- a machine at the beginning, whatever its text and its set hold
 abbrev pub starting : List ℕ → List ℕ → Machine
-starting t s = record { text = t; lines = s; session = begun }
+starting t s = record { text = t; set = s; session = begun }
 
 -- what it prints, and what it prints at the end of input, is all that the definition has
 pub session-prints : (text set t : List ℕ) → length text ≡ keptSize → let f = fedLines (starting text set) (textLines t) in f .output ++ finished (f .machine) ≡ synrun t

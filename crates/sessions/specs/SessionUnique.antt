@@ -23,8 +23,8 @@ module _ (session : Session) (text set out : List ℕ) where
   -- a step, with the kept text, the set and the buffer at exit
   pub step-unique : (input : List ℕ) (x y : Stepped) (t u s v c d : List ℕ) →
       let w = worked (machineOf text set session) input in
-      x ≡ stepAnswer w → t ≡ w .machine .text → s ≡ w .machine .lines → c ≡ putAt out 0 (w .output) →
-      y ≡ stepAnswer w → u ≡ w .machine .text → v ≡ w .machine .lines → d ≡ putAt out 0 (w .output) → (x ≡ y) × (t ≡ u) × (s ≡ v) × (c ≡ d)
+      x ≡ stepAnswer w → t ≡ w .machine .text → s ≡ w .machine .set → c ≡ putAt out 0 (w .output) →
+      y ≡ stepAnswer w → u ≡ w .machine .text → v ≡ w .machine .set → d ≡ putAt out 0 (w .output) → (x ≡ y) × (t ≡ u) × (s ≡ v) × (c ≡ d)
   step-unique input x y t u s v c d e f g h k l m n = (unique e k, unique f l, unique g m, unique h n)
 
   -- the end of input, with the buffer at exit

@@ -2,7 +2,7 @@
 use mathlib.Core.Path.{_≡_, refl, sym, ap, _∙_}
 use mathlib.Core.Bool.{true, false}
 use mathlib.Core.List.{List, [], _++_}
-use mathlib.Core.Logic.{_⊎_, inl, inr}
+use mathlib.Core.Logic.{inl, inr}
 use mathlib.Core.Option.{Option, none, some}
 use Prim.Native.Nat.{ℕ, zero, suc, _+_, _≤_}
 use native.Mathlib.Omega.{arith}
@@ -25,13 +25,13 @@ use Rattle.transcript.specs.Totals.{maxBeats, ended, areFit}
 use Rattle.transcript.specs.TotalsLaws.{FitTotals}
 use Rattle.transcript.specs.Tally.{counted, answerOf, beatText}
 use Rattle.transcript.specs.SetText.{keptSize}
-use Rattle.transcript.specs.Intake.{OVER, intakeFits, Arrival, nothing, wholeText, beatLine, Arrived, nothingCame, lineOver, lineKept, inputOver}
+use Rattle.transcript.specs.Intake.{intakeFits, Arrival, nothing, wholeText, beatLine, Arrived, lineOver, lineKept, inputOver}
 use Rattle.transcript.specs.IntakeAnswers.{endingOf, sizeIn, lentBy, broughtBy}
 use Rattle.transcript.specs.IntakeLaws.{FitIntake, line-fit, input-fit, over-line}
 use Rattle.transcript.specs.Machine.{Machine, Fed, withIntake, withTotals, stopped, isFit, standing, opened, beatOf, beatEnd, arrivalWorked, lineEnd}
 use Rattle.transcript.specs.SessionAnswers.{IsFed, machineOf}
 use Rattle.transcript.specs.MaybeLent.{maybeLent, lentIn, lentOr}
-use Rattle.transcript.specs.SessionRoomLaws.{Lives, beat-room}
+use Rattle.transcript.specs.SessionRoomLaws.{LiveTotals, Lives, beat-room}
 
 -- what is left to say once it is known what a session came to
 pub fed : {f : Fed} {t s o b exit : List ℕ} {y : Session} {at q : ℕ} → f ≡ record { machine = machineOf t s y; output = o } → IsPut b at o exit q → IsFed f t s b at (record { session = y; end = q }) exit
@@ -83,7 +83,7 @@ module _ (t s : List ℕ) (x : Session) (l : MaybeLent) where
   unfolding beatEnd
   beat-good e = rw (lent-good e)
 
-  pub beat-ill : l .good ≡ false → {z : Session} → z ≡ stopped x → beatEnd (machineOf t s x) (lentOr l) ≡ record { machine = machineOf t s z; output = errorLine (x .totals .beats + 1) }
+  pub beat-ill : l .good ≡ false → {z : Session} → z ≡ stopped x → beatEnd (machineOf t s x) (lentOr l) ≡ record { machine = machineOf t s z; output = errorLine (x .totals .lines + 1) }
   unfolding beatEnd
   beat-ill e k = rw (lent-ill e, k)
 
@@ -175,6 +175,6 @@ module _ (t s : List ℕ) (x : Session) {b : Brought} (e : b ≡ broughtBy (line
 pub line-totals : {x : Session} → Lives x → {b : Brought} → b ≡ broughtBy (lineOver (x .intake)) → b .ending ≡ E.Beat → FitTotals (x .totals)
 line-totals {x} v {b} e h = go (v .totals)
   where
-    go : FitTotals (x .totals) ⊎ ((x .intake .phase ≡ OVER) × (x .totals .beats ≡ maxBeats)) → FitTotals (x .totals)
+    go : LiveTotals x → FitTotals (x .totals)
     go (inl f) = f
     go (inr o) = let q : E.Nothing ≡ E.Beat = sym (ap (λ (y : Brought). y .ending) (e ∙ ap broughtBy (over-line (x .intake) (o .0)))) ∙ h in clash (cc)

@@ -1,15 +1,15 @@
 -- What the tests of totals come to, where the code's tests led.
 use mathlib.Core.Path.{_≡_, refl}
 use Prim.Native.Nat.{ℕ, zero, suc, _*_, _≤_, _<_}
-use borrow.Author.Tests.{le-leb, lt-ltb}
+use borrow.Author.Tests.{le-leb, lt-ltb, eq-eqb}
 use lib.Dec.{leb}
 use Rattle.engine.specs.Order.{maxOrders}
 use Rattle.transcript.specs.declared.totals.Totals.{Totals}
 use Rattle.transcript.specs.Totals.{maxBeats, oneIf, areFit}
 
-pub fit-but-orders : (n : Totals) → n .beats < maxBeats → n .coded ≤ n .beats → leb (n .orders) (n .beats * maxOrders) ≡ areFit n
+pub fit-but-orders : (n : Totals) → n .beats < maxBeats → n .lines ≡ n .beats → n .coded ≤ n .beats → leb (n .orders) (n .beats * maxOrders) ≡ areFit n
 unfolding areFit
-fit-but-orders n a b = simp (lt-ltb _ _ a, le-leb _ _ b)
+fit-but-orders n a l b = simp (lt-ltb _ _ a, eq-eqb _ _ l, le-leb _ _ b)
 
 pub one-other : (n : ℕ) → (n ≡ 0 → ⊥) → 1 ≡ oneIf n
 one-other zero f = absurd (f refl)

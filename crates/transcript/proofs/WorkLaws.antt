@@ -28,7 +28,7 @@ use Rattle.transcript.proofs.StepLaws.{brought-nothing, brought-text, b
 
 -- what is left to say once it is known what a piece came to
 pub work-is : {w : Work} {t s o b exit : List ℕ} {y : Session} {k q : ℕ} → w ≡ record { machine = machineOf t s y; taken = k; output = o } → IsPut b 0 o exit q →
-    (record { session = y; taken = k; written = q } ≡ stepAnswer w) × ((t ≡ w .machine .text) × ((s ≡ w .machine .lines) × (exit ≡ putAt b 0 (w .output))))
+    (record { session = y; taken = k; written = q } ≡ stepAnswer w) × ((t ≡ w .machine .text) × ((s ≡ w .machine .set) × (exit ≡ putAt b 0 (w .output))))
 work-is {o = o} {q = q} e p = let h : q ≡ length o = let f = p .behind in omega arith in rw (e, h) (refl, (refl, (refl, p .put)))
 
 module _ (m : Machine) (t : List ℕ) where

@@ -19,7 +19,7 @@ use Rattle.transcript.specs.Intake.{BEATS, OVER, noIntake, withPhase, in
 -- the kept text, the set, and what is kept beside them
 pub record Machine : Type 0 where
   pub text : List ℕ
-  pub lines : List ℕ
+  pub set : List ℕ
   pub session : Session
 
 -- a machine, and what it has printed meanwhile
@@ -56,25 +56,25 @@ standing m = record { machine = m; output = [] }
 unfoldable pub opened : Machine → List ℕ → Fed
 opened m t =
     elim (loadAnswer t .code) [
-      | zero ↦ record { machine = record { text = m .text; lines = loadSet t; session = m .session }; output = [] }
-      | suc c ↦ record { machine = record { text = m .text; lines = loadSet t; session = stopped (m .session) }; output = loadLine (suc c) (loadAnswer t .line) }
+      | zero ↦ record { machine = record { text = m .text; set = loadSet t; session = m .session }; output = [] }
+      | suc c ↦ record { machine = record { text = m .text; set = loadSet t; session = stopped (m .session) }; output = loadLine (suc c) (loadAnswer t .line) }
     ]
 
 -- a beat line that lends l
 unfoldable pub beatOf : Machine → Lent → Fed
 beatOf m l =
-    let n = counted (m .session .totals) (answerOf (m .lines) (m .session .totals) l) in
-    let text = beatText (m .lines) (m .session .totals) l in
+    let n = counted (m .session .totals) (answerOf (m .set) (m .session .totals) l) in
+    let text = beatText (m .set) (m .session .totals) l in
     elim (eqb (n .beats) maxBeats) [
-      | true ↦ record { machine = record { text = m .text; lines = m .lines; session = stopped (withTotals (m .session) n) }; output = text ++ ended n }
-      | false ↦ record { machine = record { text = m .text; lines = m .lines; session = withTotals (m .session) n }; output = text }
+      | true ↦ record { machine = record { text = m .text; set = m .set; session = stopped (withTotals (m .session) n) }; output = text ++ ended n }
+      | false ↦ record { machine = record { text = m .text; set = m .set; session = withTotals (m .session) n }; output = text }
     ]
 
 -- a beat line, ill-formed or not
 unfoldable pub beatEnd : Machine → Option Lent → Fed
 beatEnd m o =
     elim o [
-      | none ↦ record { machine = record { text = m .text; lines = m .lines; session = stopped (m .session) }; output = errorLine (m .session .totals .beats + 1) }
+      | none ↦ record { machine = record { text = m .text; set = m .set; session = stopped (m .session) }; output = errorLine (m .session .totals .lines + 1) }
       | some l ↦ beatOf m l
     ]
 
@@ -91,7 +91,7 @@ arrivalWorked m a =
 
 -- the machine with what is kept of some input: the text t, and i beside it
 abbrev pub keeping : Machine → List ℕ → Intake → Machine
-keeping m t i = record { text = t; lines = m .lines; session = withIntake (m .session) i }
+keeping m t i = record { text = t; set = m .set; session = withIntake (m .session) i }
 
 -- bytes of a line, no LF among them
 unfoldable pub chunk : Machine → List ℕ → Machine

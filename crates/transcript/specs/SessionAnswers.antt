@@ -10,11 +10,11 @@ use Rattle.transcript.specs.declared.session.Ended.{Ended}
 use Rattle.transcript.specs.Machine.{Machine, Fed, Work}
 
 abbrev pub machineOf : List ℕ → List ℕ → Session → Machine
-machineOf t s x = record { text = t; lines = s; session = x }
+machineOf t s x = record { text = t; set = s; session = x }
 
 -- a session came to f: its text and its set, and what was put into a buffer at a place
-pub record IsFed (f : Fed) (text lines buffer : List ℕ) (at : ℕ) (x : Ended) (exit : List ℕ) : Type 0 where
-  pub machine : f .machine ≡ machineOf text lines (x .session)
+pub record IsFed (f : Fed) (text set buffer : List ℕ) (at : ℕ) (x : Ended) (exit : List ℕ) : Type 0 where
+  pub machine : f .machine ≡ machineOf text set (x .session)
   pub output : IsPut buffer at (f .output) exit (x .end)
 
 -- the answer to a piece of input that came to w

@@ -1,7 +1,7 @@
 -- How much a line of input may print, and that a session lives on while its input goes on. Assumes nothing.
 use mathlib.Core.Path.{_≡_, refl}
-use mathlib.Core.Bool.{true, _&&_}
-use mathlib.Core.List.{List, []}
+use mathlib.Core.Bool.{true}
+use mathlib.Core.List.{List}
 use mathlib.Core.Logic.{_⊎_, inl, inr}
 use mathlib.Core.Option.{Option, none, some}
 use Prim.Native.Nat.{ℕ, zero, suc, _+_, _≤_}
@@ -23,6 +23,7 @@ use Rattle.transcript.specs.Tally.{counted, givenBy, answerOf, bufferOf,
 use Rattle.transcript.specs.Machine.{Machine, Fed, isFit, opened, beatOf, beatEnd, chunk, lineEnd, finished, finishedText, stopped, standing, arrivalWorked, keeping, endAfter, lastOutput}
 use Rattle.transcript.specs.Intake.{BEATS, OVER, intakeFits, bytesTaken, Arrival, nothing, wholeText, beatLine, lineOver, lineKept, inputOver}
 use Rattle.transcript.specs.IntakeLaws.{FitIntake, intake-parts, intake-whole, phase-fit, bytes-fit, line-fit, over-bytes, over-bytes-kept, over-line as intake-line, over-line-kept}
+use Rattle.transcript.specs.Machine.{withIntake}
 use Rattle.transcript.specs.OrdersLaws.{orders-within}
 
 -- ---- cases
@@ -63,14 +64,14 @@ Prints n f = length (f .output) ≤ n
 beatOf-room : (m : Machine) (l : Lent) → Prints lineRoom (beatOf m l)
 unfolding beatOf
 beatOf-room m l =
-    let n = counted (m .session .totals) (answerOf (m .lines) (m .session .totals) l) in
-    let a = beat-room (m .lines) (m .session .totals) l in
+    let n = counted (m .session .totals) (answerOf (m .set) (m .session .totals) l) in
+    let a = beat-room (m .set) (m .session .totals) l in
     let b = end-room (n .beats) (n .coded) (n .orders) in
     either (Prints lineRoom) (eqb (n .beats) maxBeats) (λ e. simp length-append (omega arith)) (λ e. omega arith)
 
 pub beat-end-room : (m : Machine) (o : Option Lent) → length (beatEnd m o .output) ≤ lineRoom
 unfolding beatEnd
-beat-end-room m none = let a = error-room (m .session .totals .beats + 1) in omega arith
+beat-end-room m none = let a = error-room (m .session .totals .lines + 1) in omega arith
 beat-end-room m (some l) = beatOf-room m l
 
 pub opened-room : (m : Machine) (t : List ℕ) → length (opened m t .output) ≤ lineRoom
@@ -132,10 +133,14 @@ pub fit-whole : (x : Session) → Fit x → isFit x ≡ true
 unfolding isFit
 fit-whole x f = and-true (intake-whole (x .intake) (f .intake)) (totals-fit (x .totals) (f .totals))
 
--- its intake is fit, and its totals are, or it is over after the last beat
+-- totals that are fit, or those after the last beat, of a session that is over
+abbrev pub LiveTotals : Session → Type 0
+LiveTotals x = FitTotals (x .totals) ⊎ ((x .intake .phase ≡ OVER) × (x .totals .beats ≡ maxBeats))
+
+-- fit, or over after the last beat
 pub record Lives (x : Session) : Type 0 where
   pub intake : FitIntake (x .intake)
-  pub totals : FitTotals (x .totals) ⊎ ((x .intake .phase ≡ OVER) × (x .totals .beats ≡ maxBeats))
+  pub totals : LiveTotals x
 
 pub fit-lives : {x : Session} → Fit x → Lives x
 fit-lives f = record { intake = f .intake; totals = inl (f .totals) }
@@ -149,9 +154,9 @@ beatOf-lives : (m : Machine) (l : Lent) → Fit (m .session) → FedLives (beatO
 unfolding beatOf
 beatOf-lives m l f =
     let x = m .session in
-    let a = answerOf (m .lines) (x .totals) l in
+    let a = answerOf (m .set) (x .totals) l in
     let n = counted (x .totals) a in
-    let o = beat-orders (m .lines) (x .totals) l in
+    let o = beat-orders (m .set) (x .totals) l in
     either FedLives (eqb (n .beats) maxBeats) (λ e. record { intake = phase-fit OVER (f .intake); totals = inr (refl, eqb-true (n .beats) maxBeats e) })
     (λ e. record { intake = f .intake; totals = inl (counting-fit (x .totals) (a .code) (a .orders) (a .state) (f .totals) o (eqb-false (n .beats) maxBeats e)) })
 
@@ -189,14 +194,14 @@ pub chunk-lives : (m : Machine) (l : List ℕ) → Lives (m .session) → Lives 
 unfolding chunk
 chunk-lives m l v = record { intake = bytes-fit (m .session .intake) l (v .intake); totals = go (v .totals) }
   where
-    go : FitTotals (m .session .totals) ⊎ ((m .session .intake .phase ≡ OVER) × (m .session .totals .beats ≡ maxBeats)) → FitTotals (m .session .totals) ⊎ ((bytesTaken (m .session .intake) l .phase ≡ OVER) × (m .session .totals .beats ≡ maxBeats))
+    go : LiveTotals (m .session) → LiveTotals (withIntake (m .session) (bytesTaken (m .session .intake) l))
     go (inl f) = inl f
     go (inr o) = inr (rw (over-bytes (m .session .intake) (o .0) l) o)
 
 pub line-lives : (m : Machine) → Lives (m .session) → Lives (lineEnd m .machine .session)
 line-lives m v = go (v .totals)
   where
-    go : FitTotals (m .session .totals) ⊎ ((m .session .intake .phase ≡ OVER) × (m .session .totals .beats ≡ maxBeats)) → Lives (lineEnd m .machine .session)
+    go : LiveTotals (m .session) → Lives (lineEnd m .machine .session)
     go (inl f) =
         let x = m .session .intake in
         unfold lineEnd in arrival-lives (keeping m (lineKept x (m .text)) (lineOver x .intake)) (lineOver x .arrival) (record { intake = line-fit x (v .intake) .0; totals = f })

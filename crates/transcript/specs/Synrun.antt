@@ -20,7 +20,7 @@ beatsText s n (l ∷ ls) =
       | true ↦ ended n
       | false ↦
           elim (lineLent l) [
-            | none ↦ errorLine (n .beats + 1)
+            | none ↦ errorLine (n .lines + 1)
             | some x ↦ beatText s n x ++ beatsText s (counted n (answerOf s n x)) ls
           ]
     ]

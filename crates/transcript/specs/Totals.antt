@@ -1,8 +1,8 @@
--- The beats of a session, counted, and END (document 01, "On both sides of each edge"). Definitions only.
+-- The beat lines and the beats of a session, counted, and END (document 01, "On both sides of each edge"). Definitions only.
 use mathlib.Core.Bool.{Bool, _&&_}
 use mathlib.Core.List.{List}
 use Prim.Native.Nat.{ℕ, zero, suc, _+_, _*_}
-use lib.Dec.{leb, ltb}
+use lib.Dec.{eqb, leb, ltb}
 use Rattle.engine.specs.Order.{maxOrders}
 use Rattle.engine.specs.declared.state.State.{State}
 use Rattle.engine.specs.State.{powerOn}
@@ -15,7 +15,7 @@ maxBeats = 1000000
 
 -- before the first beat
 abbrev pub noTotals : Totals
-noTotals = record { state = powerOn; beats = 0; coded = 0; orders = 0 }
+noTotals = record { state = powerOn; lines = 0; beats = 0; coded = 0; orders = 0 }
 
 abbrev pub ended : Totals → List ℕ
 ended n = endLine (n .beats) (n .coded) (n .orders)
@@ -25,10 +25,10 @@ abbrev pub oneIf : ℕ → ℕ
 oneIf zero = 0
 oneIf (suc c) = 1
 
--- the totals with a beat, by its code, its orders and the state that it leaves
+-- the totals with a line and its beat, by its code, its orders and the state that it leaves
 abbrev pub counting : Totals → ℕ → ℕ → State → Totals
-counting n code orders x = record { state = x; beats = n .beats + 1; coded = n .coded + oneIf code; orders = n .orders + orders }
+counting n code orders x = record { state = x; lines = n .lines + 1; beats = n .beats + 1; coded = n .coded + oneIf code; orders = n .orders + orders }
 
--- totals that a session may have with a beat still to come
+-- totals that a session may have with a beat still to come: each line was a beat
 unfoldable pub areFit : Totals → Bool
-areFit n = ltb (n .beats) maxBeats && (leb (n .coded) (n .beats) && leb (n .orders) (n .beats * maxOrders))
+areFit n = ltb (n .beats) maxBeats && (eqb (n .lines) (n .beats) && (leb (n .coded) (n .beats) && leb (n .orders) (n .beats * maxOrders)))

@@ -3,8 +3,8 @@ use mathlib.Core.Path.{_≡_}
 use mathlib.Core.Bool.{true, _&&_}
 use Prim.Native.Nat.{ℕ, zero, suc, _+_, _*_, _≤_, _<_}
 use native.Mathlib.Omega.{arith}
-use lib.Dec.{leb, ltb}
-use borrow.Author.Tests.{leb-true, le-leb, ltb-true, lt-ltb}
+use lib.Dec.{eqb, leb, ltb}
+use borrow.Author.Tests.{leb-true, le-leb, ltb-true, lt-ltb, eqb-true, eq-eqb}
 use Rattle.values.specs.Choice.{both, and-true}
 use Rattle.engine.specs.Order.{maxOrders}
 use Rattle.engine.specs.declared.state.State.{State}
@@ -15,6 +15,7 @@ use Rattle.transcript.specs.Totals.{maxBeats, oneIf, counting, areFit}
 
 pub record FitTotals (n : Totals) : Type 0 where
   pub beats : n .beats < maxBeats
+  pub lines : n .lines ≡ n .beats
   pub coded : n .coded ≤ n .beats
   pub orders : n .orders ≤ n .beats * maxOrders
 
@@ -25,16 +26,19 @@ fit-totals n h =
     let b = ltb (n .beats) maxBeats in
     let c = leb (n .coded) (n .beats) in
     let o = leb (n .orders) (n .beats * maxOrders) in
-    let h₁ = both b (c && o) h .1 in
+    let l = eqb (n .lines) (n .beats) in
+    let h₁ = both b (l && (c && o)) h .1 in
+    let h₂ = both l (c && o) h₁ .1 in
     record {
-      beats = ltb-true _ _ (both b (c && o) h .0);
-      coded = leb-true _ _ (both c o h₁ .0);
-      orders = leb-true _ _ (both c o h₁ .1);
+      beats = ltb-true _ _ (both b (l && (c && o)) h .0);
+      lines = eqb-true _ _ (both l (c && o) h₁ .0);
+      coded = leb-true _ _ (both c o h₂ .0);
+      orders = leb-true _ _ (both c o h₂ .1);
     }
 
 pub totals-fit : (n : Totals) → FitTotals n → areFit n ≡ true
 unfolding areFit
-totals-fit n f = and-true (lt-ltb _ _ (f .beats)) (and-true (le-leb _ _ (f .coded)) (le-leb _ _ (f .orders)))
+totals-fit n f = and-true (lt-ltb _ _ (f .beats)) (and-true (eq-eqb _ _ (f .lines)) (and-true (le-leb _ _ (f .coded)) (le-leb _ _ (f .orders))))
 
 -- ---- a beat that is counted
 
@@ -48,6 +52,7 @@ pub counting-fit : (n : Totals) (code orders : ℕ) (x : State) → FitTotals n 
 counting-fit n code orders x f o h =
     let k = one-most code in
     let b = f .beats in
+    let l = f .lines in
     let c = f .coded in
     let d = f .orders in
-    record { beats = omega (arith, h); coded = omega arith; orders = omega arith }
+    record { beats = omega (arith, h); lines = omega arith; coded = omega arith; orders = omega arith }

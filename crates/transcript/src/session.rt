@@ -219,7 +219,7 @@ pub fn step(
 ) -> Stepped
     ensures { λ x. ⌜ x ≡ stepAnswer (worked (machineOf (now (text .entry)) (now (set .entry)) session) (now (input .entry))) ⌝ }
     ensures { λ x. ⌜ now (text .exit) ≡ worked (machineOf (now (text .entry)) (now (set .entry)) session) (now (input .entry)) .machine .text ⌝ }
-    ensures { λ x. ⌜ now (set .exit) ≡ worked (machineOf (now (text .entry)) (now (set .entry)) session) (now (input .entry)) .machine .lines ⌝ }
+    ensures { λ x. ⌜ now (set .exit) ≡ worked (machineOf (now (text .entry)) (now (set .entry)) session) (now (input .entry)) .machine .set ⌝ }
     ensures { λ x. ⌜ now (out .exit) ≡ putAt (now (out .entry)) 0 (worked (machineOf (now (text .entry)) (now (set .entry)) session) (now (input .entry)) .output) ⌝ }
 {
     let mut s = session;

@@ -1,4 +1,4 @@
-// What a session has come to so far, a beat that is counted, and the lines that are printed of it: END and E.
+// What a session has come to so far, a beat line that is counted, and the lines that are printed of it: END and E.
 ghost use mathlib.Core.Path.{_≡_};
 ghost use Prim.Native.Nat.{_+_, _≤_, _<_};
 ghost use Rattle.engine.specs.Order.{maxOrders};
@@ -15,9 +15,10 @@ pub const MAX_BEATS: u32 = 1000000;
 
 const MAX_ORDERS: u32 = engine::MAX_ORDERS as u32;
 
-// So far: the state, the beats, those with a code, the orders.
+// So far: the state, the beat lines, the beats, those with a code, the orders.
 pub struct Totals {
     pub state: State,
+    pub lines: u32,
     pub beats: u32,
     pub coded: u32,
     pub orders: u32,
@@ -29,6 +30,7 @@ pub fn no_totals() -> Totals
 {
     Totals {
         state: power_on(),
+        lines: 0,
         beats: 0,
         coded: 0,
         orders: 0,
@@ -41,6 +43,9 @@ pub fn are_fit(totals: Totals) -> bool
 {
     let beats = totals.beats;
     if MAX_BEATS <= beats {
+        return false;
+    }
+    if totals.lines != beats {
         return false;
     }
     if beats < totals.coded {
@@ -56,7 +61,7 @@ fn one_if(code: u8) -> u32
     if code == 0 { 0 } else { 1 }
 }
 
-// The totals with a beat of this code and so many orders, that leaves this state.
+// The totals with a line and its beat, of this code and so many orders, that leaves this state.
 pub fn count(totals: Totals, code: u8, orders: u32, state: State) -> Totals
     requires { ⌜ FitTotals totals × (orders ≤ maxOrders) ⌝ }
     ensures { λ x. ⌜ x ≡ counting totals code orders state ⌝ }
@@ -64,6 +69,7 @@ pub fn count(totals: Totals, code: u8, orders: u32, state: State) -> Totals
     let coded = one_if(code);
     Totals {
         state: state,
+        lines: totals.lines + 1,
         beats: totals.beats + 1,
         coded: totals.coded + coded,
         orders: totals.orders + orders,
@@ -78,10 +84,10 @@ pub fn put_end(totals: Totals, out: &mut [u8], at: usize) -> usize
     end_line(out, at, totals.beats, totals.coded, totals.orders)
 }
 
-// E of the line behind those of the beats.
+// E of the line behind those that were taken.
 pub fn put_error(totals: Totals, out: &mut [u8], at: usize) -> usize
-    requires { ⌜ (totals .beats < maxBeats) × (at ≤ outSize) ⌝ }
-    ensures { λ x. ⌜ IsPut (now (out .entry)) at (errorLine (totals .beats + 1)) (now (out .exit)) x ⌝ }
+    requires { ⌜ (totals .lines < maxBeats) × (at ≤ outSize) ⌝ }
+    ensures { λ x. ⌜ IsPut (now (out .entry)) at (errorLine (totals .lines + 1)) (now (out .exit)) x ⌝ }
 {
-    error_line(out, at, totals.beats + 1)
+    error_line(out, at, totals.lines + 1)
 }

@@ -1,5 +1,4 @@
 -- `intake::intake_fits` meets its contract: each return by the tests that led to it.
-use borrow.Author.Needs.{needs}
 use borrow.Author.Tests.{lt-leb, le-leb}
 use Rattle.transcript.specs.Intake.{intakeFits}
 use Rattle.transcript.proofs.intake.intake_fits.Statement.{statement}

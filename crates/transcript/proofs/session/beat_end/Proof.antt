@@ -12,7 +12,7 @@ beat-end-spec =
     (λ c κs. c .before .before .before .pre)
     (λ c. search needs)
     (λ c t. let p = c .before .before in fed-as (beat-good t _ _ _ (p .before .before .if1 .taken)) (p .work-beat .ensures t))
-    (λ c κs. let p = c .before .before .before .before .pre in (p .0 .beats, omega (arith, p .1)))
+    (λ c κs. let p = c .before .before .before .before .pre in (omega (arith, p .0 .beats, p .0 .lines), omega (arith, p .1)))
     (λ c κs. search needs)
     (λ c. search needs)
     (λ c t. let p = c .before .before .before in fed (beat-ill t _ _ _ (p .before .before .before .if1 .left) (c .stop-session .ensures)) (p .put-error .ensures)))
