@@ -16,19 +16,19 @@ use Rattle.grammar.specs.Meaning.{operandMeaning, productMeaning, factor
 use Rattle.grammar.specs.AgreementLaws.{bounds, before, beyond, bind-good, goes-on, stands-split, parts-fit, numbered, number-index, axis-index, index-stands}
 
 -- an operator of a row behind a part ends the part
-term-ends : (o : ℕ) → T (isTerm o) → isFactor o ≡ false
+pub term-ends : (o : ℕ) → T (isTerm o) → isFactor o ≡ false
 term-ends o v = let b = bounds PLUS MINUS o v in before TIMES OVER o (omega arith)
 
-compare-ends : (o : ℕ) → T (isCompare o) → EndsSum o
+pub compare-ends : (o : ℕ) → T (isCompare o) → EndsSum o
 compare-ends o v = let b = bounds SAME ATLEAST o v in record { factor = before TIMES OVER o (omega arith); term = before PLUS MINUS o (omega arith) }
 
-logic-ends : (o : ℕ) → T (isLogic o) → EndsSum o
+pub logic-ends : (o : ℕ) → T (isLogic o) → EndsSum o
 logic-ends o v = let b = bounds AND XOR o v in record { factor = beyond TIMES OVER o (omega arith); term = beyond PLUS MINUS o (omega arith) }
 
-logic-compares : (o : ℕ) → T (isLogic o) → isCompare o ≡ false
+pub logic-compares : (o : ℕ) → T (isLogic o) → isCompare o ≡ false
 logic-compares o v = let b = bounds AND XOR o v in beyond SAME ATLEAST o (omega arith)
 
-close-ends : EndsExpression CLOSE
+pub close-ends : EndsExpression CLOSE
 close-ends = record { sum = record { factor = refl; term = refl }; compare = refl; logic = refl }
 
 same-row : (o : ℕ) → T (isLogic o) → isRow o o ≡ true

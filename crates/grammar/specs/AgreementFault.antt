@@ -31,7 +31,7 @@ end-ends t h = rw h (record { factor = refl; term = refl })
 pub do-ends : EndsExpression DO
 do-ends = record { sum = record { factor = refl; term = refl }; compare = refl; logic = refl }
 
-action-long : (a : Action) → 1 ≤ length (actionTokens a)
+pub action-long : (a : Action) → 1 ≤ length (actionTokens a)
 unfolding actionTokens
 action-long (assign w v i a) = omega arith
 action-long (assignPosition x v a) = omega arith

@@ -1,8 +1,8 @@
--- The tokens of a line: none but the last is 0, and LOCK or UNLOCK is not the last before it; so they lie inside the list, and a place has one row of them. Assumes nothing.
+-- The tokens of a line: none but the last is 0, and LOCK or UNLOCK is not the last before it; so they lie inside the list. Assumes nothing.
 use mathlib.Core.Path.{_≡_, refl, sym, _∙_}
 use mathlib.Core.Bool.{true, false}
 use mathlib.Core.List.{List, [], _∷_, _++_, append-assoc}
-use Prim.Native.Nat.{ℕ, zero, suc, _+_, _≤_, _<_}
+use Prim.Native.Nat.{ℕ, suc, _+_, _≤_, _<_}
 use native.Mathlib.Omega.{arith}
 use lib.Dec.{leb}
 use lib.ListN.{length, length-append, List·getD-eq-default}
@@ -109,12 +109,6 @@ front-closed (line w v n c a r) =
     let b = bounds ID IDS w v in
     (omega arith, omega arith, (omega arith, omega arith, (omega arith, omega arith, closed-join (conditionTokens c) (DO ∷ actionsTokens a r) (closed-condition c) (omega arith, omega arith, closed-actions r a))))
 
--- none of its tokens is 0
-closed-real : (l : List ℕ) → Closed l → AllReal l
-closed-real [] h i n e = omega arith
-closed-real (t ∷ l) h zero n e = let z = h .0 in omega arith
-closed-real (t ∷ l) h (suc i) n e = closed-real l (h .2) i (omega arith) e
-
 -- a closed row and a row of real tokens that stand at one place, each up to a 0, are one
 pub same-row : (s l m : List ℕ) (p q r : ℕ) → Closed l → AllReal m → Stands s p (l ++ (END ∷ [])) q → Stands s p (m ++ (END ∷ [])) r → l ≡ m
 same-row s [] [] p q r f g h k = refl
@@ -147,8 +141,3 @@ module _ (s : List ℕ) where
       let j = closed-inside (front l) p e (front-closed l) (omega arith) f in
       let k = stands-place s (front l) p e f in
       rw (front-end l) (rw (length-append (front l) (END ∷ [])) (omega arith))
-
-  -- two lines that are written at one place have the same tokens
-  pub line-unique : (l m : Line) (p q r : ℕ) → Stands s p (lineTokens l) q → Stands s p (lineTokens m) r → lineTokens l ≡ lineTokens m
-  line-unique l m p q r h g =
-      front-end l ∙ rw (same-row s (front l) (front m) p q r (front-closed l) (closed-real (front m) (front-closed m)) (rw (front-end l) at h) (rw (front-end m) at g)) (sym (front-end m))

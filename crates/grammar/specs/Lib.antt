@@ -4,6 +4,7 @@ pub mod Tree
 pub mod Meaning
 pub mod TreeFault
 pub mod TreeNames
+pub mod TreeOf
 pub mod AgreementLaws
 pub mod Agreement
 pub mod AgreementRead
@@ -14,6 +15,7 @@ pub mod AgreementEnds
 pub mod AgreementLine
 pub mod StandsLaws
 pub mod LineByTree
+pub mod TreeOfLaws
 pub mod LineTable
 pub mod NumbersTo
 pub mod NumbersToLaws

@@ -3,14 +3,14 @@
 use mathlib.Core.Path.{_≡_, refl, sym, _∙_}
 use mathlib.Core.Bool.{Bool, true, false}
 use mathlib.Core.List.{List, [], _∷_, _++_, map, map-append}
-use Prim.Native.Nat.{ℕ, zero, suc, _+_, _-_, _*_, _/_, _≤_, _<_}
+use Prim.Native.Nat.{ℕ, _+_, _-_, _*_, _/_, _≤_, _<_}
 use native.Mathlib.Omega.{arith}
 use lib.Dec.{eqb, leb}
 use lib.IntN.{ℤ}
-use lib.ListN.{getD, length-map, List·getD-map}
+use lib.ListN.{length-map}
 use borrow.Author.Tests.{leb-true, leb-false, le-leb, lt-leb, ne-eqb}
 use Rattle.values.specs.Choice.{decide, chosen, refused}
-use Rattle.tokens.specs.Token.{END, EQUALS, MINUS, OPEN, CLOSE, LEFT, RIGHT, IM, NUMBER, IN, FIFO4, X, W, TIMES, OVER, PLUS, SAME, ATLEAST, AND, XOR, POS, MOV, SETAL, UNLOCK, WHEN, EVERY, ID, IDS, isNumber, between, numberCarried, whole, wholeToken, AllReal}
+use Rattle.tokens.specs.Token.{END, EQUALS, MINUS, OPEN, CLOSE, LEFT, RIGHT, IM, NUMBER, IN, FIFO4, X, W, TIMES, OVER, PLUS, SAME, ATLEAST, AND, XOR, POS, MOV, SETAL, UNLOCK, WHEN, EVERY, ID, IDS, isNumber, numberCarried, whole, wholeToken}
 use Rattle.tokens.specs.Descent.{Answer, good, stop, _>>=_, Meaning}
 use Rattle.tokens.specs.SingleFault.{bracketsOpen, opensTooMany, numberFault}
 use Rattle.checking.specs.Fault.{sight}
@@ -18,8 +18,9 @@ use Rattle.working.specs.Working.{valueOver}
 use Rattle.grammar.specs.Tree.{Operand, number, variable, position, truth, bracket, minus, not, Product, product, Factors, noFactor, factor, Sum, sum, Terms, noTerm, term, Expression, single, compare, row, Sums, last, next, Action, assign, assignPosition, drive, code, call, Condition, always, under, Line, line, operandTokens, productTokens, factorsTokens, sumTokens, termsTokens, expressionTokens, sumsTokens, actionTokens, actionsTokens, conditionTokens, lineTokens}
 use Rattle.grammar.specs.Meaning.{operandMeaning, productMeaning, factorsMeaning, sumMeaning, termsMeaning, expressionMeaning, sumsMeaning}
 use Rattle.grammar.specs.TreeFault.{rightFault, isFifoZero, isAlone, isRemovalTree, assignedFault, actionFault, actionsFault, keywordOf, conditionFault, lineFault}
+use Rattle.grammar.specs.TreeNames.{actionNames, actionsNames, namesIn}
 use Rattle.grammar.specs.NumbersTo.{tokenTo, operandTo, productTo, factorsTo, sumTo, termsTo, expressionTo, sumsTo, actionTo, conditionTo, numbersTo}
-use Rattle.grammar.specs.AgreementLaws.{bounds, beyond}
+use Rattle.grammar.specs.AgreementLaws.{bounds}
 
 -- a change of what numbers carry that keeps whole numbers, and the thousandths of all
 pub record Keeps (f : ℕ → ℕ) : Type 0 where
@@ -137,35 +138,12 @@ module _ (f : ℕ → ℕ) (keeps : Keeps f) where
   unfolding tokenTo
   by-kind P t g h = decide P (isNumber t) (λ e. g (leb-true NUMBER t e) (chosen _ _ _ e)) (λ e. h (leb-false NUMBER t e) (refused _ _ _ e))
 
-  -- it is the same sign or word as before, and in the same range of them,
+  -- it is the same sign or word as before
   pub to-is : (t c : ℕ) → c < NUMBER → eqb (tokenTo f t) c ≡ eqb t c
   to-is t c h =
       by-kind _ t
       (λ l e. ne-eqb (tokenTo f t) c (λ z. omega arith) ∙ sym (ne-eqb t c (λ z. omega arith)))
       (λ l e. rw e)
-
-  pub to-between : (low high t : ℕ) → high < NUMBER → between low high (tokenTo f t) ≡ between low high t
-  to-between low high t h =
-      by-kind _ t
-      (λ l e. beyond low high (tokenTo f t) (omega arith) ∙ sym (beyond low high t (omega arith)))
-      (λ l e. rw e)
-
-  -- and carries the same whole number
-  pub to-carries : (t : ℕ) → whole (tokenTo f t) ≡ whole t
-  to-carries t = by-kind _ t (λ l e. let v = keeps .value (numberCarried t) in rw e (omega arith)) (λ l e. rw e)
-
-  -- a row without an end stays one, and the token at a place is changed
-  to-real : (t : ℕ) → (t ≡ 0 → ⊥) → tokenTo f t ≡ 0 → ⊥
-  to-real t h g = by-kind _ t (λ l e. omega arith) (λ l e. h (sym e ∙ g))
-
-  pub to-all-real : (l : List ℕ) → AllReal l → AllReal (map (tokenTo f) l)
-  to-all-real (t ∷ l) h zero n e = to-real t (h 0 (omega arith)) e
-  to-all-real (t ∷ l) h (suc i) n e = to-all-real l (λ j m. h (suc j) (omega arith)) i (omega arith) e
-  to-all-real [] h i n e = omega arith
-
-  pub to-at : (l : List ℕ) (i : ℕ) → getD (map (tokenTo f) l) i 0 ≡ tokenTo f (getD l i 0)
-  unfolding tokenTo
-  to-at l i = List·getD-map (tokenTo f) l i 0
 
   -- the row m is l with each token changed
   record Changed (l m : List ℕ) : Type 0 where
@@ -307,3 +285,22 @@ module _ (f : ℕ → ℕ) (keeps : Keeps f) where
   to-fault (line w v n c a r) =
       let (k, g) = condition-same c in
       rw (k, g, actions-same (keywordOf c) r a, length-map r (actionTo f))
+
+-- ---- what a line names stays
+
+action-names-to : (f : ℕ → ℕ) (a : Action) → actionNames (actionTo f a) ≡ actionNames a
+unfolding actionTo
+action-names-to f (assign w v i a) = refl
+action-names-to f (assignPosition x v a) = refl
+action-names-to f (drive w v x u a) = refl
+action-names-to f (code n) = refl
+action-names-to f (call w v n) = refl
+
+actions-names-to : (f : ℕ → ℕ) (r : List Action) (a : Action) → actionsNames (actionTo f a) (map (actionTo f) r) ≡ actionsNames a r
+unfolding actionsNames
+actions-names-to f [] a = action-names-to f a
+actions-names-to f (b ∷ r) a = rw (action-names-to f a, actions-names-to f r b)
+
+pub to-names-in : (f : ℕ → ℕ) (l : Line) → namesIn (numbersTo f l) ≡ namesIn l
+unfolding numbersTo namesIn
+to-names-in f (line w v n c a r) = actions-names-to f r a

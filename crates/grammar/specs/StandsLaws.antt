@@ -1,8 +1,8 @@
--- Laws of tokens that stand in a list: at its beginning, in two lists that are the same there, and up to a line's end, where the brackets are counted. Nothing is assumed.
+-- Laws of tokens that stand in a list: in two lists that are the same there, and up to a line's end, where the brackets are counted and the line is known. Nothing is assumed.
 use mathlib.Core.Path.{_≡_, refl, sym, ap, _∙_}
 use mathlib.Core.Bool.{Bool, false}
 use mathlib.Core.List.{List, [], _∷_, _++_}
-use Prim.Native.Nat.{ℕ, suc, _+_, _-_, _≤_, _<_}
+use Prim.Native.Nat.{ℕ, _+_, _-_, _≤_, _<_}
 use native.Mathlib.Decide.{decLt}
 use native.Mathlib.Numerals.{add-one}
 use native.Mathlib.Omega.{arith}
@@ -18,15 +18,6 @@ use Rattle.grammar.specs.AgreementLaws.{stands-place}
 use Rattle.grammar.specs.ClosedTokens.{front, front-end, front-closed, same-row}
 
 -- ---- where tokens stand
-
--- tokens stand where each is found at its place
-pub stands-each : (s l : List ℕ) (p q : ℕ) → q ≡ p + length l → ((i j : ℕ) → j ≡ p + i → i < length l → getD s j 0 ≡ getD l i 0) → Stands s p l q
-stands-each s [] p q e h = omega arith
-stands-each s (t ∷ l) p q e h = (h 0 p (omega arith) (omega arith), stands-each s l (p + 1) q (omega arith) (λ i j f m. h (suc i) j (omega arith) (omega arith)))
-
--- a list stands at its own beginning
-pub stands-self : (l : List ℕ) → Stands l 0 l (length l)
-stands-self l = stands-each l l 0 (length l) (omega arith) (λ i j e m. let f : j ≡ i = omega arith in rw f)
 
 -- what stands in one list stands in another that is the same there
 pub stands-same : (s z l : List ℕ) (p q : ℕ) → ((j : ℕ) → p ≤ j → j < q → getD z j 0 ≡ getD s j 0) → Stands s p l q → Stands z p l q

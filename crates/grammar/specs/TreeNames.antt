@@ -5,23 +5,28 @@ use Prim.Native.Nat.{ℕ}
 use Rattle.tokens.specs.Token.{LOCK, UNLOCK, between}
 use Rattle.grammar.specs.Tree.{Action, assign, assignPosition, drive, code, call, Line, line}
 
--- the number that an action names, if it is a LOCK or UNLOCK
-abbrev pub actionNames : Action → List ℕ
+-- a name: the word, and the number behind its bracket
+pub record Name : Type 0 where
+  pub word : ℕ
+  pub number : ℕ
+
+-- what an action names, if it is a LOCK or UNLOCK
+abbrev pub actionNames : Action → List Name
 actionNames (assign w v i a) = []
 actionNames (assignPosition x v a) = []
 actionNames (drive w v x u a) = []
 actionNames (code n) = []
-actionNames (call w v n) = elim (between LOCK UNLOCK w) [ true ↦ n ∷ [] | false ↦ [] ]
+actionNames (call w v n) = elim (between LOCK UNLOCK w) [ true ↦ record { word = w; number = n } ∷ [] | false ↦ [] ]
 
-unfoldable pub actionsNames : Action → List Action → List ℕ
+unfoldable pub actionsNames : Action → List Action → List Name
 actionsNames a [] = actionNames a
 actionsNames a (b ∷ r) = actionNames a ++ actionsNames b r
 
--- the numbers that a line names
-unfoldable pub namesIn : Line → List ℕ
+-- what a line names
+unfoldable pub namesIn : Line → List Name
 namesIn (line w v n c a r) = actionsNames a r
 
--- each of some numbers passes a test
-unfoldable pub eachIs : (ℕ → Bool) → List ℕ → Bool
-eachIs is [] = true
-eachIs is (n ∷ ns) = is n && eachIs is ns
+-- each of some names is known, by a table of the word and the number
+unfoldable pub eachKnown : (ℕ → ℕ → Bool) → List Name → Bool
+eachKnown known [] = true
+eachKnown known (m ∷ ms) = known (m .word) (m .number) && eachKnown known ms

@@ -1,19 +1,17 @@
--- Loading, whatever the text: LoadAnswers and FirstFault say what each code means, LoadedSound that the set is sound and 22 never arises, LoadedLines that a set which is taken is
+-- Loading, whatever the text: LoadAnswers and TextByTrees say what each code means, over the trees of TextTrees, LoadedSound that the set is sound and 22 never arises, LoadedLines that a set which is taken is
 -- what the text has (Unmarked: a line without the marks of written points), LoadedTurns that its turns are those of the text's trees. The files named ..Laws hold what these need.
 pub mod Unmarked
 pub mod UnmarkedLaws
-pub mod PlaceLaws
-pub mod StandLaws
 pub mod PlacedLaws
-pub mod NumbersNamesLaws
-pub mod NamesByTreeLaws
 pub mod StoredLineLaws
 pub mod TakenLaws
 pub mod ByNumberLaws
 pub mod LinesReadLaws
 pub mod LoadedLaws
 pub mod LoadAnswers
-pub mod FirstFault
+pub mod TextTrees
+pub mod TextTreesLaws
+pub mod TextByTrees
 pub mod LoadedSound
 pub mod LoadedLines
 pub mod LoadedTurns

@@ -28,14 +28,14 @@ module _ (s : List ℕ) where
   ReadAs (r ∷ rs) k last =
       (lineOf s k .fault ≡ 0) × (lineOf s k .number ≡ r .number) × (last < lineOf s k .number) × ReadAs rs (k + 1) (lineOf s k .number)
 
-  laid-read : (rs : List Row) (k n last : ℕ) → length s ≤ setSize → All Fine rs → All (λ r. length (r .tokens) < setSize) rs → Laid s (ranked rs k) → Rises n rs → last ≡ n → ReadAs rs k last
-  laid-read [] k n last size f l p h e = tt
-  laid-read (r ∷ rs) k n last size f l p h e =
-      let w = written (r .tokens) (f .0 .real) (l .0) (f .0 .clean) in
-      let (a, b, c, x) = held (r .tokens) w (f .0 .real) (l .0) s (startOf s k) (startOf s k + length (heldTokens (r .tokens))) size (p .0) in
+  laid-read : (rs : List Row) (k n last : ℕ) → length s ≤ setSize → All Fine rs → Laid s (ranked rs k) → Rises n rs → last ≡ n → ReadAs rs k last
+  laid-read [] k n last size f p h e = tt
+  laid-read (r ∷ rs) k n last size f p h e =
+      let w = written (r .tokens) (f .0 .clean) in
+      let (a, b, c, x) = held (r .tokens) w s (startOf s k) (startOf s k + length (heldTokens (r .tokens))) size (p .0) in
       let d : lineOf s k .number ≡ r .number = c ∙ sym (w .number) ∙ sym (f .0 .number) in
       let o = h .0 in
-      (b, d, omega arith, laid-read rs (k + 1) (r .number) (lineOf s k .number) size (f .1) (l .1) (p .1) (h .1) d)
+      (b, d, omega arith, laid-read rs (k + 1) (r .number) (lineOf s k .number) size (f .1) (p .1) (h .1) d)
 
   -- what is read of them, into lists of 32 that hold ns so far
   pub record ReadLines (rs : List Row) (k : ℕ) (ns : List ℕ) (l : Lines) : Type 0 where
@@ -68,29 +68,29 @@ module _ (s : List ℕ) where
 
   -- ---- 12
 
-  all-names : (rs : List Row) (k : ℕ) (known known′ : ℕ → ℕ → Bool) → All Fine rs → All (λ r. length (r .tokens) < setSize) rs → All (Named known′) rs → Laid s (ranked rs k) →
+  all-names : (rs : List Row) (k : ℕ) (known known′ : ℕ → ℕ → Bool) → length s ≤ setSize → All Fine rs → All (Named known′) rs → Laid s (ranked rs k) →
       ((w n : ℕ) → known′ w n ≡ true → known w n ≡ true) → allKnown s known (length rs) k ≡ true
   unfolding allKnown
-  all-names [] k known known′ f l a p g = refl
-  all-names (r ∷ rs) k known known′ f l a p g =
-      let w = written (r .tokens) (f .0 .real) (l .0) (f .0 .clean) in
-      let h = names-held (r .tokens) w (f .0 .real) (l .0) s known known′ (startOf s k) (startOf s k + length (heldTokens (r .tokens))) (p .0) g (a .0) in
-      chosen _ _ _ h ∙ all-names rs (k + 1) known known′ (f .1) (l .1) (a .1) (p .1) g
+  all-names [] k known known′ size f a p g = refl
+  all-names (r ∷ rs) k known known′ size f a p g =
+      let w = written (r .tokens) (f .0 .clean) in
+      let h = names-held (r .tokens) w s (startOf s k) (startOf s k + length (heldTokens (r .tokens))) size (p .0) known known′ g (a .0) in
+      chosen _ _ _ h ∙ all-names rs (k + 1) known known′ size (f .1) (a .1) (p .1) g
 
   -- ---- the set
 
   -- A SET IN WHICH ROWS ARE LAID is read as they are, and is sound: they have no fault, their numbers rise, and they name only what the set has
-  pub rows-read : (rs : List Row) (known′ : ℕ → ℕ → Bool) → lineCount s ≡ length rs → length s ≤ setSize → length rs ≤ maxLines → All Fine rs → All (λ r. length (r .tokens) < setSize) rs →
+  pub rows-read : (rs : List Row) (known′ : ℕ → ℕ → Bool) → lineCount s ≡ length rs → length s ≤ setSize → length rs ≤ maxLines → All Fine rs →
       All (Named known′) rs → Laid s (ranked rs 0) → Rises 0 rs →
       ((l : Lines) → ReadLines rs 0 (replicate maxLines 0) l → (w n : ℕ) → known′ w n ≡ true → lockTable (l .numbers) w n ≡ true) → ReadLines rs 0 (replicate maxLines 0) (soundLines s)
   unfolding soundLines namedLines linesRead
-  rows-read rs known′ c size few f l a p h g =
+  rows-read rs known′ c size few f a p h g =
       let zeros = replicate {A = ℕ} maxLines 0 in
-      let r = read-lines rs 0 0 zeros (replicate maxLines noLine) (let z = length-replicate {A = ℕ} maxLines 0 in omega arith) (laid-read rs 0 0 0 size f l p h refl) in
+      let r = read-lines rs 0 0 zeros (replicate maxLines noLine) (let z = length-replicate {A = ℕ} maxLines 0 in omega arith) (laid-read rs 0 0 0 size f p h refl) in
       let e : linesRead s ≡ linesFrom s (length rs) 0 0 zeros (replicate maxLines noLine) = refused _ _ _ (le-ltb maxLines (lineCount s) (omega arith)) ∙ rw c in
       let r′ : ReadLines rs 0 zeros (linesRead s) = rw e r in
       let m : linesRead s .count ≡ length rs = let z = r′ .count in omega arith in
-      let k : allKnown s (lockTable (linesRead s .numbers)) (linesRead s .count) 0 ≡ true = rw m (all-names rs 0 (lockTable (linesRead s .numbers)) known′ f l a p (g (linesRead s) r′)) in
+      let k : allKnown s (lockTable (linesRead s .numbers)) (linesRead s .count) 0 ≡ true = rw m (all-names rs 0 (lockTable (linesRead s .numbers)) known′ size f a p (g (linesRead s) r′)) in
       let x : soundLines s ≡ linesRead s = chosen _ _ _ k in
       rw x r′
 

@@ -1,36 +1,33 @@
--- What loading answers, and when: 0 exactly if the text is taken, 1 exactly if it is too long, 2 exactly if it has too many lines; and that one answer alone is
+-- What loading answers, and when: 1 exactly if the text is too long, 2 exactly if it has too many lines (0 and 3 to 12: TextByTrees); and that one answer alone is
 -- allowed. (The state that every load leaves: `load-power-on` of demands.) Theorems; nothing is assumed.
-use mathlib.Core.Path.{_≡_, refl, ap, _∙_}
+use mathlib.Core.Path.{_≡_, refl, _∙_}
 use mathlib.Core.Bool.{true, false}
 use mathlib.Core.List.{List, [], _∷_, _++_}
 use mathlib.Core.Logic.{_↔_, _⊎_, inl, inr}
+use mathlib.Core.Option.{Option, none, some}
 use Prim.Native.Nat.{ℕ, zero, suc, _≤_, _<_}
 use native.Mathlib.Omega.{arith}
-use lib.Dec.{eqb, ltb}
+use lib.Dec.{ltb}
 use lib.ListN.{length}
-use borrow.Author.Tests.{ltb-true, ltb-false, eqb-true, eqb-false}
-use Rattle.values.specs.Codes.{tooLong, tooManyLines, tooDeep, notInGrammar, notInSet}
-use Rattle.values.specs.Choice.{decide, chosen, refused as not-chosen}
+use borrow.Author.Tests.{ltb-true, ltb-false}
+use Rattle.values.specs.Codes.{tooLong, tooManyLines, usedAbove, notInSet}
+use Rattle.values.specs.Choice.{decide, either, chosen, refused as not-chosen}
 use Rattle.values.specs.Numbers.{clash}
 use Rattle.values.specs.Unique.{unique}
-use Rattle.checking.specs.declared.line.Line.{Line as Parts}
-use Rattle.tokens.specs.Token.{setSize, maxLines, textSize}
+use Rattle.tokens.specs.Token.{maxLines, textSize}
 use Rattle.tokens.specs.SingleFault.{opensTooMany}
-use Rattle.checking.specs.Fault.{lineAt}
+use Rattle.grammar.specs.Tree.{Line}
+use Rattle.grammar.specs.TreeOf.{treeOf}
 use Rattle.grammar.specs.TreeFault.{lineFault, Proper}
 use Rattle.grammar.specs.TreeFaultLaws.{line-proper}
-use Rattle.grammar.specs.AgreementLine.{line-found, line-fault}
 use Rattle.engine.specs.Set.{isKnown, lockTable, emptySet}
 use Rattle.text.specs.Byte.{run}
 use Rattle.text.specs.Tokens.{Tokens, tokensOf}
 use Rattle.text.specs.Lines.{Numbered, tokenLines, numbered, bodies, split, withoutComment, isBlank}
 use Rattle.reader.specs.declared.load_text.Loaded.{Loaded}
 use Rattle.reader.specs.Row.{Row, byNumber, setOf, numbersOf}
-use Rattle.values.specs.PutLaws.{put-length}
-use Rattle.loading.specs.StandLaws.{empty-length}
-use Rattle.reader.specs.Load.{alone, Outcome, taken, refused, numberIn, tokensFault, faultBelow, rowOf, rowsFrom, firstUnknown, named, outcome, loadAnswer, loadSet}
+use Rattle.reader.specs.Load.{treeFault, faultOf, Outcome, taken, refused, numberIn, tokensFault, faultBelow, rowOf, rowsFrom, firstNot, firstUnknown, named, outcome, loadAnswer, loadSet}
 use Rattle.reader.specs.RisingLaws.{next-row}
-use Rattle.reader.specs.RoomLaws.{roomOf, text-room}
 
 -- ---- what an outcome comes to
 
@@ -57,7 +54,7 @@ by-outcome P t f g = go (outcome t) refl
 
 -- A TEXT WITHOUT A BYTE IS TAKEN, with no line
 pub empty-taken : outcome [] ≡ taken []
-unfolding outcome named rowsFrom firstUnknown tokenLines numbered bodies split withoutComment isBlank run
+unfolding outcome named rowsFrom firstNot tokenLines numbered bodies split withoutComment isBlank run
 empty-taken = refl
 
 -- any two results that the promise of loading allows are equal
@@ -70,46 +67,37 @@ load-unique t x y s u p q r w = (unique p r, unique q w)
 abbrev NoneOr : ℕ → ℕ → ℕ → Type 0
 NoneOr low high c = (c ≡ 0) ⊎ ((low ≤ c) × (c ≤ high))
 
--- the check of a line tells no fault, or one of 4 to 10
-fault-range : (s : List ℕ) → length s ≤ setSize → NoneOr 4 10 (lineAt s 0 .fault)
-unfolding lineAt
-fault-range s size =
-    decide _ (eqb (lineAt s 0 .fault) tooDeep) (λ a. let e = eqb-true (lineAt s 0 .fault) tooDeep a in inr (omega arith)) λ a.
-    decide _ (eqb (lineAt s 0 .fault) notInGrammar) (λ b. let e = eqb-true (lineAt s 0 .fault) notInGrammar b in inr (omega arith)) λ b.
-    let no4 = eqb-false (lineAt s 0 .fault) tooDeep a in
-    let (l, q, h) = line-found s 0 no4 (eqb-false (lineAt s 0 .fault) notInGrammar b) in
-    let o : opensTooMany s 0 ≡ false = decide _ (opensTooMany s 0) (λ x. absurd (no4 (ap (λ (z : Parts). z .fault) (chosen _ _ _ x)))) (λ x. x) in
-    proper (lineFault l) (line-fault s size l 0 q o h) (line-proper l)
+-- a line's tokens have no fault, or one of 4 to 10
+fault-range : (ts : List ℕ) → NoneOr 4 10 (faultOf ts)
+unfolding faultOf
+fault-range ts = either (NoneOr 4 10) (opensTooMany ts 0) (λ _. inr (omega arith)) (λ _. of-tree (treeOf ts))
   where
-    proper : (n : ℕ) → lineAt s 0 .fault ≡ n → Proper n → NoneOr 4 10 (lineAt s 0 .fault)
-    proper n e (inl z) = inl (e ∙ z)
-    proper n e (inr z) = inr (omega (arith, z))
+    proper : (n : ℕ) → Proper n → NoneOr 4 10 n
+    proper n (inl z) = inl z
+    proper n (inr z) = inr (omega (arith, z))
+
+    of-tree : (t : Option Line) → NoneOr 4 10 (treeFault t)
+    of-tree none = inr (omega arith)
+    of-tree (some l) = proper (lineFault l) (line-proper l)
 
 -- so a line has no fault, or one of 3 to 11
-below-range : (rs : List Row) (ts : Tokens) → length (ts .list) < setSize → NoneOr 3 11 (faultBelow rs ts)
+below-range : (rs : List Row) (ts : Tokens) → NoneOr 3 11 (faultBelow rs ts)
 unfolding faultBelow tokensFault
-below-range rs ts short =
-    decide _ (ts .good)
-    (λ g. let n = put-length (ts .list) emptySet 0 in let e = empty-length in by-fault (lineAt (alone (ts .list)) 0 .fault) refl g (fault-range (alone (ts .list)) (omega arith)))
-    (λ g. rw (g, faultBelow) (inr (omega arith)))
+below-range rs ts = either (NoneOr 3 11) (ts .good) (λ _. by-fault (faultOf (ts .list)) (fault-range (ts .list))) (λ _. inr (omega arith))
   where
-    by-fault : (k : ℕ) → lineAt (alone (ts .list)) 0 .fault ≡ k → ts .good ≡ true → NoneOr 4 10 (lineAt (alone (ts .list)) 0 .fault) →
-        NoneOr 3 11 (faultBelow rs ts)
-    by-fault zero e g r =
-        decide _ (isKnown (numbersOf rs) (numberIn (ts .list)))
-        (λ u. rw (g, e, u, faultBelow, tokensFault) (inr (omega arith)))
-        (λ u. rw (g, e, u, faultBelow, tokensFault) (inl refl))
-    by-fault (suc k) e g (inl z) = absurd (omega arith)
-    by-fault (suc k) e g (inr z) = rw (g, e, faultBelow, tokensFault) (inr (omega (arith, z)))
+    by-fault : (k : ℕ) → NoneOr 4 10 k → NoneOr 3 11 (elim k as (λ _. ℕ) [ zero ↦ elim (isKnown (numbersOf rs) (numberIn (ts .list))) as (λ _. ℕ) [ true ↦ usedAbove | false ↦ 0 ] | suc j ↦ suc j ])
+    by-fault zero r = either (NoneOr 3 11) (isKnown (numbersOf rs) (numberIn (ts .list))) (λ _. inr (omega arith)) (λ _. inl refl)
+    by-fault (suc k) (inl z) = absurd (omega arith)
+    by-fault (suc k) (inr z) = inr (omega (arith, z))
 
 -- and so has the first faulty line of a text
-rows-code : (ls : List Numbered) (rs : List Row) (c k : ℕ) → roomOf ls ≤ setSize → rowsFrom rs ls ≡ refused c k → (3 ≤ c) × (c ≤ 11)
-unfolding rowsFrom roomOf
-rows-code [] rs c k room h = clash (cc)
-rows-code (l ∷ ls) rs c k room h =
+rows-code : (ls : List Numbered) (rs : List Row) (c k : ℕ) → rowsFrom rs ls ≡ refused c k → (3 ≤ c) × (c ≤ 11)
+unfolding rowsFrom
+rows-code [] rs c k h = clash (cc)
+rows-code (l ∷ ls) rs c k h =
     next-row _ rs l ls (refused c k) h
-    (λ f g. rows-code ls (rs ++ (rowOf l ∷ [])) c k (omega arith) g)
-    (λ i f g. let e : suc i ≡ c = cc in by-range i f e (below-range rs (tokensOf (l .body)) (omega arith)))
+    (λ f g. rows-code ls (rs ++ (rowOf l ∷ [])) c k g)
+    (λ i f g. let e : suc i ≡ c = cc in by-range i f e (below-range rs (tokensOf (l .body))))
   where
     by-range : (i : ℕ) → faultBelow rs (tokensOf (l .body)) ≡ suc i → suc i ≡ c →
         NoneOr 3 11 (faultBelow rs (tokensOf (l .body))) → (3 ≤ c) × (c ≤ 11)
@@ -131,8 +119,7 @@ module _ (P : Type 0) (t : List ℕ) where
       let l = ltb-false textSize (length t) a in
       let f = ltb-false maxLines (length (tokenLines t)) b in
       let e : outcome t ≡ named (rowsFrom [] (tokenLines t)) = not-chosen _ _ _ a ∙ not-chosen _ _ _ b in
-      let r = text-room t in
-      by-rows (rowsFrom [] (tokenLines t)) refl (faulty l f) (unknown l f) (all l f) (λ c k h. rows-code (tokenLines t) [] c k (omega arith) h) e
+      by-rows (rowsFrom [] (tokenLines t)) refl (faulty l f) (unknown l f) (all l f) (rows-code (tokenLines t) []) e
     where
       by-rows : (o : Outcome) → rowsFrom [] (tokenLines t) ≡ o → ((c k : ℕ) → 3 ≤ c → c ≤ 11 → rowsFrom [] (tokenLines t) ≡ refused c k → outcome t ≡ refused c k → P) →
           ((rs : List Row) (k : ℕ) → rowsFrom [] (tokenLines t) ≡ taken rs → firstUnknown (lockTable (numbersOf rs)) rs ≡ suc k → outcome t ≡ refused notInSet (suc k) → P) →
@@ -166,18 +153,6 @@ module _ (t : List ℕ) where
       (λ _ _ c k a b _ h. let z = refused-answer t c k h .0 in absurd (omega arith))
       (λ _ _ rs k _ _ h. let z = refused-answer t notInSet (suc k) h .0 in absurd (omega arith))
       (λ _ _ rs h. taken-answer t rs h .1)
-
-  -- CODE 0: the text is taken
-  pub code-0 : (loadAnswer t .code ≡ 0) ↔ ((rs : List Row) × (outcome t ≡ taken rs))
-  code-0 = (
-    (λ e. by-load _ t
-        (λ _ h. let z = refused-answer t tooLong 0 h .0 in absurd (omega arith))
-        (λ _ _ h. let z = refused-answer t tooManyLines 0 h .0 in absurd (omega arith))
-        (λ _ _ c k a b _ h. let z = refused-answer t c k h .0 in absurd (omega arith))
-        (λ _ _ rs k _ _ h. let z = refused-answer t notInSet (suc k) h .0 in absurd (omega arith))
-        (λ _ _ rs h. (rs, h))),
-    (λ x. taken-answer t (x .0) (x .1) .0),
-  )
 
   -- CODE 1: the text is above 4,096 bytes
   pub code-1 : (loadAnswer t .code ≡ tooLong) ↔ (textSize < length t)

@@ -7,7 +7,7 @@ use native.Mathlib.Decide.{decLt}
 use native.Mathlib.Omega.{arith}
 use lib.ListN.{length, getD, replicate, length-replicate, List·getD-eq-default, getD-replicate}
 use borrow.Author.Tests.{ltb-true}
-use Rattle.tokens.specs.Token.{textSize, setSize, maxLines}
+use Rattle.tokens.specs.Token.{textSize, maxLines}
 use Rattle.engine.specs.declared.set.Lines.{Lines}
 use Rattle.engine.specs.Set.{rankIn, isKnown, lockTable, soundLines}
 use Rattle.soundness.specs.SetSoundLaws.{rank-number}
@@ -18,7 +18,7 @@ use Rattle.reader.specs.Draft.{Apart}
 use Rattle.reader.specs.RisingLaws.{number-at, numbers-length, taken-apart}
 use Rattle.reader.specs.RoomLaws.{taken-room}
 use Rattle.loading.specs.PlacedLaws.{Laid, set-length, set-count, set-laid}
-use Rattle.loading.specs.TakenLaws.{All, all-at, taking, Fine, taken-fine, Named, taken-named, all-short}
+use Rattle.loading.specs.TakenLaws.{All, all-at, taking, Fine, taken-fine, Named, taken-named}
 use Rattle.loading.specs.ByNumberLaws.{Of, by-length, by-rises, by-of, by-rank, by-total}
 use Rattle.loading.specs.LinesReadLaws.{ReadLines, rows-read, known-at}
 
@@ -47,9 +47,6 @@ module _ (t : List ℕ) (rs : List Row) (h : outcome t ≡ taken rs) where
   -- the rows are laid in the set
   pub taken-laid : Laid (setOf (byNumber rs)) (ranked (byNumber rs) 0)
   taken-laid = let l = by-length rs few apart in let m = by-total rs few apart in let n = rows-room in let f = few in set-laid (byNumber rs) (omega arith) (omega arith)
-
-  pub taken-short : All (λ r. length (r .tokens) < setSize) rs
-  taken-short = all-short rs setSize (let n = rows-room in omega arith)
 
   -- a number that a row may name is one that the set has
   names-found : (l : Lines) → ReadLines (setOf (byNumber rs)) (byNumber rs) 0 (replicate maxLines 0) l → (w n : ℕ) → lockTable (numbersOf rs) w n ≡ true → lockTable (l .numbers) w n ≡ true
@@ -83,5 +80,5 @@ module _ (t : List ℕ) (rs : List Row) (h : outcome t ≡ taken rs) where
       let f = few in
       let n = set-length (byNumber rs) in
       rows-read (setOf (byNumber rs)) (byNumber rs) (lockTable (numbersOf rs)) (set-count (byNumber rs)) (omega arith) (omega arith)
-      (each-by Fine (taken-fine t rs h)) (each-by (λ r. length (r .tokens) < setSize) taken-short) (each-by (Named (lockTable (numbersOf rs))) (taken-named t rs h))
+      (each-by Fine (taken-fine t rs h)) (each-by (Named (lockTable (numbersOf rs))) (taken-named t rs h))
       taken-laid (by-rises rs few apart) names-found

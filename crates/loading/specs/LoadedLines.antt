@@ -19,7 +19,7 @@ use Rattle.loading.specs.PlacedLaws.{heldTokens, Laid, set-length, set-c
 use Rattle.loading.specs.StoredLineLaws.{written, held}
 use Rattle.loading.specs.TakenLaws.{All, all-at, taken-rows, AllTokens, taken-tokens, Fine, taken-fine}
 use Rattle.loading.specs.ByNumberLaws.{Of, by-length, by-rises, by-of, by-rank, rises-apart}
-use Rattle.loading.specs.LoadedLaws.{rows-apart, each-by, taken-laid, taken-short}
+use Rattle.loading.specs.LoadedLaws.{rows-apart, each-by, taken-laid}
 
 -- the line of the text that is the row r stands in the set s at rank k
 pub record HoldsLine (s : List ℕ) (k : ℕ) (r : Row) : Type 0 where
@@ -52,16 +52,16 @@ pub record HoldsAll (s : List ℕ) (rs : List Row) : Type 0 where
   pub everyRow : (j : ℕ) → j < length rs → (k : ℕ) × (k < length rs) × (rowOfRank k ≡ getD rs j noRow)
 
 -- rows that are laid in a set from rank m on are held by it
-laid-holds : (s : List ℕ) (rs : List Row) (m k : ℕ) → length s ≤ setSize → All Fine rs → All (λ r. length (r .tokens) < setSize) rs → Laid s (ranked rs m) → k < length rs → HoldsLine s (m + k) (getD rs k noRow)
-laid-holds s [] m k size f l p h = absurd (omega arith)
-laid-holds s (r ∷ rs) m (suc k) size f l p h =
+laid-holds : (s : List ℕ) (rs : List Row) (m k : ℕ) → length s ≤ setSize → All Fine rs → Laid s (ranked rs m) → k < length rs → HoldsLine s (m + k) (getD rs k noRow)
+laid-holds s [] m k size f p h = absurd (omega arith)
+laid-holds s (r ∷ rs) m (suc k) size f p h =
     let e : m + suc k ≡ m + 1 + k = omega arith in
-    rw e (laid-holds s rs (m + 1) k size (f .1) (l .1) (p .1) (omega arith))
-laid-holds s (r ∷ rs) m zero size f l p h =
+    rw e (laid-holds s rs (m + 1) k size (f .1) (p .1) (omega arith))
+laid-holds s (r ∷ rs) m zero size f p h =
     let z : m + 0 ≡ m = omega arith in
-    let w = written (r .tokens) (f .0 .real) (l .0) (f .0 .clean) in
+    let w = written (r .tokens) (f .0 .clean) in
     let q = startOf s m + length (heldTokens (r .tokens)) in
-    let (a, b, c, x) = held (r .tokens) w (f .0 .real) (l .0) s (startOf s m) q size (p .0) in
+    let (a, b, c, x) = held (r .tokens) w s (startOf s m) q size (p .0) in
     let e = stands-place s (lineTokens (unmarkedTree (w .tree))) (startOf s m) q a in
     rw z (record {
       tree = w .tree;
@@ -84,7 +84,7 @@ set-holds t rs h =
       line = λ k l.
           let e : 0 + k ≡ k = omega arith in
           rw e at (laid-holds (setOf (byNumber rs)) (byNumber rs) 0 k (omega arith) (each-by t rs h Fine (taken-fine t rs h))
-          (each-by t rs h (λ r. length (r .tokens) < setSize) (taken-short t rs h)) (taken-laid t rs h) (omega arith));
+          (taken-laid t rs h) (omega arith));
       rising = λ i k m l. rises-apart (byNumber rs) 0 i k (by-rises rs few apart) m (omega arith);
       everyRow = λ j l. let (k, u, v) = by-rank rs few apart j l in (k, omega arith, v);
     }

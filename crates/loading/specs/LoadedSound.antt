@@ -22,7 +22,7 @@ use Rattle.demands.specs.FromALoadOn.{since-the-load}
 use Rattle.reader.specs.Row.{byNumber}
 use Rattle.reader.specs.Load.{loadAnswer, loadSet}
 use Rattle.loading.specs.LoadAnswers.{taken-answer, refused-empty, by-outcome}
-use Rattle.loading.specs.StandLaws.{empty-length}
+use Rattle.reader.specs.StandLaws.{empty-length}
 use Rattle.loading.specs.PlacedLaws.{set-length}
 use Rattle.loading.specs.LoadedLaws.{taken-read}
 

@@ -2,11 +2,10 @@
 use mathlib.Core.Path.{_≡_, refl, sym, ap, subst, _∙_}
 use mathlib.Core.Bool.{Bool, true, false}
 use mathlib.Core.List.{List, [], _∷_, map}
-use Prim.Native.Nat.{ℕ, suc, _+_, _<_}
+use Prim.Native.Nat.{ℕ, suc, _+_}
 use native.Mathlib.Omega.{arith}
 use lib.Dec.{ltb}
 use lib.ListN.{length, getD, length-map}
-use Rattle.tokens.specs.Token.{setSize}
 use Rattle.tokens.specs.Descent.{good, _>>=_}
 use Rattle.grammar.specs.Tree.{Line, lineTokens}
 use Rattle.grammar.specs.Meaning.{Stands}
@@ -28,7 +27,7 @@ use Rattle.loading.specs.PlacedLaws.{Laid, heldTokens}
 use Rattle.loading.specs.StoredLineLaws.{written, ended-unmarked}
 use Rattle.loading.specs.TakenLaws.{All, Fine, taken-fine}
 use Rattle.loading.specs.LoadAnswers.{taken-answer}
-use Rattle.loading.specs.LoadedLaws.{each-by, taken-laid, taken-short, taken-read}
+use Rattle.loading.specs.LoadedLaws.{each-by, taken-laid, taken-read}
 use Rattle.loading.specs.LoadedSound.{load-lines-sound, load-size, load-always-sound}
 
 -- each tree is written as the tokens of its line of the text
@@ -45,11 +44,11 @@ trees-length (l ∷ ls) [] h = absurd h
 trees-length (l ∷ ls) (r ∷ rs) h = ap suc (trees-length ls rs (h .1))
 
 -- lines without a fault have trees
-have-trees : (rs : List Row) → All Fine rs → All (λ r. length (r .tokens) < setSize) rs → (ls : List Line) × AreTrees ls rs
-have-trees [] f s = ([], tt)
-have-trees (r ∷ rs) f s =
-    let w = written (r .tokens) (f .0 .real) (s .0) (f .0 .clean) in
-    let (ls, t) = have-trees rs (f .1) (s .1) in
+have-trees : (rs : List Row) → All Fine rs → (ls : List Line) × AreTrees ls rs
+have-trees [] f = ([], tt)
+have-trees (r ∷ rs) f =
+    let w = written (r .tokens) (f .0 .clean) in
+    let (ls, t) = have-trees rs (f .1) in
     (w .tree ∷ ls, (w .tokens, t))
 
 -- the tokens of a tree without marks are those that a set has of its line
@@ -68,7 +67,7 @@ laid-trees s (l ∷ ls) (r ∷ rs) k h p =
 module _ (t : List ℕ) (rs : List Row) (h : outcome t ≡ taken rs) where
   -- THE LINES OF A TEXT THAT IS TAKEN HAVE TREES, here by rising number
   pub loaded-trees : (ls : List Line) × AreTrees ls (byNumber rs)
-  loaded-trees = have-trees (byNumber rs) (each-by t rs h Fine (taken-fine t rs h)) (each-by t rs h (λ r. length (r .tokens) < setSize) (taken-short t rs h))
+  loaded-trees = have-trees (byNumber rs) (each-by t rs h Fine (taken-fine t rs h))
 
   module _ (ls : List Line) (trees : AreTrees ls (byNumber rs)) where
     set-trees : TreesOf (setOf (byNumber rs)) (map unmarkedTree ls)

@@ -1,5 +1,5 @@
 -- Laws of lines that are placed in a set, by their slots: its size, its places, and the tokens that stand where each slot says. So of the set that holds some numbered lines. Nothing is assumed.
-use mathlib.Core.Path.{_≡_, refl, sym, _∙_}
+use mathlib.Core.Path.{_≡_, refl, _∙_}
 use mathlib.Core.List.{List, [], _∷_, map}
 use Prim.Native.Nat.{ℕ, _+_, _≤_, _<_}
 use native.Mathlib.Omega.{arith}
@@ -10,8 +10,8 @@ use Rattle.grammar.specs.Meaning.{Stands}
 use Rattle.engine.specs.Set.{emptySet, firstPlace, startPlace, lineCount, withoutMark, withEnd, withLine, countPlace, withCount}
 use Rattle.grammar.specs.StandsLaws.{stands-same}
 use Rattle.values.specs.PutLaws.{put-length, put-before}
-use Rattle.loading.specs.StandLaws.{put-stands, empty-length}
-use Rattle.reader.specs.Row.{Row, total, Slotted, placed, ranked, withRows, setOf}
+use Rattle.reader.specs.StandLaws.{put-stands, empty-length}
+use Rattle.reader.specs.Row.{Row, total, Slotted, placed, ranked, setOf}
 
 -- ---- lines and their slots
 

@@ -10,15 +10,13 @@ use borrow.Author.Tests.{ltb-false}
 use Rattle.values.specs.Codes.{notInSet}
 use Rattle.values.specs.Choice.{decide, choice}
 use Rattle.values.specs.Numbers.{clash}
-use Rattle.tokens.specs.Token.{setSize, AllReal, maxLines, textSize}
-use Rattle.checking.specs.Fault.{lineAt}
-use Rattle.engine.specs.Set.{namesKnown, lockTable}
+use Rattle.tokens.specs.Token.{maxLines, textSize}
+use Rattle.engine.specs.Set.{lockTable}
 use Rattle.text.specs.Tokens.{tokensOf}
-use Rattle.text.specs.TokensLaws.{tokens-real}
 use Rattle.text.specs.Lines.{Numbered, textLines, bodies, isBlank, numbered, tokenLines}
-use Rattle.reader.specs.Row.{Row, numbersOf, total, noRow}
+use Rattle.reader.specs.Row.{Row, numbersOf, noRow}
 use Rattle.reader.specs.RisingLaws.{next-row, no-fault}
-use Rattle.reader.specs.Load.{alone, Outcome, taken, refused, rowOf, rowsFrom, firstUnknown, named, outcome}
+use Rattle.reader.specs.Load.{faultOf, numberIn, isNamed, Outcome, taken, refused, rowOf, rowsFrom, firstNot, firstUnknown, named, outcome}
 
 -- ---- what holds of each row
 
@@ -63,7 +61,7 @@ taking t rs h =
 
 -- ---- the rows are the lines with tokens, in their order
 
-rows-all : (ls : List Numbered) (rs qs : List Row) → rowsFrom rs ls ≡ taken qs → qs ≡ rs ++ map rowOf ls
+pub rows-all : (ls : List Numbered) (rs qs : List Row) → rowsFrom rs ls ≡ taken qs → qs ≡ rs ++ map rowOf ls
 unfolding rowsFrom
 rows-all [] rs qs h = let e : rs ≡ qs = cc in sym e ∙ sym (append-nil rs)
 rows-all (l ∷ ls) rs qs h =
@@ -97,12 +95,11 @@ taken-tokens t rs h = rows-tokens (tokenLines t) [] rs (taking t rs h .rows)
 -- a row without a fault of 3 to 10
 pub record Fine (r : Row) : Type 0 where
   pub place : 1 ≤ r .place
-  pub real : AllReal (r .tokens)
-  pub clean : lineAt (alone (r .tokens)) 0 .fault ≡ 0
-  pub number : r .number ≡ lineAt (alone (r .tokens)) 0 .number
+  pub clean : faultOf (r .tokens) ≡ 0
+  pub number : r .number ≡ numberIn (r .tokens)
 
 -- lines are numbered from 1
-abbrev Placed : List Numbered → Type 0
+abbrev pub Placed : List Numbered → Type 0
 Placed [] = Unit {0}
 Placed (l ∷ ls) = (1 ≤ l .place) × Placed ls
 
@@ -113,7 +110,7 @@ numbered-placed (b ∷ bs) k h =
     let i = numbered-placed bs (suc k) (omega arith) in
     decide _ (isBlank b) (λ t. rw (t, numbered) i) (λ t. rw (t, numbered) (h, i))
 
-text-placed : (t : List ℕ) → Placed (tokenLines t)
+pub text-placed : (t : List ℕ) → Placed (tokenLines t)
 unfolding tokenLines
 text-placed t = numbered-placed (bodies (textLines t)) 1 (omega arith)
 
@@ -124,7 +121,7 @@ rows-fine (l ∷ ls) rs qs a p h =
     next-row _ rs l ls (taken qs) h
     (λ f g.
     let (b, c, d) = no-fault rs (tokensOf (l .body)) f in
-    rows-fine ls (rs ++ (rowOf l ∷ [])) qs (all-last Fine rs (rowOf l) a (record { place = p .0; real = tokens-real (l .body); clean = c; number = refl })) (p .1) g)
+    rows-fine ls (rs ++ (rowOf l ∷ [])) qs (all-last Fine rs (rowOf l) a (record { place = p .0; clean = c; number = refl })) (p .1) g)
     (λ k f g. clash (cc))
 
 pub text-fine : (t : List ℕ) (rs : List Row) → rowsFrom [] (tokenLines t) ≡ taken rs → All Fine rs
@@ -137,23 +134,15 @@ taken-fine t rs h = text-fine t rs (taking t rs h .rows)
 
 -- a row names only what is known
 abbrev pub Named : (ℕ → ℕ → Bool) → Row → Type 0
-Named known r = namesKnown (alone (r .tokens)) known setSize 0 ≡ true
+Named known r = isNamed known r ≡ true
 
 first-named : (known : ℕ → ℕ → Bool) (rs : List Row) → All Fine rs → firstUnknown known rs ≡ 0 → All (Named known) rs
-unfolding firstUnknown
+unfolding firstNot
 first-named known [] f h = tt
 first-named known (r ∷ rs) f h =
-    choice _ (namesKnown (alone (r .tokens)) known setSize 0) (firstUnknown known rs) (r .place) 0 h
+    choice _ (isNamed known r) (firstUnknown known rs) (r .place) 0 h
     (λ t e. (t, first-named known rs (f .1) e))
     (λ _ e. let p = f .0 .place in absurd (omega arith))
 
 pub taken-named : (t : List ℕ) (rs : List Row) → outcome t ≡ taken rs → All (Named (lockTable (numbersOf rs))) rs
 taken-named t rs h = first-named (lockTable (numbersOf rs)) rs (taken-fine t rs h) (taking t rs h .known)
-
--- ---- room
-
--- the tokens of one row are fewer than the places of all
-pub all-short : (rs : List Row) (n : ℕ) → total rs ≤ n → All (λ r. length (r .tokens) < n) rs
-unfolding total
-all-short [] n h = tt
-all-short (r ∷ rs) n h = (omega arith, all-short rs n (omega arith))

@@ -8,7 +8,7 @@ use lib.Seq.{set-set, set-comm, set-getD}
 use Rattle.values.specs.PutAt.{putAt}
 use Rattle.tokens.specs.Token.{setSize}
 use Rattle.engine.specs.Set.{emptySet}
-use Rattle.reader.specs.Load.{alone}
+use Rattle.reader.specs.Draft.{alone}
 
 -- a place before what is put
 put-set : (l s : List ℕ) (q p u : ℕ) → p < q → set (putAt s q l) p u ≡ putAt (set s p u) q l

@@ -6,21 +6,22 @@ use Prim.Native.Nat.{ℕ, zero, suc, _+_, _<_, _≤_}
 use native.Mathlib.Omega.{arith}
 use native.Mathlib.Numerals.{add-one}
 use borrow.Author.Tests.{lt-ltb, le-ltb}
-use lib.ListN.{length, replicate, length-append, length-replicate}
+use lib.ListN.{length, length-append, length-replicate}
 use Rattle.values.specs.Codes.{makesNoToken, usedAbove}
 use Rattle.values.specs.Choice.{decide}
-use Rattle.tokens.specs.Token.{setSize, maxLines}
+use Rattle.tokens.specs.Token.{setSize, maxLines, AllReal}
 use Rattle.checking.specs.declared.line.Line.{Line}
 use Rattle.checking.specs.Fault.{lineAt}
-use Rattle.engine.specs.Set.{rankIn, isKnown, emptySet}
+use Rattle.engine.specs.Set.{rankIn, emptySet}
 use Rattle.text.specs.Tokens.{Tokens, tokensOf}
 use Rattle.text.specs.TokensLaws.{tokens-within}
 use Rattle.text.specs.Lines.{Numbered, isBlank, numbered}
 use Rattle.reader.specs.declared.draft.Draft.{Draft}
 use Rattle.reader.specs.Row.{Row, numbersOf, total}
-use Rattle.reader.specs.Load.{alone, numberIn, tokensFault, faultBelow, Outcome, taken, refused, rowOf, rowsFrom}
+use Rattle.reader.specs.Load.{faultOf, numberIn, tokensFault, faultBelow, taken, refused, rowOf, rowsFrom}
 use Rattle.values.specs.PutAt.{putAt}
-use Rattle.reader.specs.Draft.{noDraft, grownBy, rowsAt, rowsIn, Held, Says}
+use Rattle.reader.specs.Draft.{alone, noDraft, grownBy, rowsAt, rowsIn, Held, Says}
+use Rattle.reader.specs.CheckedLaws.{check-fault, check-number}
 use Rattle.reader.specs.RoomLaws.{total-last}
 use Rattle.reader.proofs.TokenLineLaws.{line-blank, line-full}
 use Rattle.reader.proofs.DraftLaws.{rows-length, grown-rows, grown-held}
@@ -32,22 +33,25 @@ module _ (rs : List Row) (ts : Tokens) where
   unfolding faultBelow
   fault-bad g = rw g
 
-  module _ (g : ts .good ≡ true) (x : Line) (e : x ≡ lineAt (alone (ts .list)) 0) where
-    fault-is : lineAt (alone (ts .list)) 0 .fault ≡ x .fault
-    fault-is = ap (λ (l : Line). l .fault) (sym e)
+  module _ (real : AllReal (ts .list)) (short : length (ts .list) ≤ setSize) (g : ts .good ≡ true) (x : Line) (e : x ≡ lineAt (alone (ts .list)) 0) where
+    fault-is : faultOf (ts .list) ≡ x .fault
+    fault-is = sym (check-fault (ts .list) real short) ∙ ap (λ (l : Line). l .fault) (sym e)
+
+    pub number-is : x .fault ≡ 0 → x .number ≡ numberIn (ts .list)
+    number-is z = ap (λ (l : Line). l .number) e ∙ check-number (ts .list) real short (fault-is ∙ z)
 
     pub fault-told : (x .fault ≡ 0 → ⊥) → faultBelow rs ts ≡ x .fault
     unfolding faultBelow tokensFault
     fault-told f = go (x .fault) f fault-is
       where
-        go : (n : ℕ) → (n ≡ 0 → ⊥) → lineAt (alone (ts .list)) 0 .fault ≡ n → faultBelow rs ts ≡ n
+        go : (n : ℕ) → (n ≡ 0 → ⊥) → faultOf (ts .list) ≡ n → faultBelow rs ts ≡ n
         go zero f h = absurd (f refl)
         go (suc n) f h = rw g (rw (h, tokensFault))
 
     -- its number has the rank r among those of the lines
     module _ (z : x .fault ≡ 0) (r : ℕ) (u : r ≡ rankIn (numbersOf rs) (x .number) 0) where
       rank-is : rankIn (numbersOf rs) (numberIn (ts .list)) 0 ≡ r
-      rank-is = ap (λ (l : Line). rankIn (numbersOf rs) (l .number) 0) (sym e) ∙ sym u
+      rank-is = ap (λ (n : ℕ). rankIn (numbersOf rs) n 0) (sym (number-is z)) ∙ sym u
 
       pub fault-used : r < maxLines → faultBelow rs ts ≡ usedAbove
       unfolding faultBelow tokensFault

@@ -1,21 +1,41 @@
 -- Laws of loading: what a text comes to, by the tests of the code.
 use mathlib.Core.Path.{_≡_, refl, sym, ap, _∙_}
-use mathlib.Core.List.{List, []}
+use mathlib.Core.List.{List, [], _∷_, _++_}
 use Prim.Native.Nat.{ℕ, zero, suc, _≤_, _<_}
 use native.Mathlib.Omega.{arith}
 use borrow.Author.Tests.{lt-ltb, le-ltb}
 use lib.ListN.{length}
 use Rattle.values.specs.Codes.{tooLong, tooManyLines, notInSet}
 use Rattle.values.specs.Choice.{chosen, refused as not-chosen}
-use Rattle.tokens.specs.Token.{maxLines, textSize}
+use Rattle.values.specs.Numbers.{clash}
+use Rattle.tokens.specs.Token.{setSize, maxLines, textSize}
 use Rattle.engine.specs.Set.{lockTable, emptySet}
-use Rattle.text.specs.Lines.{tokenLines}
+use Rattle.text.specs.Tokens.{tokensOf}
+use Rattle.text.specs.TokensLaws.{tokens-real}
+use Rattle.text.specs.Lines.{Numbered, tokenLines}
 use Rattle.reader.specs.declared.draft.Draft.{Draft}
 use Rattle.reader.specs.declared.load_text.Loaded.{Loaded}
 use Rattle.reader.specs.Row.{Row, numbersOf, byNumber, withRows, setOf}
-use Rattle.reader.specs.Load.{Outcome, taken, refused, rowsFrom, firstUnknown, named, outcome, answered, loadAnswer, loadSet}
-use Rattle.reader.specs.Draft.{rowsIn, Held, Says, Apart}
-use Rattle.reader.specs.RisingLaws.{taken-apart}
+use Rattle.reader.specs.Load.{Outcome, taken, refused, rowOf, rowsFrom, firstNot, firstUnknown, named, outcome, answered, loadAnswer, loadSet}
+use Rattle.reader.specs.Draft.{namesAlone, rowsIn, Held, Says, Apart}
+use Rattle.reader.specs.CheckedLaws.{AllFaultless, first-unknown}
+use Rattle.reader.specs.RisingLaws.{next-row, no-fault, taken-apart}
+use Rattle.reader.specs.RoomLaws.{roomOf, text-room}
+
+-- the lines that are taken have no fault
+faultless-last : (rs : List Row) (r : Row) → AllFaultless rs → AllFaultless (r ∷ []) → AllFaultless (rs ++ (r ∷ []))
+faultless-last [] r h g = g
+faultless-last (q ∷ rs) r h g = (h .0, h .1, h .2, faultless-last rs r (h .3) g)
+
+taken-faultless : (ls : List Numbered) (rs qs : List Row) → AllFaultless rs → roomOf ls ≤ setSize → rowsFrom rs ls ≡ taken qs → AllFaultless qs
+unfolding rowsFrom roomOf
+taken-faultless [] rs qs a l h = let e : rs ≡ qs = cc in rw (← e) a
+taken-faultless (x ∷ ls) rs qs a l h =
+    next-row _ rs x ls (taken qs) h
+    (λ f g.
+    let (b, c, d) = no-fault rs (tokensOf (x .body)) f in
+    taken-faultless ls (rs ++ (rowOf x ∷ [])) qs (faultless-last rs (rowOf x) a (tokens-real (x .body), omega arith, c, tt)) (omega arith) g)
+    (λ k f g. clash (cc))
 
 module _ (t : List ℕ) where
   -- a is what loading answers, s its set
@@ -63,7 +83,10 @@ module _ (t : List ℕ) where
             go (refused c k) e w = let p = w .2 in let q = w .0 in absurd (omega arith)
 
       -- the lines rs are taken; u is where the first of them stands with an unknown name
-      module _ (rs : List Row) (e : rowsFrom [] (tokenLines t) ≡ taken rs) (u : ℕ) (g : u ≡ firstUnknown (lockTable (numbersOf rs)) rs) where
+      module _ (rs : List Row) (e : rowsFrom [] (tokenLines t) ≡ taken rs) (u : ℕ) (looked : u ≡ firstNot (namesAlone (lockTable (numbersOf rs))) rs) where
+        g : u ≡ firstUnknown (lockTable (numbersOf rs)) rs
+        g = let r = text-room t in looked ∙ first-unknown (lockTable (numbersOf rs)) rs (taken-faultless (tokenLines t) [] rs tt (omega arith) e)
+
         pub text-unknown : (u ≡ 0 → ⊥) → Loads (answered notInSet u) emptySet
         unfolding named
         text-unknown f = go u f (sym g)

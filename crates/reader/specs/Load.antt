@@ -1,14 +1,18 @@
--- Loading: text to code, line and set (document 01, "Lines of text" and "Codes"). Definitions only.
+-- Loading: text to code, line and set, over the lines of the grammar that the text's lines are written as (document 01, "Lines of text" and "Codes"). Definitions only.
 use mathlib.Core.Bool.{Bool, true, false}
 use mathlib.Core.List.{List, [], _∷_, _++_}
+use mathlib.Core.Option.{Option, none, some}
 use Prim.Native.Nat.{ℕ, zero, suc}
 use lib.Dec.{ltb}
 use lib.ListN.{length}
-use Rattle.values.specs.Codes.{tooLong, tooManyLines, makesNoToken, usedAbove, notInSet}
-use Rattle.values.specs.PutAt.{putAt}
-use Rattle.checking.specs.Fault.{lineAt}
-use Rattle.tokens.specs.Token.{setSize, maxLines, textSize}
-use Rattle.engine.specs.Set.{isKnown, namesKnown, lockTable, emptySet}
+use Rattle.values.specs.Codes.{tooLong, tooManyLines, makesNoToken, tooDeep, notInGrammar, usedAbove, notInSet}
+use Rattle.tokens.specs.Token.{maxLines, textSize}
+use Rattle.tokens.specs.SingleFault.{opensTooMany}
+use Rattle.grammar.specs.Tree.{Line, treeNumber}
+use Rattle.grammar.specs.TreeFault.{lineFault}
+use Rattle.grammar.specs.TreeNames.{Name, namesIn, eachKnown}
+use Rattle.grammar.specs.TreeOf.{treeOf}
+use Rattle.engine.specs.Set.{isKnown, lockTable, emptySet}
 use Rattle.engine.specs.State.{powerOn}
 use Rattle.text.specs.Tokens.{Tokens, tokensOf}
 use Rattle.text.specs.Lines.{Numbered, tokenLines}
@@ -17,18 +21,27 @@ use Rattle.reader.specs.Row.{Row, numbersOf, byNumber, setOf}
 
 -- ---- a line: its lowest fault of 3 to 11
 
--- a line's tokens by themselves, at the beginning of an array that is 0 behind them
-abbrev pub alone : List ℕ → List ℕ
-alone ts = putAt emptySet 0 ts
+-- 5 if there is no line of the grammar; else its lowest fault of 6 to 10
+abbrev pub treeFault : Option Line → ℕ
+treeFault none = notInGrammar
+treeFault (some l) = lineFault l
 
--- the number of a line that has no fault of 4 to 10
+-- 4 to 10 of a line's tokens: 4 if they open too many brackets; else those of the line that is written as them
+unfoldable pub faultOf : List ℕ → ℕ
+faultOf ts = elim (opensTooMany ts 0) [ true ↦ tooDeep | false ↦ treeFault (treeOf ts) ]
+
+abbrev pub numberOfTree : Option Line → ℕ
+numberOfTree none = 0
+numberOfTree (some l) = treeNumber l
+
+-- the number of the line that is written as some tokens
 abbrev pub numberIn : List ℕ → ℕ
-numberIn ts = lineAt (alone ts) 0 .number
+numberIn ts = numberOfTree (treeOf ts)
 
 -- 4 to 11 of a line's tokens, below the lines rs
 unfoldable pub tokensFault : List Row → List ℕ → ℕ
 tokensFault rs ts =
-    elim (lineAt (alone ts) 0 .fault) [
+    elim (faultOf ts) [
       | zero ↦ elim (isKnown (numbersOf rs) (numberIn ts)) [ true ↦ usedAbove | false ↦ 0 ]
       | suc k ↦ suc k
     ]
@@ -57,10 +70,22 @@ rowsFrom rs (l ∷ ls) =
       | suc k ↦ refused (suc k) (l .place)
     ]
 
+-- the place of the first of some lines that does not pass a test; 0 if each does
+unfoldable pub firstNot : (Row → Bool) → List Row → ℕ
+firstNot is [] = 0
+firstNot is (r ∷ rs) = elim (is r) [ true ↦ firstNot is rs | false ↦ r .place ]
+
+abbrev pub namesOfTree : Option Line → List Name
+namesOfTree none = []
+namesOfTree (some l) = namesIn l
+
+-- what the line which is written as some tokens names is all known
+abbrev pub isNamed : (ℕ → ℕ → Bool) → Row → Bool
+isNamed known r = eachKnown known (namesOfTree (treeOf (r .tokens)))
+
 -- 12: the place of the first line with a name that is not known; 0 if there is none
-unfoldable pub firstUnknown : (ℕ → ℕ → Bool) → List Row → ℕ
-firstUnknown known [] = 0
-firstUnknown known (r ∷ rs) = elim (namesKnown (alone (r .tokens)) known setSize 0) [ true ↦ firstUnknown known rs | false ↦ r .place ]
+abbrev pub firstUnknown : (ℕ → ℕ → Bool) → List Row → ℕ
+firstUnknown known rs = firstNot (isNamed known) rs
 
 unfoldable pub named : Outcome → Outcome
 named (taken rs) = elim (firstUnknown (lockTable (numbersOf rs)) rs) [ zero ↦ taken rs | suc k ↦ refused notInSet (suc k) ]

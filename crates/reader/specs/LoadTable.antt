@@ -4,11 +4,15 @@ use mathlib.Core.List.{[], _∷_, map}
 use Prim.Native.Nat.{ℕ}
 use Prim.Native.String.{String}
 use Rattle.values.specs.Codes.{makesNoToken, tooDeep, notInGrammar, readOnly, usedAbove, notInSet}
-use Rattle.tokens.specs.Descent.{isIndex, indexOf, isIndexed, indexAt, joined, more, readProduct, readSum, readRest, readExpression, readVariable, operandFrom, readOperand, readClose, readTruth, sumAt, expressionAt}
 use Rattle.tokens.specs.Index.{isInside}
 use Rattle.tokens.specs.SingleFault.{lower, opensTooMany, wantingFault, numberFault, readFault, isWritable, writeFault, codeFault, idFault, callFault}
-use Rattle.checking.specs.Fault.{joinSights, sight, countFault, numberOf, isRemoval, assignedAt, assignmentAt, commandAt, actionAt, actionsAt, lineParts, bodyAt, restAt, lineAt}
-use Rattle.engine.specs.Set.{rankIn, namesKnown, emptySet, withoutMark, withLine}
+use Rattle.checking.specs.Fault.{joinSights, sight, countFault}
+use Rattle.grammar.specs.Tree.{operandTokens, actionTokens, actionsTokens, conditionTokens, lineTokens}
+use Rattle.grammar.specs.Meaning.{operandMeaning}
+use Rattle.grammar.specs.TreeFault.{rightFault, isRemovalTree, assignedFault, actionFault, actionsFault, lineFault}
+use Rattle.grammar.specs.TreeNames.{actionsNames, namesIn, eachKnown}
+use Rattle.grammar.specs.TreeOf.{factorsGuess, productGuess, termsGuess, sumGuess, sumsGuess, expressionGuess, operandFirst, operandGuess, actionGuess, actionsGuess, conditionGuess, lineGuess, sameTokens, ifWritten, treeOf}
+use Rattle.engine.specs.Set.{rankIn, emptySet, withoutMark, withLine}
 use Rattle.engine.specs.State.{powerOn}
 use Rattle.text.specs.Byte.{bytes, run}
 use Rattle.text.specs.Word.{wordToken}
@@ -17,7 +21,7 @@ use Rattle.text.specs.First.{wordFirst, behindPoint, numberWith, numberFirst, s
 use Rattle.text.specs.Tokens.{tokensFrom, tokensOf}
 use Rattle.text.specs.Lines.{split, withoutReturn, withoutComment, bodies, isBlank, numbered, tokenLines}
 use Rattle.reader.specs.Row.{numbersOf, leastFrom, leastAbove, rising, placed, setOf}
-use Rattle.reader.specs.Load.{tokensFault, faultBelow, rowsFrom, firstUnknown, named, outcome, loadAnswer, loadSet}
+use Rattle.reader.specs.Load.{faultOf, tokensFault, faultBelow, rowsFrom, firstNot, named, outcome, loadAnswer, loadSet}
 
 -- the code and the line that loading answers
 abbrev told : String → ℕ × ℕ
@@ -27,5 +31,5 @@ tried :
     map told ("" ∷ "ID=1 EVERY $A_IN[1]==1 DO $AC_MARKER[0]=$AC_MARKER[0]+1 M=7\n" ∷ "ID=1 DO $R[99]=1" ∷ "ID=1 DO $R[100]=1" ∷ "\n;c\nID=1 WHEN $R[1]>1 AND $R[2]>1 DO $R[1]=1\r\n"
     ∷ "ID=1 WHEN ((((((((TRUE)))))))) DO M=1" ∷ "ID=1 WHEN (((((((((TRUE))))))))) DO M=1" ∷ "ID=2 DO $R[1]=1\nID=1 DO LOCK(2)\nID=2 DO LOCK(3)" ∷ "ID=2 DO $R[1]=1\nID=1 DO LOCK(2) UNLOCK(7)" ∷ "ID=1 DO $R[1]=1$R[2]=2.50" ∷ "ID=1DO $R[1]=1" ∷ [])
     ≡ (0, 0) ∷ (0, 0) ∷ (0, 0) ∷ (readOnly, 1) ∷ (notInGrammar, 3) ∷ (0, 0) ∷ (tooDeep, 1) ∷ (usedAbove, 3) ∷ (notInSet, 2) ∷ (0, 0) ∷ (makesNoToken, 1) ∷ []
-unfolding isIndex indexOf isIndexed indexAt joined more readProduct readSum readRest readExpression readVariable operandFrom readOperand readClose readTruth sumAt expressionAt isInside lower opensTooMany wantingFault numberFault readFault joinSights sight isWritable writeFault codeFault idFault callFault countFault numberOf isRemoval assignedAt assignmentAt commandAt actionAt actionsAt lineParts bodyAt restAt lineAt rankIn namesKnown emptySet powerOn run wordToken written isFit numberToken wordFirst behindPoint numberWith numberFirst signFirst firstToken tokensFrom tokensOf split withoutReturn withoutComment bodies isBlank numbered tokenLines numbersOf leastFrom leastAbove rising withoutMark withLine placed setOf tokensFault faultBelow rowsFrom firstUnknown named outcome loadAnswer loadSet
+unfolding factorsGuess productGuess termsGuess sumGuess sumsGuess expressionGuess operandFirst operandGuess actionGuess actionsGuess conditionGuess lineGuess sameTokens ifWritten treeOf operandTokens actionTokens actionsTokens conditionTokens lineTokens operandMeaning rightFault isRemovalTree assignedFault actionFault actionsFault lineFault actionsNames namesIn eachKnown isInside lower opensTooMany wantingFault numberFault readFault joinSights sight isWritable writeFault codeFault idFault callFault countFault rankIn emptySet powerOn run wordToken written isFit numberToken wordFirst behindPoint numberWith numberFirst signFirst firstToken tokensFrom tokensOf split withoutReturn withoutComment bodies isBlank numbered tokenLines numbersOf leastFrom leastAbove rising withoutMark withLine placed setOf faultOf tokensFault faultBelow rowsFrom firstNot named outcome loadAnswer loadSet
 tried = refl

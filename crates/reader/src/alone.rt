@@ -6,7 +6,7 @@ ghost use Rattle.values.specs.PutAt.{putAt};
 ghost use Rattle.tokens.specs.Token.{setSize};
 ghost use Rattle.checking.specs.Fault.{lineAt};
 ghost use Rattle.engine.specs.Set.{namesKnown, lockTable, emptySet};
-ghost use Rattle.reader.specs.Load.{alone};
+ghost use Rattle.reader.specs.Draft.{alone};
 use checking::Line;
 use checking::line_at;
 use engine::names_known;

@@ -6,7 +6,7 @@ use lib.ListN.{length, replicate}
 use denote.Ref.{now}
 use Prim.Native.Nat.{ℕ}
 use Rattle.values.specs.PutAt.{putAt}
-use Rattle.reader.specs.Load.{alone}
+use Rattle.reader.specs.Draft.{alone}
 use Rattle.reader.proofs.AloneLaws.{wiped}
 use Rattle.reader.proofs.alone.names_alone.Statement.{statement}
 use Rattle.reader.proofs.alone.names_alone.Tie as tie

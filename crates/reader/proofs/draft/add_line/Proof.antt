@@ -2,7 +2,7 @@
 use borrow.Author.Needs.{needs}
 use borrow.Author.Tests.{not-true, not-false}
 use native.Mathlib.Omega.{arith}
-use mathlib.Core.Path.{_≡_, refl, sym, ap, _∙_}
+use mathlib.Core.Path.{_≡_, sym, ap, _∙_}
 use mathlib.Core.Bool.{true}
 use mathlib.Core.List.{List}
 use Prim.Native.Nat.{ℕ, _+_, _-_, _≤_}
@@ -10,20 +10,18 @@ use lib.ListN.{length, take, drop}
 use denote.Ref.{now}
 use Rattle.values.specs.PutAt.{putAt}
 use Rattle.values.specs.PutLaws.{put-length}
-use Rattle.tokens.specs.Token.{setSize}
-use Rattle.checking.specs.declared.line.Line.{Line}
+use Rattle.tokens.specs.Token.{setSize, AllReal}
 use Rattle.checking.specs.Fault.{lineAt}
 use Rattle.engine.specs.Set.{rankIn}
 use Rattle.text.specs.Tokens.{Tokens, tokensOf}
-use Rattle.text.specs.TokensLaws.{tokens-within}
+use Rattle.text.specs.TokensLaws.{tokens-real, tokens-within}
 use Rattle.text.specs.Lines.{Numbered}
 use Rattle.reader.specs.declared.draft.Draft.{Draft}
 use Rattle.reader.specs.declared.line_tokens.Written.{Written}
 use Rattle.reader.specs.Row.{Row, numbersOf}
-use Rattle.reader.specs.Load.{alone, numberIn}
-use Rattle.reader.specs.Draft.{grownBy, rowsIn, Held}
+use Rattle.reader.specs.Draft.{alone, grownBy, rowsIn, Held}
 use Rattle.reader.proofs.DraftLaws.{part-put}
-use Rattle.reader.proofs.EachLineLaws.{fault-bad, fault-told, fault-used, fault-none, says-fault, says-grown}
+use Rattle.reader.proofs.EachLineLaws.{number-is, fault-bad, fault-told, fault-used, fault-none, says-fault, says-grown}
 use Rattle.reader.proofs.draft.add_line.Statement.{statement}
 use Rattle.reader.proofs.draft.add_line.Tie as tie
 
@@ -58,6 +56,12 @@ module _ (c : tie.After-write-tokens) where
 
   room : draft .at + length (tokens .list) ≤ setSize
   room = let w = tokens-within (line .body) in let p = start .pre .3 in omega arith
+
+  real : AllReal (tokens .list)
+  real = tokens-real (line .body)
+
+  short : length (tokens .list) ≤ setSize
+  short = let r = room in omega arith
 
   size : length (c .write-tokens .last .1 .0) ≡ setSize
   size = ap length (c .write-tokens .ensures .1) ∙ put-length (tokens .list) array (draft .at) ∙ held .size
@@ -110,7 +114,7 @@ add-line-spec =
     (λ c.
     let l = c .before .before in
     let w = wrote l in
-    (says-fault (rows w) (line w) _ _ _ (fault-told (rows w) (tokens w) (fine l) _ (told l) (c .before .if2 .taken)) (c .before .if2 .taken) (ap (λ (x : Draft). x .code) (c .refused-at2 .ensures)) (ap (λ (x : Draft). x .line) (c .refused-at2 .ensures)), l .line-alone .ensures .1))
+    (says-fault (rows w) (line w) _ _ _ (fault-told (rows w) (tokens w) (real w) (short w) (fine l) _ (told l) (c .before .if2 .taken)) (c .before .if2 .taken) (ap (λ (x : Draft). x .code) (c .refused-at2 .ensures)) (ap (λ (x : Draft). x .line) (c .refused-at2 .ensures)), l .line-alone .ensures .1))
     (λ c. search needs)
     (λ c κs. search needs)
     (λ c κs. search needs)
@@ -118,11 +122,11 @@ add-line-spec =
     let r = c .before .before in
     let l = looked r in
     let w = wrote l in
-    (says-fault (rows w) (line w) _ _ _ (fault-used (rows w) (tokens w) (fine l) _ (told l) (r .before .before .before .if2 .left) _ (ranked r) (c .before .if3 .taken)) (λ e. omega arith) (ap (λ (x : Draft). x .code) (c .refused-at3 .ensures)) (ap (λ (x : Draft). x .line) (c .refused-at3 .ensures)), l .line-alone .ensures .1))
+    (says-fault (rows w) (line w) _ _ _ (fault-used (rows w) (tokens w) (real w) (short w) (fine l) _ (told l) (r .before .before .before .if2 .left) _ (ranked r) (c .before .if3 .taken)) (λ e. omega arith) (ap (λ (x : Draft). x .code) (c .refused-at3 .ensures)) (ap (λ (x : Draft). x .line) (c .refused-at3 .ensures)), l .line-alone .ensures .1))
     (λ c κs. let w = wrote (looked (c .before)) in start w .pre .2)
     (λ c.
     let r = c .before .before in
     let l = looked r in
     let w = wrote l in
-    let g = c .grown-by .ensures ∙ ap (λ (n : ℕ). grownBy (draft w) (line w .place) (l .line-alone .result .number) (draft w .at + n)) (counted w) ∙ ap (λ (x : Line). grownBy (draft w) (line w .place) (x .number) (draft w .at + length (tokens w .list))) (told l) in
-    (says-grown (array w) (draft w) (held w) (line w) (start w .pre .2) (room w) _ _ (w .write-tokens .ensures .1) g (fault-none (rows w) (tokens w) (fine l) _ (told l) (r .before .before .before .if2 .left) _ (ranked r) (c .before .if3 .left)), l .line-alone .ensures .1)))
+    let g = c .grown-by .ensures ∙ ap (λ (n : ℕ). grownBy (draft w) (line w .place) (l .line-alone .result .number) (draft w .at + n)) (counted w) ∙ ap (λ (n : ℕ). grownBy (draft w) (line w .place) n (draft w .at + length (tokens w .list))) (number-is (rows w) (tokens w) (real w) (short w) (fine l) _ (told l) (r .before .before .before .if2 .left)) in
+    (says-grown (array w) (draft w) (held w) (line w) (start w .pre .2) (room w) _ _ (w .write-tokens .ensures .1) g (fault-none (rows w) (tokens w) (real w) (short w) (fine l) _ (told l) (r .before .before .before .if2 .left) _ (ranked r) (c .before .if3 .left)), l .line-alone .ensures .1)))

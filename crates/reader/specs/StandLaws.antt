@@ -1,14 +1,14 @@
 -- Tokens that are put into an array stand there; a line alone stands with its end.
 use mathlib.Core.Path.{_≡_, refl, _∙_}
 use mathlib.Core.List.{List, [], _∷_, _++_}
-use Prim.Native.Nat.{ℕ, _+_, _≤_, _<_}
+use Prim.Native.Nat.{ℕ, zero, suc, _+_, _≤_}
 use native.Mathlib.Omega.{arith}
-use lib.ListN.{length, getD, set, length-set, length-replicate, getD-replicate}
+use lib.ListN.{length, getD, set, length-set, replicate, length-replicate}
 use lib.Seq.{getD-set-same, getD-set-other}
 use Rattle.tokens.specs.Token.{END, setSize}
 use Rattle.grammar.specs.Meaning.{Stands}
 use Rattle.engine.specs.Set.{emptySet, withEnd}
-use Rattle.reader.specs.Load.{alone}
+use Rattle.reader.specs.Draft.{alone}
 use Rattle.values.specs.PutAt.{putAt}
 use Rattle.values.specs.PutLaws.{put-before}
 
@@ -32,10 +32,15 @@ pub empty-length : length emptySet ≡ setSize
 unfolding emptySet
 empty-length = length-replicate {A = ℕ} setSize 0
 
--- A LINE ALONE stands with its end
-pub alone-stands : (ts : List ℕ) → length ts < setSize → Stands (alone ts) 0 (withEnd ts) (length ts + 1)
+zero-anywhere : (n j : ℕ) → getD {A = ℕ} (replicate n 0) j 0 ≡ 0
+zero-anywhere zero j = refl
+zero-anywhere (suc n) zero = refl
+zero-anywhere (suc n) (suc j) = zero-anywhere n j
+
+-- A LINE ALONE stands with its end, which may lie past the array
+pub alone-stands : (ts : List ℕ) → length ts ≤ setSize → Stands (alone ts) 0 (withEnd ts) (length ts + 1)
 unfolding emptySet
 alone-stands ts h =
     let e = empty-length in
     stands-last (alone ts) ts 0 (length ts) END (put-stands ts emptySet 0 (length ts) (omega arith) (omega arith))
-    (put-behind ts emptySet 0 (length ts) (omega arith) ∙ getD-replicate setSize (length ts) 0 0 h)
+    (put-behind ts emptySet 0 (length ts) (omega arith) ∙ zero-anywhere setSize (length ts))

@@ -7,28 +7,34 @@ use native.Mathlib.Omega.{arith}
 use lib.Dec.{eqb}
 use lib.ListN.{length, length-append}
 use borrow.Author.Tests.{eq-eqb, ne-eqb, le-leb, leb-false}
-use Rattle.values.specs.Choice.{told-so, decide, chosen, refused}
+use Rattle.values.specs.Choice.{told-so, both, decide, chosen, refused, and-true as and-both}
 use Rattle.tokens.specs.Token.{END, EQUALS, OPEN, CLOSE, LEFT, RIGHT, DO, ID, IDS, IM, IN, FIFO4, X, W, POS, MOV, WHEN, EVERY, LOCK, SETAL, UNLOCK, whole, wholeToken, setSize}
 use Rattle.tokens.specs.Descent.{token}
 use Rattle.grammar.specs.Tree.{Sum, Action, assign, assignPosition, drive, code, call, Condition, always, under, Line, line, sumTokens, actionTokens, actionsTokens, conditionTokens, lineTokens}
 use Rattle.grammar.specs.Meaning.{Stands}
-use Rattle.grammar.specs.TreeNames.{actionNames, actionsNames, namesIn, eachIs}
+use Rattle.grammar.specs.TreeNames.{Name, actionNames, actionsNames, namesIn, eachKnown}
 use Rattle.grammar.specs.AgreementLaws.{bounds, stands-split, whole-token}
 use Rattle.grammar.specs.ClosedTokens.{Plain, plain-sum, plain-expression}
-use Rattle.engine.specs.Set.{isKnown, isLock, namesKnown}
+use Rattle.engine.specs.Set.{isLock, namesKnown}
 
-each-append : (is : ℕ → Bool) (l m : List ℕ) → eachIs is (l ++ m) ≡ (eachIs is l && eachIs is m)
-unfolding eachIs
-each-append is [] m = refl
-each-append is (n ∷ l) m = rw (each-append is l m) (sym (and-assoc (is n) (eachIs is l) (eachIs is m)))
+each-append : (known : ℕ → ℕ → Bool) (l m : List Name) → eachKnown known (l ++ m) ≡ (eachKnown known l && eachKnown known m)
+unfolding eachKnown
+each-append known [] m = refl
+each-append known (n ∷ l) m = rw (each-append known l m) (sym (and-assoc (known (n .word) (n .number)) (eachKnown known l) (eachKnown known m)))
+
+-- names that are known by a table are known by one that has all of it
+pub each-so : (known more : ℕ → ℕ → Bool) (l : List Name) → ((w n : ℕ) → known w n ≡ true → more w n ≡ true) → eachKnown known l ≡ true → eachKnown more l ≡ true
+unfolding eachKnown
+each-so known more [] f h = refl
+each-so known more (n ∷ l) f h = let (a, b) = both (known (n .word) (n .number)) (eachKnown known l) h in and-both (f (n .word) (n .number) a) (each-so known more l f b)
 
 -- a token that is neither LOCK nor UNLOCK
 no-lock : (t : ℕ) → (LOCK ≤ t → UNLOCK < t) → isLock t ≡ false
 no-lock t h = decide _ (isLock t) (λ e. let b = bounds LOCK UNLOCK t (told-so _ e) in let l = h (b .0) in absurd (omega arith)) (λ e. e)
 
-module _ (s ns : List ℕ) where
+module _ (s : List ℕ) (known : ℕ → ℕ → Bool) where
   -- behind a row that names nothing
-  names-behind : (l : List ℕ) (p i left m : ℕ) → Plain l → Stands s p l i → left ≡ length l + m → namesKnown s ns left p ≡ namesKnown s ns m i
+  names-behind : (l : List ℕ) (p i left m : ℕ) → Plain l → Stands s p l i → left ≡ length l + m → namesKnown s known left p ≡ namesKnown s known m i
   unfolding namesKnown
   names-behind [] p i left m c h e = let z : left ≡ m = omega arith in rw (z, h)
   names-behind (t ∷ l) p i zero m c h e = absurd (omega arith)
@@ -38,12 +44,12 @@ module _ (s ns : List ℕ) where
       refused _ _ _ x ∙ refused _ _ _ y ∙ names-behind l (p + 1) i left m (c .2) (h .1) (omega arith)
 
   -- one that names a number n: LOCK or UNLOCK, and what stands two places behind it
-  names-lock : (left p w n : ℕ) → token s p ≡ w → 0 < w → isLock w ≡ true → whole (token s (p + 2)) ≡ n → namesKnown s ns (suc left) p ≡ (isKnown ns n && namesKnown s ns left (p + 1))
+  names-lock : (left p w n : ℕ) → token s p ≡ w → 0 < w → isLock w ≡ true → whole (token s (p + 2)) ≡ n → namesKnown s known (suc left) p ≡ (known w n && namesKnown s known left (p + 1))
   unfolding namesKnown
   names-lock left p w n e z k h =
       let x : eqb (token s p) END ≡ false = rw e (ne-eqb w END (λ y. omega arith)) in
       let y : isLock (token s p) ≡ true = rw e k in
-      refused _ _ _ x ∙ chosen _ _ _ y ∙ rw h (as-and (isKnown ns n) (namesKnown s ns left (p + 1)))
+      refused _ _ _ x ∙ chosen _ _ _ y ∙ rw (e, h) (as-and (known w n) (namesKnown s known left (p + 1)))
     where
       as-and : (a b : Bool) → elim a as (λ _. Bool) [ true ↦ b | false ↦ false ] ≡ (a && b)
       as-and true b = refl
@@ -54,8 +60,8 @@ module _ (s ns : List ℕ) where
   plain-right w t a h g = (h .0, omega arith, (omega arith, omega arith, (g .0, g .1, (omega arith, omega arith, (omega arith, omega arith, plain-sum a)))))
 
   -- an action: what it names is known, and what is named behind it
-  action-names : (a : Action) (p q left m : ℕ) → Stands s p (actionTokens a) q → left ≡ length (actionTokens a) + m → namesKnown s ns left p ≡ (eachIs (isKnown ns) (actionNames a) && namesKnown s ns m q)
-  unfolding actionTokens eachIs
+  action-names : (a : Action) (p q left m : ℕ) → Stands s p (actionTokens a) q → left ≡ length (actionTokens a) + m → namesKnown s known left p ≡ (eachKnown known (actionNames a) && namesKnown s known m q)
+  unfolding actionTokens eachKnown
   action-names (assign w v i a) p q left m h e = let b = bounds IN FIFO4 w v in names-behind (actionTokens (assign w v i a)) p q left m (plain-right w (wholeToken i) a (omega arith) (omega arith)) h e
   action-names (assignPosition x v a) p q left m h e = let b = bounds X W x v in names-behind (actionTokens (assignPosition x v a)) p q left m (plain-right IM x a (omega arith) (omega arith)) h e
   action-names (drive w v x u a) p q left m h e =
@@ -69,16 +75,16 @@ module _ (s ns : List ℕ) where
       (λ k.
       let two : p + 1 + 1 ≡ p + 2 = omega arith in
       let t : whole (token s (p + 2)) ≡ n = rw (rw two at (h .1 .1 .0)) (whole-token n .1) in
-      let named : eachIs (isKnown ns) (actionNames (call w v n)) ≡ isKnown ns n = ap (eachIs (isKnown ns)) (chosen (isLock w) (n ∷ []) [] k) ∙ and-true (isKnown ns n) in
+      let named : eachKnown known (actionNames (call w v n)) ≡ known w n = ap (eachKnown known) (chosen (isLock w) (record { word = w; number = n } ∷ []) [] k) ∙ and-true (known w n) in
       names-lock left p w n (h .0) (omega arith) k t ∙ rw (named, names-behind (OPEN ∷ wholeToken n ∷ CLOSE ∷ []) (p + 1) q left m behind (h .1) (omega arith)))
       (λ k.
-      let none : eachIs (isKnown ns) (actionNames (call w v n)) ≡ true = ap (eachIs (isKnown ns)) (refused (isLock w) (n ∷ []) [] k) in
+      let none : eachKnown known (actionNames (call w v n)) ≡ true = ap (eachKnown known) (refused (isLock w) (record { word = w; number = n } ∷ []) [] k) in
       names-behind (actionTokens (call w v n)) p q (suc left) m (omega arith, not-lock k, behind) h e ∙ rw none)
     where
       not-lock : isLock w ≡ false → LOCK ≤ w → UNLOCK < w
       not-lock k l = leb-false w UNLOCK (rw (le-leb LOCK w l) at k)
 
-  actions-names : (r : List Action) (a : Action) (p q left m : ℕ) → Stands s p (actionsTokens a r) q → left ≡ length (actionsTokens a r) + m → namesKnown s ns left p ≡ (eachIs (isKnown ns) (actionsNames a r) && namesKnown s ns m q)
+  actions-names : (r : List Action) (a : Action) (p q left m : ℕ) → Stands s p (actionsTokens a r) q → left ≡ length (actionsTokens a r) + m → namesKnown s known left p ≡ (eachKnown known (actionsNames a r) && namesKnown s known m q)
   unfolding actionsTokens actionsNames
   actions-names [] a p q left m h e = action-names a p q left m h e
   actions-names (b ∷ r) a p q left m h e =
@@ -86,7 +92,7 @@ module _ (s ns : List ℕ) where
       let n = length-append (actionTokens a) (actionsTokens b r) in
       let k = length (actionsTokens b r) + m in
       action-names a p i left k u (omega arith)
-      ∙ rw (actions-names r b i q k m v refl, each-append (isKnown ns) (actionNames a) (actionsNames b r)) (sym (and-assoc (eachIs (isKnown ns) (actionNames a)) (eachIs (isKnown ns) (actionsNames b r)) (namesKnown s ns m q)))
+      ∙ rw (actions-names r b i q k m v refl, each-append known (actionNames a) (actionsNames b r)) (sym (and-assoc (eachKnown known (actionNames a)) (eachKnown known (actionsNames b r)) (namesKnown s known m q)))
 
   plain-condition : (c : Condition) → Plain (conditionTokens c)
   unfolding conditionTokens
@@ -94,12 +100,12 @@ module _ (s ns : List ℕ) where
   plain-condition (under w v e) = let b = bounds WHEN EVERY w v in (omega arith, omega arith, plain-expression e)
 
   -- nothing is named behind the end
-  names-end : (left p : ℕ) → token s p ≡ END → namesKnown s ns left p ≡ true
+  names-end : (left p : ℕ) → token s p ≡ END → namesKnown s known left p ≡ true
   unfolding namesKnown
   names-end zero p e = refl
   names-end (suc left) p e = chosen _ _ _ (eq-eqb (token s p) END e)
 
-  pub names-by-tree : (l : Line) (p q : ℕ) → length (lineTokens l) ≤ suc setSize → Stands s p (lineTokens l) q → namesKnown s ns setSize p ≡ eachIs (isKnown ns) (namesIn l)
+  pub names-by-tree : (l : Line) (p q : ℕ) → length (lineTokens l) ≤ suc setSize → Stands s p (lineTokens l) q → namesKnown s known setSize p ≡ eachKnown known (namesIn l)
   unfolding lineTokens namesIn
   names-by-tree (line w v n c a r) p q l h =
       let b = bounds ID IDS w v in
@@ -114,4 +120,4 @@ module _ (s ns : List ℕ) where
       ∙ names-behind (conditionTokens c) i j (setSize - 3) m (plain-condition c) x (omega arith)
       ∙ names-behind (DO ∷ []) j (j + 1) m (m - 1) (omega arith) (y .0, refl) (omega arith)
       ∙ actions-names r a (j + 1) e (m - 1) k z (omega arith)
-      ∙ rw (names-end k e (o .0)) (and-true (eachIs (isKnown ns) (actionsNames a r)))
+      ∙ rw (names-end k e (o .0)) (and-true (eachKnown known (actionsNames a r)))
