@@ -1,6 +1,12 @@
 // synrun: reads standard input, hands it to a session piece by piece, and writes what the session prints. Nothing else happens here.
 //
 // Where reading or writing fails it says so on standard error and stops, without END.
+ghost use mathlib.Core.Path.{_≡_};
+ghost use mathlib.Core.Bool.{false, not};
+ghost use lib.Dec.{eqb};
+ghost use Rattle.transcript.specs.Intake.{OVER};
+ghost use Rattle.transcript.specs.Machine.{LeadsTo};
+ghost use Rattle.transcript.specs.SessionAnswers.{machineOf};
 use engine::empty_set;
 use libc::STDERR_FILENO;
 use libc::STDIN_FILENO;
@@ -34,7 +40,10 @@ fn not_written(part: &[u8]) -> bool {
 }
 
 // Hands over one piece of input, and writes what it prints, up to a write that fails.
-fn hand_over(session: Session, text: &mut [u8; KEPT], set: &mut [u32; SIZE], piece: &[u8]) -> Next {
+fn hand_over(session: Session, text: &mut [u8; KEPT], set: &mut [u32; SIZE], piece: &[u8]) -> Next
+    ensures { λ x. ⌜ (x .failed ≡ false → LeadsTo (machineOf (now (text .entry)) (now (set .entry)) session) (now (piece .entry)) (machineOf (now (text .exit)) (now (set .exit)) (x .session))) ⌝ }
+    ensures { λ x. ⌜ (x .failed ≡ false → x .more ≡ not (eqb (x .session .intake .phase) OVER)) ⌝ }
+{
     let mut s = session;
     let mut at: usize = 0;
     while at < piece.len() {

@@ -65,7 +65,7 @@ unfoldable pub beatOf : Machine → Lent → Fed
 beatOf m l =
     let n = counted (m .session .totals) (answerOf (m .set) (m .session .totals) l) in
     let text = beatText (m .set) (m .session .totals) l in
-    elim (eqb (n .beats) maxBeats) [
+    elim (eqb (n .beats .0) maxBeats) [
       | true ↦ record { machine = record { text = m .text; set = m .set; session = stopped (withTotals (m .session) n) }; output = text ++ ended n }
       | false ↦ record { machine = record { text = m .text; set = m .set; session = withTotals (m .session) n }; output = text }
     ]
@@ -154,3 +154,8 @@ workFrom (suc n) m t k o =
 -- the rest of the input of a session that is not fit is passed over
 unfoldable pub worked : Machine → List ℕ → Work
 worked m t = elim (isFit (m .session)) [ true ↦ workFrom (length t + 1) m t 0 [] | false ↦ record { machine = m; taken = length t; output = [] } ]
+
+-- handing a piece over, as often as something of it is left, leads from one machine to another
+pub data LeadsTo : Machine → List ℕ → Machine → Type 0 where
+  atEnd : (m : Machine) → LeadsTo m [] m
+  goesOn : (m x : Machine) (t : List ℕ) → LeadsTo (worked m t .machine) (drop (worked m t .taken) t) x → LeadsTo m t x

@@ -1,17 +1,21 @@
--- `hand_over` ends: of a piece that is not used up something is taken, and no more than there is; and what was printed fits in the buffer.
+-- `hand_over` meets its contract, and ends: of a piece that is not used up something is taken, and no more than there is; and what was printed fits in the buffer.
 use borrow.Author.Needs.{needs}
-use mathlib.Core.Path.{sym}
+use mathlib.Core.Path.{_≡_, sym, ap}
+use mathlib.Core.Bool.{not, false≢true}
 use Prim.Native.Nat.{ℕ, _-_, _≤_, _<_}
 use native.Mathlib.Omega.{arith}
-use lib.ListN.{length, take, drop, length-replicate}
+use lib.ListN.{length, take, drop, length-replicate, drop-of-length-le}
 use lib.Seq.{length-take-le}
 use Rattle.transcript.specs.Output.{outSize}
-use Rattle.synrun.proofs.ProgramLaws.{left-length, written-room, no-more, some}
+use Rattle.transcript.specs.Machine.{Machine, LeadsTo, atEnd}
+use Rattle.transcript.specs.SessionAnswers.{machineOf}
+use Rattle.synrun.proofs.ProgramLaws.{left-length, written-room, no-more, some, step-leads}
 use Rattle.synrun.proofs.hand_over.Statement.{statement}
 use Rattle.synrun.proofs.hand_over.Tie as tie
 
 abbrev Inv-loop : tie.InvT-loop
-Inv-loop text₀ set₀ piece s₀ at₀ text set s at = at ≤ length piece
+Inv-loop text₀ set₀ piece s₀ at₀ text set s at =
+    (at ≤ length piece) × ((x : Machine) → LeadsTo (machineOf text set s) (drop at piece) x → LeadsTo (machineOf text₀ set₀ s₀) piece x)
 
 abbrev μ-loop : tie.MeasureT-loop
 μ-loop text₀ set₀ piece s₀ at₀ text set s at = length piece - at
@@ -36,7 +40,7 @@ hand-over-spec =
     prefix
     counted
     (λ c κs. tt)
-    (λ c. search needs)
+    (λ c. (λ e. absurd (false≢true (sym e)), λ e. absurd (false≢true (sym e))))
     (λ c.
     let s = c .before .before .before .before .before in
     let b = s .before .before .before .before .before .before in
@@ -44,7 +48,7 @@ hand-over-spec =
     let d = left-length (b .loop .at) p in
     let r : s .step .result .taken ≤ length (take (length p - b .loop .at) (drop (b .loop .at) p)) = no-more _ _ (s .step .ensures .0) in
     let f = b .before .shared-slice-known .given in
-    omega (arith, b .loop .inv, s .before .before .before .before .before .loop-test .taken))
+    omega (arith, b .loop .inv .0, s .before .before .before .before .before .loop-test .taken))
     (λ c.
     let s = c .before .before .before .before .before in
     let b = s .before .before .before .before .before .before in
@@ -60,7 +64,10 @@ hand-over-spec =
     let p = b .before .before .args .piece .now in
     let d = left-length (b .loop .at) p in
     let r : s .step .result .taken ≤ length (take (length p - b .loop .at) (drop (b .loop .at) p)) = no-more _ _ (s .step .ensures .0) in
-    let i : b .loop .at ≤ length p = b .loop .inv in
-    omega arith)
+    let i : b .loop .at ≤ length p = b .loop .inv .0 in
+    (omega arith, λ x l. b .loop .inv .1 x (step-leads _ x p (b .loop .at) (s .step .ensures .0) (s .step .ensures .1 .0) (s .step .ensures .1 .1 .0) l)))
     (λ c κs. search needs)
-    (λ c. search needs))
+    (λ c.
+    let b = c .before .before in
+    let p = b .before .before .args .piece .now in
+    (λ e. b .loop .inv .1 _ (rw (drop-of-length-le p (c .before .loop-test .left)) (atEnd _)), λ e. ap not (c .is-over .ensures))))
