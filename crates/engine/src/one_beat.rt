@@ -23,8 +23,8 @@ use tokens::token::SIZE;
 use values::codes::SHORT_BUFFER;
 use values::codes::UNSOUND;
 use values::codes::WRONG_NUMBERS;
-use working::variables::RS;
 use working::variables::NUMBERS;
+use working::variables::RS;
 use working::variables::STATE_CELLS;
 
 // What a beat answers: its code, the count of orders in the buffer, the word of the lines that acted, by rank, and the state.

@@ -218,16 +218,16 @@ orders-add p x h (suc n) b rest =
     rw e (omega arith)
 
 -- a C line and its O lines add what each does
-beat-adds : (p : List ℕ → Bool) (x y : ℕ) (s : List ℕ) (n : Totals) (l : Lent) (rest : List ℕ) → one (p (codeBody (n .beats + 1) (answerOf s n l .code) (answerOf s n l .orders))) ≡ y →
+beat-adds : (p : List ℕ → Bool) (x y : ℕ) (s : List ℕ) (n : Totals) (l : Lent) (rest : List ℕ) → one (p (codeBody (n .beats .0 + 1) (answerOf s n l .code) (answerOf s n l .orders))) ≡ y →
     ((o : List ℕ) → one (p (orderBody o)) ≡ x) → linesIn p (beatText s n l ++ rest) ≡ y + (answerOf s n l .orders * x + linesIn p rest)
 unfolding beatText
 beat-adds p x y s n l rest g h =
     let a = answerOf s n l in
-    let body = codeBody (n .beats + 1) (a .code) (a .orders) in
+    let body = codeBody (n .beats .0 + 1) (a .code) (a .orders) in
     let os = orderLines (a .orders) (bufferOf s n l) in
-    let head = codeLine (n .beats + 1) (a .code) (a .orders) in
-    let e : head ++ os ++ rest ≡ body ++ (LF ∷ (os ++ rest)) = append-assoc head os rest ∙ code-line (n .beats + 1) (a .code) (a .orders) (os ++ rest) in
-    let c = count-first p body (os ++ rest) (code-above (n .beats + 1) (a .code) (a .orders)) in
+    let head = codeLine (n .beats .0 + 1) (a .code) (a .orders) in
+    let e : head ++ os ++ rest ≡ body ++ (LF ∷ (os ++ rest)) = append-assoc head os rest ∙ code-line (n .beats .0 + 1) (a .code) (a .orders) (os ++ rest) in
+    let c = count-first p body (os ++ rest) (code-above (n .beats .0 + 1) (a .code) (a .orders)) in
     let d = orders-add p x h (a .orders) (bufferOf s n l) rest in
     rw e (c ∙ omega arith)
 
@@ -236,25 +236,25 @@ module _ (s : List ℕ) (n : Totals) (l : Lent) (rest : List ℕ) where
   answer = answerOf s n l
 
   beats-one : linesIn isBeat (beatText s n l ++ rest) ≡ 1 + linesIn isBeat rest
-  beats-one = let e = beat-adds isBeat 0 1 s n l rest (code-is-beat (n .beats + 1) (answer .code) (answer .orders)) order-no-beat in omega arith
+  beats-one = let e = beat-adds isBeat 0 1 s n l rest (code-is-beat (n .beats .0 + 1) (answer .code) (answer .orders)) order-no-beat in omega arith
 
   coded-one : linesIn isCoded (beatText s n l ++ rest) ≡ oneIf (answer .code) + linesIn isCoded rest
-  coded-one = let e = beat-adds isCoded 0 (oneIf (answer .code)) s n l rest (code-is-coded (n .beats + 1) (answer .code) (answer .orders)) order-no-code in omega arith
+  coded-one = let e = beat-adds isCoded 0 (oneIf (answer .code)) s n l rest (code-is-coded (n .beats .0 + 1) (answer .code) (answer .orders)) order-no-code in omega arith
 
   orders-all : linesIn isOrder (beatText s n l ++ rest) ≡ answer .orders + linesIn isOrder rest
-  orders-all = let e = beat-adds isOrder 1 0 s n l rest (code-no-order (n .beats + 1) (answer .code) (answer .orders)) order-is-order in omega arith
+  orders-all = let e = beat-adds isOrder 1 0 s n l rest (code-no-order (n .beats .0 + 1) (answer .code) (answer .orders)) order-is-order in omega arith
 
 -- ---- what stands at the end
 
 -- END with what was counted before and in what was shown
 abbrev endFrom : Totals → List ℕ → List ℕ
-endFrom n shown = endLine (n .beats + linesIn isBeat shown) (n .coded + linesIn isCoded shown) (n .orders + linesIn isOrder shown)
+endFrom n shown = endLine (n .beats .0 + linesIn isBeat shown) (n .coded + linesIn isCoded shown) (n .orders + linesIn isOrder shown)
 
 -- E with the number of the line behind those taken, each a beat
 abbrev errorFrom : Totals → List ℕ → List ℕ
 errorFrom n shown = errorLine (n .lines + linesIn isBeat shown + 1)
 
-nothing-counted : (n : Totals) → (n .beats + linesIn isBeat [] ≡ n .beats) × (n .coded + linesIn isCoded [] ≡ n .coded) × (n .orders + linesIn isOrder [] ≡ n .orders)
+nothing-counted : (n : Totals) → (n .beats .0 + linesIn isBeat [] ≡ n .beats .0) × (n .coded + linesIn isCoded [] ≡ n .coded) × (n .orders + linesIn isOrder [] ≡ n .orders)
 unfolding count split
 nothing-counted n = (omega arith, omega arith, omega arith)
 
@@ -274,7 +274,7 @@ module _ (s : List ℕ) (n : Totals) (x : Lent) (shown : List ℕ) where
       let b = beats-one s n x shown in
       let c = coded-one s n x shown in
       let o = orders-all s n x shown in
-      let p : then .beats + linesIn isBeat shown ≡ n .beats + linesIn isBeat (beatText s n x ++ shown) = omega arith in
+      let p : then .beats .0 + linesIn isBeat shown ≡ n .beats .0 + linesIn isBeat (beatText s n x ++ shown) = omega arith in
       let q : then .coded + linesIn isCoded shown ≡ n .coded + linesIn isCoded (beatText s n x ++ shown) = omega arith in
       let r : then .orders + linesIn isOrder shown ≡ n .orders + linesIn isOrder (beatText s n x ++ shown) = omega arith in
       λ i. endLine (p i) (q i) (r i)
@@ -304,7 +304,7 @@ end-counted : (ls : List (List ℕ)) (s : List ℕ) (n : Totals) → wellFormed 
 unfolding beatsText
 end-counted [] s n h = ([], end-now n)
 end-counted (l ∷ ls) s n h =
-    decide ((shown : List ℕ) × (beatsText s n (l ∷ ls) ≡ shown ++ endFrom n shown)) (eqb (n .beats) maxBeats)
+    decide ((shown : List ℕ) × (beatsText s n (l ∷ ls) ≡ shown ++ endFrom n shown)) (eqb (n .beats .0) maxBeats)
     (λ e. ([], beats-over s n (l ∷ ls) e ∙ end-now n))
     (λ e. let w = well-first l ls h in
     let x = w .0 in
@@ -327,7 +327,7 @@ last-counted : (ls : List (List ℕ)) (s : List ℕ) (n : Totals) → Last n (be
 unfolding beatsText
 last-counted [] s n = ([], inl (end-now n))
 last-counted (l ∷ ls) s n =
-    either (Last n) (eqb (n .beats) maxBeats) (λ e. ([], inl (end-now n)))
+    either (Last n) (eqb (n .beats .0) maxBeats) (λ e. ([], inl (end-now n)))
     (λ e. byLent (Last n) (lineLent l) (λ u. ([], inr (error-now n))) (λ x u. last-later s n x (beatsText s (counted n (answerOf s n x)) ls) (last-counted ls s (counted n (answerOf s n x)))))
 
 -- ---- all that is printed

@@ -112,7 +112,7 @@ arrival-text m nothing = refl
 arrival-text m (wholeText n) = byCode (λ (y : Fed). y .machine .text ≡ m .text) (loadAnswer (take n (m .text)) .code) (λ e. refl) (λ c e. refl)
 arrival-text m (beatLine none) = refl
 arrival-text m (beatLine (some l)) =
-    either (λ (y : Fed). y .machine .text ≡ m .text) (eqb (counted (m .session .totals) (answerOf (m .set) (m .session .totals) l) .beats) maxBeats) (λ e. refl) (λ e. refl)
+    either (λ (y : Fed). y .machine .text ≡ m .text) (eqb (counted (m .session .totals) (answerOf (m .set) (m .session .totals) l) .beats .0) maxBeats) (λ e. refl) (λ e. refl)
 
 kept-held : (x : Intake) (t : List ℕ) → length (lineKept x t) ≡ length t
 unfolding lineKept textLineKept

@@ -86,23 +86,23 @@ over-onward m o ls h = ap (λ (y : List ℕ). o ++ y) (over-prints ls m h) ∙ a
 
 module _ (s : List ℕ) (n : Totals) where
   -- after the last beat nothing more is read
-  pub beats-over : (ls : List (List ℕ)) → eqb (n .beats) maxBeats ≡ true → beatsText s n ls ≡ ended n
+  pub beats-over : (ls : List (List ℕ)) → eqb (n .beats .0) maxBeats ≡ true → beatsText s n ls ≡ ended n
   unfolding beatsText
   beats-over [] h = refl
-  beats-over (l ∷ ls) h = either (λ (y : List ℕ). y ≡ ended n) (eqb (n .beats) maxBeats) (λ e. refl) (λ e. clash (cc))
+  beats-over (l ∷ ls) h = either (λ (y : List ℕ). y ≡ ended n) (eqb (n .beats .0) maxBeats) (λ e. refl) (λ e. clash (cc))
 
-  beats-none : (l : List ℕ) (ls : List (List ℕ)) → eqb (n .beats) maxBeats ≡ false → lineLent l ≡ none → beatsText s n (l ∷ ls) ≡ errorLine (n .lines + 1)
+  beats-none : (l : List ℕ) (ls : List (List ℕ)) → eqb (n .beats .0) maxBeats ≡ false → lineLent l ≡ none → beatsText s n (l ∷ ls) ≡ errorLine (n .lines + 1)
   unfolding beatsText
   beats-none l ls h g =
       let P : List ℕ → Type 0 = λ y. y ≡ errorLine (n .lines + 1) in
-      either P (eqb (n .beats) maxBeats) (λ e. clash (cc)) (λ e. byLent P (lineLent l) (λ u. refl) (λ x u. clash (cc)))
+      either P (eqb (n .beats .0) maxBeats) (λ e. clash (cc)) (λ e. byLent P (lineLent l) (λ u. refl) (λ x u. clash (cc)))
 
-  pub beats-some : (l : List ℕ) (ls : List (List ℕ)) (x : Lent) → eqb (n .beats) maxBeats ≡ false → lineLent l ≡ some x →
+  pub beats-some : (l : List ℕ) (ls : List (List ℕ)) (x : Lent) → eqb (n .beats .0) maxBeats ≡ false → lineLent l ≡ some x →
       beatsText s n (l ∷ ls) ≡ beatText s n x ++ beatsText s (counted n (answerOf s n x)) ls
   unfolding beatsText
   beats-some l ls x h g =
       let P : List ℕ → Type 0 = λ y. y ≡ beatText s n x ++ beatsText s (counted n (answerOf s n x)) ls in
-      either P (eqb (n .beats) maxBeats) (λ e. clash (cc)) (λ e. byLent P (lineLent l) (λ u. clash (cc)) (λ y u. let q : y ≡ x = cc in rw q))
+      either P (eqb (n .beats .0) maxBeats) (λ e. clash (cc)) (λ e. byLent P (lineLent l) (λ u. clash (cc)) (λ y u. let q : y ≡ x = cc in rw q))
 
 -- a machine that reads a beat line, with what was read of it
 abbrev beating : List ℕ → List ℕ → Place → Totals → HalfLine → Machine
@@ -136,13 +136,13 @@ module _ (t s : List ℕ) (p : Place) (n : Totals) where
     abbrev oneBeat : Fed
     oneBeat = record { machine = beating t s p next noHalfLine; output = beatText s n x }
 
-    beat-last : eqb (next .beats) maxBeats ≡ true → beatEnd awaiting (some x) ≡ lastBeat
+    beat-last : eqb (next .beats .0) maxBeats ≡ true → beatEnd awaiting (some x) ≡ lastBeat
     unfolding beatEnd beatOf
-    beat-last h = either (λ (y : Fed). y ≡ lastBeat) (eqb (next .beats) maxBeats) (λ e. refl) (λ e. clash (cc))
+    beat-last h = either (λ (y : Fed). y ≡ lastBeat) (eqb (next .beats .0) maxBeats) (λ e. refl) (λ e. clash (cc))
 
-    beat-more : eqb (next .beats) maxBeats ≡ false → beatEnd awaiting (some x) ≡ oneBeat
+    beat-more : eqb (next .beats .0) maxBeats ≡ false → beatEnd awaiting (some x) ≡ oneBeat
     unfolding beatEnd beatOf
-    beat-more h = either (λ (y : Fed). y ≡ oneBeat) (eqb (next .beats) maxBeats) (λ e. clash (cc)) (λ e. refl)
+    beat-more h = either (λ (y : Fed). y ≡ oneBeat) (eqb (next .beats .0) maxBeats) (λ e. clash (cc)) (λ e. refl)
 
   -- a line with its LF, and a last line without
   line-read : (l : List ℕ) → lineEnd (chunk awaiting l) ≡ beatEnd awaiting (readLent (withoutCR (readOn noHalfLine l)))
@@ -161,18 +161,18 @@ module _ (t s : List ℕ) (p : Place) (n : Totals) where
       read = decide (isUntouched (readOn noHalfLine (b ∷ bs)) ≡ false) (isUntouched (readOn noHalfLine (b ∷ bs))) (λ e. let z = untouched (b ∷ bs) .0 e in clash (cc)) (λ e. e)
 
   -- the last line, without an LF
-  last-beat : (l : List ℕ) → eqb (n .beats) maxBeats ≡ false → lastOutput (beatEnd awaiting (lineLent l)) ≡ beatsText s n (l ∷ [])
+  last-beat : (l : List ℕ) → eqb (n .beats .0) maxBeats ≡ false → lastOutput (beatEnd awaiting (lineLent l)) ≡ beatsText s n (l ∷ [])
   unfolding endAfter beatsText
   last-beat l h =
       let on : Option Lent → List ℕ = λ o. lastOutput (beatEnd awaiting o) in
       byOption (on (lineLent l) ≡ beatsText s n (l ∷ [])) (lineLent l)
       (λ e. ap on e ∙ ap lastOutput end-none ∙ append-nil (errorLine (n .lines + 1)) ∙ sym (beats-none s n l [] h e))
-      (λ x e. decide (on (lineLent l) ≡ beatsText s n (l ∷ [])) (eqb (next x .beats) maxBeats)
+      (λ x e. decide (on (lineLent l) ≡ beatsText s n (l ∷ [])) (eqb (next x .beats .0) maxBeats)
       (λ g. ap on e ∙ ap lastOutput (beat-last x g) ∙ append-nil (beatText s n x ++ ended (next x)) ∙ sym (beats-some s n l [] x h e))
       (λ g. ap on e ∙ ap lastOutput (beat-more x g) ∙ sym (beats-some s n l [] x h e)))
 
 module _ (t s : List ℕ) (p : Place) where
-  beats-print : (ls : List (List ℕ)) (n : Totals) → (ls ≡ [] → ⊥) → eqb (n .beats) maxBeats ≡ false → prints (awaiting t s p n) ls ≡ beatsText s n (beatLines ls)
+  beats-print : (ls : List (List ℕ)) (n : Totals) → (ls ≡ [] → ⊥) → eqb (n .beats .0) maxBeats ≡ false → prints (awaiting t s p n) ls ≡ beatsText s n (beatLines ls)
   unfolding beatLines
   beats-print [] n g h = absurd (g refl)
   beats-print ([] ∷ []) n g h = prints-last (awaiting t s p n) [] ∙ nothing-read t s p n
@@ -187,7 +187,7 @@ module _ (t s : List ℕ) (p : Place) where
       prints-line (awaiting t s p n) l k ls ∙ ap to (line-read t s p n l) ∙ ap on (lent-ended l)
       ∙ byOption (on (lineLent c) ≡ beatsText s n (c ∷ rest)) (lineLent c)
       (λ e. ap on e ∙ ap to (end-none t s p n) ∙ over-onward _ (errorLine (n .lines + 1)) (k ∷ ls) refl ∙ sym (beats-none s n c rest h e))
-      (λ x e. decide (on (lineLent c) ≡ beatsText s n (c ∷ rest)) (eqb (next t s p n x .beats) maxBeats)
+      (λ x e. decide (on (lineLent c) ≡ beatsText s n (c ∷ rest)) (eqb (next t s p n x .beats .0) maxBeats)
       (λ z. ap on e ∙ ap to (beat-last t s p n x z) ∙ over-onward _ (beatText s n x ++ ended (next t s p n x)) (k ∷ ls) refl
       ∙ ap (λ (y : List ℕ). beatText s n x ++ y) (sym (beats-over s (next t s p n x) rest z)) ∙ sym (beats-some s n c rest x h e))
       (λ z. ap on e ∙ ap to (beat-more t s p n x z) ∙ ap (λ (y : List ℕ). beatText s n x ++ y) (beats-print (k ∷ ls) (next t s p n x) (λ u. clash (cc)) z)

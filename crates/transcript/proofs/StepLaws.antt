@@ -58,16 +58,16 @@ end-near s n l w p = let e = p .behind in let r = beat-room s n l in omega arith
 
 -- a beat of a line that lends l, its totals y
 module _ (t s : List ℕ) (x : Session) (l : Lent) {y : Totals} (e : y ≡ counted (x .totals) (answerOf s (x .totals) l)) where
-  beats-are : x .totals .beats + 1 ≡ y .beats
-  beats-are = ap (λ (z : Totals). z .beats) (sym e)
+  beats-are : x .totals .beats .0 + 1 ≡ y .beats .0
+  beats-are = ap (λ (z : Totals). z .beats .0) (sym e)
 
-  pub beat-last : y .beats ≡ maxBeats → {z : Session} → z ≡ stopped (withTotals x y) → beatOf (machineOf t s x) l ≡ record { machine = machineOf t s z; output = beatText s (x .totals) l ++ ended y }
+  pub beat-last : y .beats .0 ≡ maxBeats → {z : Session} → z ≡ stopped (withTotals x y) → beatOf (machineOf t s x) l ≡ record { machine = machineOf t s z; output = beatText s (x .totals) l ++ ended y }
   unfolding beatOf
-  beat-last h k = rw (k, e) (simp (beatOf, eq-eqb (x .totals .beats + 1) maxBeats (beats-are ∙ h)))
+  beat-last h k = rw (k, e) (simp (beatOf, eq-eqb (x .totals .beats .0 + 1) maxBeats (beats-are ∙ h)))
 
-  pub beat-more : (y .beats ≡ maxBeats → ⊥) → beatOf (machineOf t s x) l ≡ record { machine = machineOf t s (withTotals x y); output = beatText s (x .totals) l }
+  pub beat-more : (y .beats .0 ≡ maxBeats → ⊥) → beatOf (machineOf t s x) l ≡ record { machine = machineOf t s (withTotals x y); output = beatText s (x .totals) l }
   unfolding beatOf
-  beat-more h = rw e (simp (beatOf, ne-eqb (x .totals .beats + 1) maxBeats (λ g. h (sym beats-are ∙ g))))
+  beat-more h = rw e (simp (beatOf, ne-eqb (x .totals .beats .0 + 1) maxBeats (λ g. h (sym beats-are ∙ g))))
 
 -- a beat line
 module _ (t s : List ℕ) (x : Session) (l : MaybeLent) where

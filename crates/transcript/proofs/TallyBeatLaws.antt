@@ -34,9 +34,9 @@ module _ (s : List ℕ) (n : Totals) (l : Lent) {b : Beaten} (a : b ≡ beatAnsw
 
   -- its orders in o
   module _ {o : List ℕ} (f : o ≡ beatBuffer s (n .state) (givenBy l)) where
-    printed : beatText s n l ≡ codeLine (n .beats + 1) (b .code) (b .orders) ++ orderLines (b .orders) o
+    printed : beatText s n l ≡ codeLine (n .beats .0 + 1) (b .code) (b .orders) ++ orderLines (b .orders) o
     unfolding beatText answerOf bufferOf
     printed = rw (a, f)
 
-    pub beat-put : {at : ℕ} {c d e : List ℕ} {p q : ℕ} → IsPut c at (codeLine (n .beats + 1) (b .code) (b .orders)) d p → IsPut d p (orderLines (b .orders) o) e q → IsPut c at (beatText s n l) e q
+    pub beat-put : {at : ℕ} {c d e : List ℕ} {p q : ℕ} → IsPut c at (codeLine (n .beats .0 + 1) (b .code) (b .orders)) d p → IsPut d p (orderLines (b .orders) o) e q → IsPut c at (beatText s n l) e q
     beat-put u v = put-as printed (put-both u v)

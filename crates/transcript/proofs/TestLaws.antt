@@ -7,7 +7,7 @@ use Rattle.engine.specs.Order.{maxOrders}
 use Rattle.transcript.specs.declared.totals.Totals.{Totals}
 use Rattle.transcript.specs.Totals.{maxBeats, oneIf, areFit}
 
-pub fit-but-orders : (n : Totals) → n .beats < maxBeats → n .lines ≡ n .beats → n .coded ≤ n .beats → leb (n .orders) (n .beats * maxOrders) ≡ areFit n
+pub fit-but-orders : (n : Totals) → n .beats .0 < maxBeats → n .lines ≡ n .beats .0 → n .coded ≤ n .beats .0 → leb (n .orders) (n .beats .0 * maxOrders) ≡ areFit n
 unfolding areFit
 fit-but-orders n a l b = simp (lt-ltb _ _ a, eq-eqb _ _ l, le-leb _ _ b)
 

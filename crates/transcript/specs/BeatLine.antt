@@ -6,6 +6,7 @@ use Prim.Native.Nat.{ℕ, zero, suc}
 use lib.Dec.{eqb, leb}
 use lib.IntN.{ℤ, pos, negsuc}
 use lib.ListN.{length, take, replicate}
+use Rattle.working.specs.Variables.{numberCount}
 use Rattle.text.specs.Byte.{bytes, SPACE, isDigit}
 use Rattle.text.specs.Lines.{split}
 use Rattle.text.specs.Word.{sameBytes}
@@ -16,10 +17,6 @@ pub record Lent : Type 0 where
   pub automatic : Bool
   pub word : ℕ
   pub numbers : List ℤ
-
--- the numbers that a line may have
-abbrev pub mostNumbers : ℕ
-mostNumbers = 14
 
 -- the fields of a line: a space ends one and begins the next
 abbrev pub fields : List ℕ → List (List ℕ)
@@ -74,7 +71,7 @@ lentNumbers (f ∷ fs) = withNumber (lentNumber f) (lentNumbers fs)
 
 -- those left off are 0
 abbrev pub lentOf : Option Bool → Option ℕ → Option (List ℤ) → Option Lent
-lentOf (some a) (some w) (some vs) = some (record { automatic = a; word = w; numbers = take mostNumbers (vs ++ replicate mostNumbers (pos 0)) })
+lentOf (some a) (some w) (some vs) = some (record { automatic = a; word = w; numbers = take numberCount (vs ++ replicate numberCount (pos 0)) })
 lentOf (some a) (some w) none = none
 lentOf (some a) none vs = none
 lentOf none w vs = none
@@ -83,7 +80,7 @@ lentOf none w vs = none
 unfoldable pub fieldsLent : List (List ℕ) → Option Lent
 fieldsLent [] = none
 fieldsLent (m ∷ []) = none
-fieldsLent (m ∷ w ∷ fs) = elim (leb (length fs) mostNumbers) [ true ↦ lentOf (modeOf m) (wordOf w) (lentNumbers fs) | false ↦ none ]
+fieldsLent (m ∷ w ∷ fs) = elim (leb (length fs) numberCount) [ true ↦ lentOf (modeOf m) (wordOf w) (lentNumbers fs) | false ↦ none ]
 
 unfoldable pub lineLent : List ℕ → Option Lent
 lineLent l = fieldsLent (fields l)

@@ -6,17 +6,18 @@ use Prim.Native.Nat.{ℕ, _+_, _-_, _*_, min}
 use lib.Dec.{eqb, leb, ltb}
 use lib.IntN.{ℤ, pos}
 use lib.ListN.{set, replicate}
+use Rattle.working.specs.Variables.{numberCount}
 use Rattle.text.specs.Byte.{CR, SPACE, isDigit}
 use Rattle.transcript.specs.declared.beat_line.HalfLine.{HalfLine}
-use Rattle.transcript.specs.BeatLine.{Lent, mostNumbers, minus}
+use Rattle.transcript.specs.BeatLine.{Lent, minus}
 
 -- fields are counted from 0: the mode, the input word, the numbers
 abbrev pub lastField : ℕ
-lastField = mostNumbers + 1
+lastField = numberCount + 1
 
 -- before its first byte
 abbrev pub noHalfLine : HalfLine
-noHalfLine = record { field = 0; stage = 0; automatic = false; word = 0; negative = false; value = 0; numbers = replicate mostNumbers (pos 0) }
+noHalfLine = record { field = 0; stage = 0; automatic = false; word = 0; negative = false; value = 0; numbers = replicate numberCount (pos 0) }
 
 abbrev pub withStage : HalfLine → ℕ → HalfLine
 withStage r s = record { field = r .field; stage = s; automatic = r .automatic; word = r .word; negative = r .negative; value = r .value; numbers = r .numbers }

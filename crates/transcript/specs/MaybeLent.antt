@@ -3,12 +3,13 @@ use mathlib.Core.Bool.{true, false}
 use mathlib.Core.Option.{Option, none, some}
 use lib.IntN.{pos}
 use lib.ListN.{replicate}
+use Rattle.working.specs.Variables.{numberCount}
 use Rattle.transcript.specs.declared.beat_line.MaybeLent.{MaybeLent}
-use Rattle.transcript.specs.BeatLine.{Lent, mostNumbers}
+use Rattle.transcript.specs.BeatLine.{Lent}
 
 -- what a beat line lends, if it lends anything
 abbrev pub maybeLent : Option Lent → MaybeLent
-maybeLent none = record { good = false; automatic = false; word = 0; numbers = replicate mostNumbers (pos 0) }
+maybeLent none = record { good = false; automatic = false; word = 0; numbers = replicate numberCount (pos 0) }
 maybeLent (some l) = record { good = true; automatic = l .automatic; word = l .word; numbers = l .numbers }
 
 -- what it lends, where it lends something

@@ -52,7 +52,7 @@ beat-orders s n l = orders-within s (n .state) (givenBy l)
 pub beat-room : (s : List ℕ) (n : Totals) (l : Lent) → length (beatText s n l) ≤ beatRoom
 unfolding beatText
 beat-room s n l =
-    let a = code-room (n .beats + 1) (answerOf s n l .code) (answerOf s n l .orders) in
+    let a = code-room (n .beats .0 + 1) (answerOf s n l .code) (answerOf s n l .orders) in
     let b = orders-room (answerOf s n l .orders) (bufferOf s n l) in
     let c = beat-orders s n l in
     simp length-append (omega arith)
@@ -66,8 +66,8 @@ unfolding beatOf
 beatOf-room m l =
     let n = counted (m .session .totals) (answerOf (m .set) (m .session .totals) l) in
     let a = beat-room (m .set) (m .session .totals) l in
-    let b = end-room (n .beats) (n .coded) (n .orders) in
-    either (Prints lineRoom) (eqb (n .beats) maxBeats) (λ e. simp length-append (omega arith)) (λ e. omega arith)
+    let b = end-room (n .beats .0) (n .coded) (n .orders) in
+    either (Prints lineRoom) (eqb (n .beats .0) maxBeats) (λ e. simp length-append (omega arith)) (λ e. omega arith)
 
 pub beat-end-room : (m : Machine) (o : Option Lent) → length (beatEnd m o .output) ≤ lineRoom
 unfolding beatEnd
@@ -97,7 +97,7 @@ end-after-room : (x : Session) → Short endRoom (endAfter x)
 unfolding endAfter
 end-after-room x =
     let n = x .totals in
-    let a = end-room (n .beats) (n .coded) (n .orders) in
+    let a = end-room (n .beats .0) (n .coded) (n .orders) in
     either (Short endRoom) (eqb (x .intake .phase) BEATS) (λ e. a) (λ e. omega arith)
 
 last-room : (f : Fed) → Prints lineRoom f → Short outSize (lastOutput f)
@@ -135,7 +135,7 @@ fit-whole x f = and-true (intake-whole (x .intake) (f .intake)) (totals-fit (x .
 
 -- totals that are fit, or those after the last beat, of a session that is over
 abbrev pub LiveTotals : Session → Type 0
-LiveTotals x = FitTotals (x .totals) ⊎ ((x .intake .phase ≡ OVER) × (x .totals .beats ≡ maxBeats))
+LiveTotals x = FitTotals (x .totals) ⊎ ((x .intake .phase ≡ OVER) × (x .totals .beats .0 ≡ maxBeats))
 
 -- fit, or over after the last beat
 pub record Lives (x : Session) : Type 0 where
@@ -157,8 +157,8 @@ beatOf-lives m l f =
     let a = answerOf (m .set) (x .totals) l in
     let n = counted (x .totals) a in
     let o = beat-orders (m .set) (x .totals) l in
-    either FedLives (eqb (n .beats) maxBeats) (λ e. record { intake = phase-fit OVER (f .intake); totals = inr (refl, eqb-true (n .beats) maxBeats e) })
-    (λ e. record { intake = f .intake; totals = inl (counting-fit (x .totals) (a .code) (a .orders) (a .state) (f .totals) o (eqb-false (n .beats) maxBeats e)) })
+    either FedLives (eqb (n .beats .0) maxBeats) (λ e. record { intake = phase-fit OVER (f .intake); totals = inr (refl, eqb-true (n .beats .0) maxBeats e) })
+    (λ e. record { intake = f .intake; totals = inl (counting-fit (x .totals) (a .code) (a .orders) (a .state) (f .totals) o (eqb-false (n .beats .0) maxBeats e)) })
 
 stopped-lives : (x : Session) → Fit x → Lives (stopped x)
 stopped-lives x f = record { intake = phase-fit OVER (f .intake); totals = inl (f .totals) }

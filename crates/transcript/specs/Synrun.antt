@@ -16,7 +16,7 @@ use Rattle.transcript.specs.Input.{Input, inputOf}
 unfoldable pub beatsText : List ℕ → Totals → List (List ℕ) → List ℕ
 beatsText s n [] = ended n
 beatsText s n (l ∷ ls) =
-    elim (eqb (n .beats) maxBeats) [
+    elim (eqb (n .beats .0) maxBeats) [
       | true ↦ ended n
       | false ↦
           elim (lineLent l) [

@@ -26,4 +26,4 @@ bufferOf s n l = beatBuffer s (n .state) (givenBy l)
 
 -- what is printed of a beat: C, then an O per order
 unfoldable pub beatText : List ℕ → Totals → Lent → List ℕ
-beatText s n l = codeLine (n .beats + 1) (answerOf s n l .code) (answerOf s n l .orders) ++ orderLines (answerOf s n l .orders) (bufferOf s n l)
+beatText s n l = codeLine (n .beats .0 + 1) (answerOf s n l .code) (answerOf s n l .orders) ++ orderLines (answerOf s n l .orders) (bufferOf s n l)

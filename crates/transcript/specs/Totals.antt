@@ -15,10 +15,10 @@ maxBeats = 1000000
 
 -- before the first beat
 abbrev pub noTotals : Totals
-noTotals = record { state = powerOn; lines = 0; beats = 0; coded = 0; orders = 0 }
+noTotals = record { state = powerOn; lines = 0; beats = record { 0 = 0 }; coded = 0; orders = 0 }
 
 abbrev pub ended : Totals → List ℕ
-ended n = endLine (n .beats) (n .coded) (n .orders)
+ended n = endLine (n .beats .0) (n .coded) (n .orders)
 
 -- one more beat with a code
 abbrev pub oneIf : ℕ → ℕ
@@ -27,8 +27,8 @@ oneIf (suc c) = 1
 
 -- the totals with a line and its beat, by its code, its orders and the state that it leaves
 abbrev pub counting : Totals → ℕ → ℕ → State → Totals
-counting n code orders x = record { state = x; lines = n .lines + 1; beats = n .beats + 1; coded = n .coded + oneIf code; orders = n .orders + orders }
+counting n code orders x = record { state = x; lines = n .lines + 1; beats = record { 0 = n .beats .0 + 1 }; coded = n .coded + oneIf code; orders = n .orders + orders }
 
 -- totals that a session may have with a beat still to come: each line was a beat
 unfoldable pub areFit : Totals → Bool
-areFit n = ltb (n .beats) maxBeats && (eqb (n .lines) (n .beats) && (leb (n .coded) (n .beats) && leb (n .orders) (n .beats * maxOrders)))
+areFit n = ltb (n .beats .0) maxBeats && (eqb (n .lines) (n .beats .0) && (leb (n .coded) (n .beats .0) && leb (n .orders) (n .beats .0 * maxOrders)))

@@ -14,19 +14,19 @@ use Rattle.transcript.specs.Totals.{maxBeats, oneIf, counting, areFit}
 -- ---- totals that are fit
 
 pub record FitTotals (n : Totals) : Type 0 where
-  pub beats : n .beats < maxBeats
-  pub lines : n .lines ≡ n .beats
-  pub coded : n .coded ≤ n .beats
-  pub orders : n .orders ≤ n .beats * maxOrders
+  pub beats : n .beats .0 < maxBeats
+  pub lines : n .lines ≡ n .beats .0
+  pub coded : n .coded ≤ n .beats .0
+  pub orders : n .orders ≤ n .beats .0 * maxOrders
 
 -- each of the tests
 pub fit-totals : (n : Totals) → areFit n ≡ true → FitTotals n
 unfolding areFit
 fit-totals n h =
-    let b = ltb (n .beats) maxBeats in
-    let c = leb (n .coded) (n .beats) in
-    let o = leb (n .orders) (n .beats * maxOrders) in
-    let l = eqb (n .lines) (n .beats) in
+    let b = ltb (n .beats .0) maxBeats in
+    let c = leb (n .coded) (n .beats .0) in
+    let o = leb (n .orders) (n .beats .0 * maxOrders) in
+    let l = eqb (n .lines) (n .beats .0) in
     let h₁ = both b (l && (c && o)) h .1 in
     let h₂ = both l (c && o) h₁ .1 in
     record {
@@ -48,7 +48,7 @@ one-most zero = omega arith
 one-most (suc c) = omega arith
 
 -- before the last beat they stay fit
-pub counting-fit : (n : Totals) (code orders : ℕ) (x : State) → FitTotals n → orders ≤ maxOrders → (n .beats + 1 ≡ maxBeats → ⊥) → FitTotals (counting n code orders x)
+pub counting-fit : (n : Totals) (code orders : ℕ) (x : State) → FitTotals n → orders ≤ maxOrders → (n .beats .0 + 1 ≡ maxBeats → ⊥) → FitTotals (counting n code orders x)
 counting-fit n code orders x f o h =
     let k = one-most code in
     let b = f .beats in

@@ -10,9 +10,7 @@ ghost use mathlib.Core.Option.{none};
 use text::bytes::CR;
 use text::bytes::SPACE;
 use text::bytes::is_digit;
-
-// The numbers that a beat line may have.
-pub const NUMBERS: usize = 14;
+use working::variables::NUMBERS;
 
 const A: u8 = 65;
 

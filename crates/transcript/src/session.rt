@@ -13,8 +13,6 @@ ghost use Rattle.transcript.specs.MaybeLent.{lentIn, lentOr};
 ghost use Rattle.transcript.specs.TotalsLaws.{FitTotals};
 ghost use Rattle.transcript.specs.SessionRoomLaws.{Lives};
 use crate::beat_line::MaybeLent;
-use crate::printing::LAST_START;
-use crate::printing::OUT;
 use crate::intake::BEATS;
 use crate::intake::Ending;
 use crate::intake::Intake;
@@ -25,6 +23,8 @@ use crate::intake::intake_fits;
 use crate::intake::no_intake;
 use crate::intake::stop;
 use crate::intake::take_in;
+use crate::printing::LAST_START;
+use crate::printing::OUT;
 use crate::printing::load_line;
 use crate::set_text::KEPT;
 use crate::tally::tally_beat;
@@ -117,7 +117,7 @@ fn work_beat(
     let next = t.totals;
     let mut x = session;
     x.totals = next;
-    if next.beats == MAX_BEATS {
+    if next.beats.0 == MAX_BEATS.0 {
         let end = put_end(next, out, t.end);
         return Ended {
             session: stop_session(x),

@@ -39,7 +39,7 @@ pub fn tally_beat(
     let numbers = lent.numbers;
     let b = beat(set, state, lent.automatic, lent.word, &numbers, &mut orders);
     let n = b.orders;
-    let p = code_line(out, at, totals.beats + 1, b.code, n);
+    let p = code_line(out, at, totals.beats.0 + 1, b.code, n);
     let end = order_lines(out, p, &orders, n);
     let after: State = b.state;
     Tallied {

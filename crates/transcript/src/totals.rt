@@ -10,8 +10,10 @@ use crate::printing::end_line;
 use crate::printing::error_line;
 use engine::State;
 use engine::power_on;
+use values::time::Beats;
 
-pub const MAX_BEATS: u32 = 1000000;
+// After so many beats a session ends.
+pub const MAX_BEATS: Beats = Beats(1000000);
 
 const MAX_ORDERS: u32 = engine::MAX_ORDERS as u32;
 
@@ -19,7 +21,7 @@ const MAX_ORDERS: u32 = engine::MAX_ORDERS as u32;
 pub struct Totals {
     pub state: State,
     pub lines: u32,
-    pub beats: u32,
+    pub beats: Beats,
     pub coded: u32,
     pub orders: u32,
 }
@@ -31,7 +33,7 @@ pub fn no_totals() -> Totals
     Totals {
         state: power_on(),
         lines: 0,
-        beats: 0,
+        beats: Beats(0),
         coded: 0,
         orders: 0,
     }
@@ -41,8 +43,8 @@ pub fn no_totals() -> Totals
 pub fn are_fit(totals: Totals) -> bool
     ensures { λ x. ⌜ x ≡ areFit totals ⌝ }
 {
-    let beats = totals.beats;
-    if MAX_BEATS <= beats {
+    let beats = totals.beats.0;
+    if MAX_BEATS.0 <= beats {
         return false;
     }
     if totals.lines != beats {
@@ -66,11 +68,12 @@ pub fn count(totals: Totals, code: u8, orders: u32, state: State) -> Totals
     requires { ⌜ FitTotals totals × (orders ≤ maxOrders) ⌝ }
     ensures { λ x. ⌜ x ≡ counting totals code orders state ⌝ }
 {
+    let beats = totals.beats.0;
     let coded = one_if(code);
     Totals {
         state: state,
         lines: totals.lines + 1,
-        beats: totals.beats + 1,
+        beats: Beats(beats + 1),
         coded: totals.coded + coded,
         orders: totals.orders + orders,
     }
@@ -81,7 +84,7 @@ pub fn put_end(totals: Totals, out: &mut [u8], at: usize) -> usize
     requires { ⌜ at ≤ outSize ⌝ }
     ensures { λ x. ⌜ IsPut (now (out .entry)) at (ended totals) (now (out .exit)) x ⌝ }
 {
-    end_line(out, at, totals.beats, totals.coded, totals.orders)
+    end_line(out, at, totals.beats.0, totals.coded, totals.orders)
 }
 
 // E of the line behind those that were taken.

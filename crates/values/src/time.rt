@@ -6,8 +6,8 @@ use crate::arithmetic::TOP;
 // The milliseconds of one beat.
 const BEAT_MILLIS: u32 = 4;
 
-// A count of beats. It is no time.
-struct Beats(u32);
+// A count of beats. It is no time, and no other count.
+pub struct Beats(pub u32);
 
 // A time in milliseconds: as a value, thousandths of a second.
 pub struct Millis(pub i32);

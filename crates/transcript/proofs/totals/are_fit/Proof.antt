@@ -15,4 +15,4 @@ are-fit-spec =
     (λ c. simp (lt-ltb _ _ (c .before .before .if1 .left), ne-eqb _ _ (c .if2 .taken)))
     (λ c. let l = c .before .before in simp (lt-ltb _ _ (l .before .before .if1 .left), eq-eqb _ _ (l .if2 .left), lt-leb _ _ (c .if3 .taken)))
     (λ c. search needs)
-    (λ c. let d = c .before in let l = d .before .before in let b = l .before .before in fit-but-orders (b .before .args .totals) (b .if1 .left) (l .if2 .left) (d .if3 .left)))
+    (λ c. let d = c .before in let l = d .before .before in let b = l .before .before in fit-but-orders (b .before .before .args .totals) (b .if1 .left) (l .if2 .left) (d .if3 .left)))
