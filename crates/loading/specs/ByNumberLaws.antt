@@ -12,6 +12,7 @@ use Rattle.tokens.specs.Token.{maxLines}
 use Rattle.reader.specs.Row.{Row, numbersOf, total, leastAbove, noRow, rising, byNumber}
 use Rattle.reader.specs.Draft.{Apart}
 use Rattle.reader.specs.RisingLaws.{rising-length, absent-at, Next, Found, sumAbove, sum-next, sumOf, sum-all, countAbove, count-all, least-found}
+use Rattle.loading.specs.TextTrees.{RisesBy}
 use Rattle.loading.specs.TakenLaws.{All}
 
 -- ---- rows that are apart
@@ -38,8 +39,7 @@ next-at (r ∷ rs) n x (suc i) h l o = next-at rs n x i (h .1) (omega arith) o
 
 -- the numbers of some rows rise, from above n on
 abbrev pub Rises : ℕ → List Row → Type 0
-Rises n [] = Unit {0}
-Rises n (r ∷ rs) = (n < r .number) × Rises (r .number) rs
+Rises n rs = RisesBy (λ (r : Row). r .number) n rs
 
 pub rises-above : (rs : List Row) (n k : ℕ) → Rises n rs → k < length rs → n < getD rs k noRow .number
 rises-above [] n k h l = absurd (omega arith)

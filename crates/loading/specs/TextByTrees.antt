@@ -13,7 +13,7 @@ use Rattle.tokens.specs.Token.{maxLines}
 use Rattle.engine.specs.Set.{lockTable}
 use Rattle.text.specs.Lines.{tokenLines}
 use Rattle.reader.specs.Row.{Row, numbersOf}
-use Rattle.reader.specs.Load.{taken, refused, rowOf, rowsFrom, firstUnknown, loadAnswer}
+use Rattle.reader.specs.Load.{taken, refused, rowOf, rowsFrom, firstUnknown, outcome, loadAnswer}
 use Rattle.loading.specs.LoadAnswers.{taken-answer, refused-answer, by-load, code-1, code-2, code-line}
 use Rattle.loading.specs.TakenLaws.{taking, rows-all, text-placed}
 use Rattle.loading.specs.TextTrees.{Distinct, FirstFaulty, AllNameOnly, FirstUnnamed, Small, IsLines, Takes, Refuses, long, many, faulty, unnamed}
@@ -24,8 +24,8 @@ module _ (t : List ℕ) where
   abbrev pub Answers : ℕ → ℕ → Type 0
   Answers c k = (loadAnswer t .code ≡ c) × (loadAnswer t .line ≡ k)
 
-  taken-answers : Small t → (rs : List Row) → rowsFrom [] (tokenLines t) ≡ taken rs → firstUnknown (lockTable (numbersOf rs)) rs ≡ 0 → Answers 0 0
-  taken-answers x rs e f =
+  rows-outcome : Small t → (rs : List Row) → rowsFrom [] (tokenLines t) ≡ taken rs → firstUnknown (lockTable (numbersOf rs)) rs ≡ 0 → outcome t ≡ taken rs
+  rows-outcome x rs e f =
       let short = x .short in
       let few = x .few in
       by-load _ t
@@ -36,7 +36,7 @@ module _ (t : List ℕ) where
       let p : qs ≡ rs = cc in
       let q : suc j ≡ 0 = sym u ∙ ap (λ (r : List Row). firstUnknown (lockTable (numbersOf r)) r) p ∙ f in
       absurd (omega arith))
-      (λ l m qs h. let z = taken-answer t qs h in (z .0, z .1))
+      (λ l m qs h. let y = taking t qs h .rows in let p : qs ≡ rs = cc in h ∙ ap taken p)
 
   faulty-answers : (c k : ℕ) → Small t → rowsFrom [] (tokenLines t) ≡ refused c k → Answers c k
   faulty-answers c k x e =
@@ -88,7 +88,7 @@ module _ (t : List ℕ) where
       let (xs, g, n, d) = taken-trees (tokenLines t) [] rs (omega arith) tt e in
       record { trees = xs; lines = record { small = x; good = g; distinct = subst Distinct n d }; same = ap numbers (sym q) ∙ n }
 
-  trees-rows : (xs : List Line) → IsLines t xs → (rowsFrom [] (tokenLines t) ≡ taken (map rowOf (tokenLines t))) × (numbers (map rowOf (tokenLines t)) ≡ map treeNumber xs)
+  pub trees-rows : (xs : List Line) → IsLines t xs → (rowsFrom [] (tokenLines t) ≡ taken (map rowOf (tokenLines t))) × (numbers (map rowOf (tokenLines t)) ≡ map treeNumber xs)
   trees-rows xs x = let f = x .small .few in trees-taken (tokenLines t) [] xs (omega arith) (x .good) (x .distinct)
 
   -- no line names a number that the text has not
@@ -106,6 +106,14 @@ module _ (t : List ℕ) where
   unknown-rows : (rs : List Row) (n : ℕ) → rowsFrom [] (tokenLines t) ≡ taken rs → firstUnknown (lockTable (numbersOf rs)) rs ≡ n → firstUnknown (lockTable (numbersOf (map rowOf (tokenLines t)))) (map rowOf (tokenLines t)) ≡ n
   unknown-rows rs n e u = ap (λ (r : List Row). firstUnknown (lockTable (numbersOf r)) r) (sym (rows-all (tokenLines t) [] rs e)) ∙ u
 
+  -- the lines of a text that is taken are its rows
+  pub takes-rows : (xs : List Line) → Takes t xs → outcome t ≡ taken (map rowOf (tokenLines t))
+  takes-rows xs y =
+      let z = y .lines in
+      let (e, n) = trees-rows xs z in
+      let u = named-all (map rowOf (tokenLines t)) (rows-few (z .small)) (tokenLines t) xs (z .good) (subst (λ (ns : List ℕ). AllNameOnly ns xs) (sym n) (y .named)) in
+      rows-outcome (z .small) (map rowOf (tokenLines t)) e u
+
   -- ---- the theorems
 
   -- A TEXT IS TAKEN exactly if it is short enough, has few enough lines with tokens, each makes tokens, is not too deep and is written as a line of the grammar without a fault, their numbers are distinct, and
@@ -121,12 +129,7 @@ module _ (t : List ℕ) where
         let y = taking t rs h in
         let w = rows-trees (record { short = l; few = m }) rs (y .rows) in
         (w .trees, record { lines = w .lines; named = rows-named w (unknown-rows rs 0 (y .rows) (y .known)) }))),
-    (λ x.
-        let (xs, y) = x in
-        let z = y .lines in
-        let (e, n) = trees-rows xs z in
-        let u = named-all (map rowOf (tokenLines t)) (rows-few (z .small)) (tokenLines t) xs (z .good) (subst (λ (ns : List ℕ). AllNameOnly ns xs) (sym n) (y .named)) in
-        taken-answers (z .small) (map rowOf (tokenLines t)) e u .0),
+    (λ x. let (xs, y) = x in taken-answer t (map rowOf (tokenLines t)) (takes-rows xs y) .0),
   )
 
   -- CODES 3 TO 11, c AND THE LINE k: the first line with a fault stands at k and has the lowest fault c

@@ -1,9 +1,10 @@
--- A text by the trees of its lines (document 01, "Lines of text" and "Codes"): what a text has that is taken, and what refuses one, with code and line. Definitions only.
+-- A text by the trees of its lines (document 01, "Lines of text" and "Codes"): what a text has that is taken, and what refuses one, with code and line; trees by rising number. Definitions only.
 use mathlib.Core.Path.{_≡_}
 use mathlib.Core.Bool.{true, false}
 use mathlib.Core.List.{List, [], _∷_, _++_, map}
 use mathlib.Core.Logic.{_⊎_}
 use Prim.Native.Nat.{ℕ, _≤_, _<_}
+use lib.Dec.{ltb}
 use lib.ListN.{length}
 use Rattle.values.specs.Codes.{tooLong, tooManyLines, makesNoToken, tooDeep, notInGrammar, usedAbove, notInSet}
 use Rattle.tokens.specs.Token.{maxLines, textSize}
@@ -14,17 +15,38 @@ use Rattle.grammar.specs.TreeNames.{Name, namesIn}
 use Rattle.text.specs.Tokens.{tokensOf}
 use Rattle.text.specs.Lines.{Numbered, tokenLines}
 
--- ---- numbers
+-- ---- some of a kind
 
--- n is one of some numbers
-abbrev pub OneOf : ℕ → List ℕ → Type 0
-OneOf n [] = ⊥
-OneOf n (m ∷ ms) = (m ≡ n) ⊎ OneOf n ms
+-- x is one of some
+abbrev pub OneOf : {A : Type 0} → A → List A → Type 0
+OneOf x [] = ⊥
+OneOf x (y ∷ ys) = (y ≡ x) ⊎ OneOf x ys
 
 -- no two of some numbers are equal
 abbrev pub Distinct : List ℕ → Type 0
 Distinct [] = Unit {0}
 Distinct (n ∷ ns) = (OneOf n ns → ⊥) × Distinct ns
+
+-- ---- by rising number
+
+-- x, which has the number f x, put among some by rising number
+unfoldable pub put : {A : Type 0} → (A → ℕ) → A → List A → List A
+put f x [] = x ∷ []
+put f x (y ∷ ys) = elim (ltb (f x) (f y)) [ true ↦ x ∷ y ∷ ys | false ↦ y ∷ put f x ys ]
+
+-- some by rising number: each put among those behind it
+unfoldable pub inOrder : {A : Type 0} → (A → ℕ) → List A → List A
+inOrder f [] = []
+inOrder f (x ∷ xs) = put f x (inOrder f xs)
+
+-- the lines of a text by rising number
+abbrev pub risingTrees : List Line → List Line
+risingTrees xs = inOrder treeNumber xs
+
+-- the numbers of some rise, from above n on
+abbrev pub RisesBy : {A : Type 0} → (A → ℕ) → ℕ → List A → Type 0
+RisesBy f n [] = Unit {0}
+RisesBy f n (x ∷ xs) = (n < f x) × RisesBy f (f x) xs
 
 -- ---- a line of the text
 

@@ -176,7 +176,7 @@ module _ (l : Numbered) where
 
 -- ---- lines one after the other
 
-number-row : (l : Numbered) (x : Line) → GoodLine l x → rowOf l .number ≡ treeNumber x
+pub number-row : (l : Numbered) (x : Line) → GoodLine l x → rowOf l .number ≡ treeNumber x
 number-row l x h = number-is l x (h .written)
 
 -- the numbers of some lines and of one more

@@ -1,0 +1,190 @@
+-- Laws of some by rising number: they are the same, their numbers rise, and nothing else is so. So the rows of a text by rising number are told by its trees by rising number. Nothing is assumed.
+use mathlib.Core.Path.{_≡_, refl, sym, ap, subst, _∙_}
+use mathlib.Core.Bool.{true, false}
+use mathlib.Core.List.{List, [], _∷_, map}
+use mathlib.Core.Logic.{_⊎_, inl, inr, ⊎-elim}
+use Prim.Native.Nat.{ℕ, zero, suc, _≤_, _<_}
+use native.Mathlib.Omega.{arith}
+use lib.Dec.{ltb}
+use lib.ListN.{length, getD}
+use borrow.Author.Tests.{ltb-true, ltb-false}
+use Rattle.values.specs.Choice.{decide}
+use Rattle.tokens.specs.Token.{maxLines}
+use Rattle.grammar.specs.Tree.{Line, lineTokens, treeNumber}
+use Rattle.engine.specs.Set.{withEnd}
+use Rattle.text.specs.Lines.{Numbered}
+use Rattle.reader.specs.Row.{Row, noRow, byNumber}
+use Rattle.reader.specs.Load.{rowOf}
+use Rattle.reader.specs.Draft.{Apart}
+use Rattle.loading.specs.TakenLaws.{All}
+use Rattle.loading.specs.ByNumberLaws.{Of, apart-number, by-rises, by-of, by-rank}
+use Rattle.loading.specs.TextTrees.{OneOf, Distinct, put, inOrder, risingTrees, RisesBy, GoodLines}
+use Rattle.loading.specs.TextTreesLaws.{numbers, number-row}
+use Rattle.loading.specs.LoadedTurns.{AreTrees}
+
+-- ---- the same
+
+module _ {A : Type 0} (f : A → ℕ) where
+  put-one : (x z : A) (xs : List A) → OneOf z (put f x xs) → (x ≡ z) ⊎ OneOf z xs
+  unfolding put
+  put-one x z [] h = h
+  put-one x z (y ∷ ys) h =
+      decide _ (ltb (f x) (f y))
+      (λ t. rw (t, put) at h)
+      (λ t. let k : (y ≡ z) ⊎ OneOf z (put f x ys) = rw (t, put) at h in ⊎-elim (λ e. inr (inl e)) (λ o. ⊎-elim (λ e. inl e) (λ q. inr (inr q)) (put-one x z ys o)) k)
+
+  one-put : (x z : A) (xs : List A) → (x ≡ z) ⊎ OneOf z xs → OneOf z (put f x xs)
+  unfolding put
+  one-put x z [] h = h
+  one-put x z (y ∷ ys) h =
+      decide _ (ltb (f x) (f y))
+      (λ t. rw (t, put) h)
+      (λ t. rw (t, put) (⊎-elim (λ e. inr (one-put x z ys (inl e))) (⊎-elim (λ e. inl e) (λ o. inr (one-put x z ys (inr o)))) h))
+
+  -- each of some by rising number is one of them,
+  pub order-one : (xs : List A) (z : A) → OneOf z (inOrder f xs) → OneOf z xs
+  unfolding inOrder
+  order-one [] z h = h
+  order-one (x ∷ xs) z h = ⊎-elim (λ e. inl e) (λ o. inr (order-one xs z o)) (put-one x z (inOrder f xs) h)
+
+  -- and each of them is there
+  pub one-order : (xs : List A) (z : A) → OneOf z xs → OneOf z (inOrder f xs)
+  unfolding inOrder
+  one-order (x ∷ xs) z (inl e) = one-put x z (inOrder f xs) (inl e)
+  one-order (x ∷ xs) z (inr o) = one-put x z (inOrder f xs) (inr (one-order xs z o))
+
+  put-length : (x : A) (xs : List A) → length (put f x xs) ≡ suc (length xs)
+  unfolding put
+  put-length x [] = refl
+  put-length x (y ∷ ys) = decide _ (ltb (f x) (f y)) (λ t. rw (t, put)) (λ t. rw (t, put, put-length x ys))
+
+  -- as many
+  pub order-length : (xs : List A) → length (inOrder f xs) ≡ length xs
+  unfolding inOrder
+  order-length [] = refl
+  order-length (x ∷ xs) = put-length x (inOrder f xs) ∙ ap suc (order-length xs)
+
+  -- ---- rising
+
+  put-rises : (x : A) (xs : List A) (n : ℕ) → n < f x → RisesBy f n xs → ((z : A) → OneOf z xs → f z ≡ f x → ⊥) → RisesBy f n (put f x xs)
+  unfolding put
+  put-rises x [] n l h o = (l, tt)
+  put-rises x (y ∷ ys) n l h o =
+      decide _ (ltb (f x) (f y))
+      (λ t. rw (t, put) (l, (ltb-true (f x) (f y) t, h .1)))
+      (λ t.
+      let a = ltb-false (f x) (f y) t in
+      let b = o y (inl refl) in
+      rw (t, put) (h .0, put-rises x ys (f y) (omega (arith, b)) (h .1) (λ z g. o z (inr g))))
+
+  one-number : (xs : List A) (z : A) → OneOf z xs → OneOf (f z) (map f xs)
+  one-number (x ∷ xs) z (inl e) = inl (ap f e)
+  one-number (x ∷ xs) z (inr o) = inr (one-number xs z o)
+
+  -- with numbers that are distinct and from 1 on
+  pub order-rises : (xs : List A) → Distinct (map f xs) → ((z : A) → OneOf z xs → 1 ≤ f z) → RisesBy f 0 (inOrder f xs)
+  unfolding inOrder
+  order-rises [] d p = tt
+  order-rises (x ∷ xs) d p =
+      let a = p x (inl refl) in
+      put-rises x (inOrder f xs) 0 (omega arith) (order-rises xs (d .1) (λ z o. p z (inr o)))
+      (λ z o e. d .0 (subst (λ (n : ℕ). OneOf n (map f xs)) e (one-number xs z (order-one xs z o))))
+
+  -- ---- nothing else is so
+
+  rises-one : (xs : List A) (n : ℕ) (z : A) → RisesBy f n xs → OneOf z xs → n < f z
+  rises-one (x ∷ xs) n z h (inl e) = subst (λ (y : A). n < f y) e (h .0)
+  rises-one (x ∷ xs) n z h (inr o) = let a = h .0 in let b = rises-one xs (f x) z (h .1) o in omega arith
+
+  -- one of the later is not the first
+  one-later : (x z : A) (xs ys : List A) → RisesBy f (f x) xs → OneOf z xs → (x ≡ z) ⊎ OneOf z ys → OneOf z ys
+  one-later x z xs ys r o (inl e) = let u = rises-one xs (f x) z r o in let w = ap f e in absurd (omega arith)
+  one-later x z xs ys r o (inr q) = q
+
+  -- of the same, both rising, the first is the same
+  same-first : (x y : A) (xs ys : List A) → RisesBy f (f x) xs → RisesBy f (f y) ys → (y ≡ x) ⊎ OneOf x ys → (x ≡ y) ⊎ OneOf y xs → x ≡ y
+  same-first x y xs ys a b (inl e) k = sym e
+  same-first x y xs ys a b (inr o) (inl e) = e
+  same-first x y xs ys a b (inr o) (inr q) = let u = rises-one ys (f y) x b o in let v = rises-one xs (f x) y a q in absurd (omega arith)
+
+  -- and all are
+  pub same-rising : (xs ys : List A) (n : ℕ) → RisesBy f n xs → RisesBy f n ys → ((z : A) → OneOf z xs → OneOf z ys) → ((z : A) → OneOf z ys → OneOf z xs) → xs ≡ ys
+  same-rising [] [] n a b g h = refl
+  same-rising [] (y ∷ ys) n a b g h = absurd (h y (inl refl))
+  same-rising (x ∷ xs) [] n a b g h = absurd (g x (inl refl))
+  same-rising (x ∷ xs) (y ∷ ys) n a b g h =
+      let e = same-first x y xs ys (a .1) (b .1) (g x (inl refl)) (h y (inl refl)) in
+      let c : RisesBy f (f x) ys = rw e (b .1) in
+      let i = same-rising xs ys (f x) (a .1) c
+          (λ z o. one-later x z xs ys (a .1) o (subst (λ (v : A). (v ≡ z) ⊎ OneOf z ys) (sym e) (g z (inr o))))
+          (λ z o. one-later x z ys xs c o (h z (inr o))) in
+      rw (e, i)
+
+-- ---- rows
+
+abbrev number : Row → ℕ
+number r = r .number
+
+row-one : (rs : List Row) (i : ℕ) → i < length rs → OneOf (getD rs i noRow) rs
+row-one [] i l = absurd (omega arith)
+row-one (r ∷ rs) zero l = inl refl
+row-one (r ∷ rs) (suc i) l = inr (row-one rs i (omega arith))
+
+one-row : (rs : List Row) (z : Row) → OneOf z rs → (i : ℕ) × (i < length rs) × (getD rs i noRow ≡ z)
+one-row (r ∷ rs) z (inl e) = (0, omega arith, e)
+one-row (r ∷ rs) z (inr o) = let (i, l, e) = one-row rs z o in (suc i, omega arith, e)
+
+all-one : (P : Row → Type 0) (rs : List Row) (z : Row) → All P rs → OneOf z rs → P z
+all-one P (r ∷ rs) z h (inl e) = subst P e (h .0)
+all-one P (r ∷ rs) z h (inr o) = all-one P rs z (h .1) o
+
+-- rows by rising number, as the definition of loading has them
+pub by-order : (rs : List Row) → length rs ≤ maxLines → Apart rs → Distinct (numbers rs) → byNumber rs ≡ inOrder number rs
+by-order rs few apart d =
+    same-rising number (byNumber rs) (inOrder number rs) 0 (by-rises rs few apart)
+    (order-rises number rs d (λ z o. let (i, l, e) = one-row rs z o in subst (λ (r : Row). 1 ≤ r .number) e (apart-number rs i apart l)))
+    (λ z o. let (j, l, e) = all-one (Of rs) (byNumber rs) z (by-of rs few apart) o in one-order number rs z (subst (λ (r : Row). OneOf r rs) (sym e) (row-one rs j l)))
+    (λ z o.
+    let (i, l, e) = one-row rs z (order-one number rs z o) in
+    let (k, u, v) = by-rank rs few apart i l in
+    subst (λ (r : Row). OneOf r (byNumber rs)) (v ∙ e) (row-one (byNumber rs) k u))
+
+-- ---- trees and rows
+
+-- each tree has the tokens and the number of its row
+abbrev pub Pairs : List Line → List Row → Type 0
+Pairs [] [] = Unit {0}
+Pairs [] (r ∷ rs) = ⊥
+Pairs (x ∷ xs) [] = ⊥
+Pairs (x ∷ xs) (r ∷ rs) = (lineTokens x ≡ withEnd (r .tokens)) × (r .number ≡ treeNumber x) × Pairs xs rs
+
+pub good-pairs : (ls : List Numbered) (xs : List Line) → GoodLines ls xs → Pairs xs (map rowOf ls)
+good-pairs [] [] g = tt
+good-pairs [] (x ∷ xs) g = absurd g
+good-pairs (l ∷ ls) [] g = absurd g
+good-pairs (l ∷ ls) (x ∷ xs) g = (g .0 .written, number-row l x (g .0), good-pairs ls xs (g .1))
+
+pub pairs-trees : (xs : List Line) (rs : List Row) → Pairs xs rs → AreTrees xs rs
+pairs-trees [] [] h = tt
+pairs-trees [] (r ∷ rs) h = absurd h
+pairs-trees (x ∷ xs) [] h = absurd h
+pairs-trees (x ∷ xs) (r ∷ rs) h = (h .0, pairs-trees xs rs (h .2))
+
+pairs-put : (x : Line) (r : Row) (xs : List Line) (rs : List Row) → lineTokens x ≡ withEnd (r .tokens) → r .number ≡ treeNumber x → Pairs xs rs → Pairs (put treeNumber x xs) (put number r rs)
+unfolding put
+pairs-put x r [] [] e n h = (e, n, tt)
+pairs-put x r [] (q ∷ rs) e n h = absurd h
+pairs-put x r (y ∷ ys) [] e n h = absurd h
+pairs-put x r (y ∷ ys) (q ∷ rs) e n h =
+    let m = h .1 in
+    decide _ (ltb (treeNumber x) (treeNumber y))
+    (λ t. let u : ltb (r .number) (q .number) ≡ true = rw (n, m) t in rw (t, u, put) (e, n, h))
+    (λ t. let u : ltb (r .number) (q .number) ≡ false = rw (n, m) t in rw (t, u, put) (h .0, m, pairs-put x r ys rs e n (h .2)))
+
+-- so by rising number
+pub pairs-order : (xs : List Line) (rs : List Row) → Pairs xs rs → Pairs (risingTrees xs) (inOrder number rs)
+unfolding inOrder
+pairs-order [] [] h = tt
+pairs-order [] (r ∷ rs) h = absurd h
+pairs-order (x ∷ xs) [] h = absurd h
+pairs-order (x ∷ xs) (r ∷ rs) h = pairs-put x r (risingTrees xs) (inOrder number rs) (h .0) (h .1) (pairs-order xs rs (h .2))
