@@ -1,26 +1,25 @@
--- A set and some runs of it, computed over the engine's definitions: the code and the word of the lines that acted, call by call. Assumes nothing.
+-- A set, loaded from its text, and some runs of it, computed over the definitions: the code and the word of the lines that acted, call by call. Assumes nothing.
 use mathlib.Core.Path.{_≡_, refl}
 use mathlib.Core.Bool.{Bool, true, false}
 use mathlib.Core.List.{List, [], _∷_, map}
 use Prim.Native.Nat.{ℕ}
+use Prim.Native.String.{String}
 use lib.IntN.{pos}
 use lib.ListN.{replicate}
 use Rattle.values.specs.Codes.{shortBuffer, unknownLine}
-use Rattle.tokens.specs.Token.{END, EQUALS, SAME, OPEN, CLOSE, LEFT, RIGHT, ID, IDS, WHEN, WHENEVER, FROM, EVERY, DO, IN, OUT, M, LOCK, wholeToken}
 use Rattle.values.specs.Value.{inRange, valued, lessThan, equalTo, wholeUnits, outputOf}
 use Rattle.values.specs.Time.{grownTimer}
 use Rattle.tokens.specs.Descent.{isIndex, indexOf, isIndexed, indexAt, joined, more, readProduct, readSum, readRest, readExpression, readVariable, operandFrom, readOperand, sumAt, expressionAt}
 use Rattle.tokens.specs.Index.{isInside}
-use Rattle.working.specs.Variables.{cellOf, variableValue}
+use Rattle.working.specs.Variables.{numberCount, cellOf, variableValue}
 use Rattle.tokens.specs.SingleFault.{lower, opensTooMany, wantingFault, numberFault, readFault, isWritable, writeFault, codeFault, idFault, callFault}
 use Rattle.checking.specs.Fault.{joinSights, sight, countFault, numberOf, isRemoval, assignedAt, assignmentAt, commandAt, actionAt, actionsAt, lineParts, bodyAt, restAt, lineAt}
 use Rattle.working.specs.Operators.{joinTruths, joinValues}
 use Rattle.working.specs.Working.{valueOver, conditionValue, rightValue}
-use Rattle.engine.specs.Set.{linesFrom, linesRead, rankIn, namesKnown, allKnown, namedLines, soundLines}
+use Rattle.engine.specs.Set.{linesFrom, linesRead, rankIn, namesKnown, allKnown, namedLines, soundLines, emptySet, withoutMark, withLine}
 use Rattle.engine.specs.State.{powerOn}
 use Rattle.engine.specs.Timers.{grownCells}
 use Rattle.engine.specs.Cells.{inputCells, beatCells}
-use Rattle.working.specs.Variables.{numberCount}
 use Rattle.engine.specs.Sound.{allRanged, isCell, areCells, allZero, isFifoSound, areFifos, isFlag, areFlags, stateSound, isSound}
 use Rattle.engine.specs.Write.{writeCell, writeInside, writeTo}
 use Rattle.engine.specs.Action.{lockOf, takenAt, assignmentOf, commandOf, actionOf}
@@ -30,24 +29,25 @@ use Rattle.engine.specs.Turn.{takesTurn, doTurn, tryTurn, turnOf, turnsFrom}
 use Rattle.engine.specs.Beat.{bufferSize, areInputs, beatAnswer, beatBuffer, beatBegun, beatEnded, wholeBeat}
 use Rattle.engine.specs.NamedLine.{foundAt, found}
 use Rattle.engine.specs.Calls.{called, lockedCall, lockCall, unlockCall, cancelCall, resetCancelled, zeroed, resetState, resetCall}
+use Rattle.text.specs.Byte.{bytes, run}
+use Rattle.text.specs.Word.{wordToken}
+use Rattle.text.specs.Number.{written, isFit, numberToken}
+use Rattle.text.specs.First.{wordFirst, behindPoint, numberWith, numberFirst, signFirst, firstToken}
+use Rattle.text.specs.Tokens.{tokensFrom, tokensOf}
+use Rattle.text.specs.Lines.{split, withoutReturn, withoutComment, bodies, isBlank, numbered, tokenLines}
+use Rattle.reader.specs.Row.{numbersOf, leastFrom, leastAbove, rising, placed, setOf}
+use Rattle.grammar.specs.Tree.{operandTokens, actionTokens, actionsTokens, conditionTokens, lineTokens}
+use Rattle.grammar.specs.Meaning.{operandMeaning}
+use Rattle.grammar.specs.TreeFault.{rightFault, isRemovalTree, assignedFault, actionFault, actionsFault, lineFault}
+use Rattle.grammar.specs.TreeNames.{actionsNames, namesIn, eachKnown}
+use Rattle.grammar.specs.TreeOf.{factorsGuess, productGuess, termsGuess, sumGuess, sumsGuess, expressionGuess, operandFirst, operandGuess, actionGuess, actionsGuess, conditionGuess, lineGuess, sameTokens, ifWritten, treeOf}
+use Rattle.reader.specs.Load.{faultOf, tokensFault, faultBelow, rowsFrom, firstNot, named, outcome, loadSet}
 use Rattle.soundness.specs.Call.{Call, doBeat, doLock, doUnlock, doCancel, doReset}
 use Rattle.demands.specs.Run.{engineRun, step, runFrom}
 
-abbrev pub n : ℕ → ℕ
-n = wholeToken
-
--- ID=1 EVERY $A_IN[1]==1 DO M=7
--- ID=2 WHEN $A_IN[1]==1 DO M=8
--- IDS=3 FROM $A_IN[1]==1 DO $A_OUT[1]=1
--- IDS=4 WHENEVER $A_IN[2]==1 DO LOCK(1)
-abbrev pub lines : List ℕ
-lines =
-    4 ∷ 5 ∷ 20 ∷ 35 ∷ 53 ∷
-    ID ∷ EQUALS ∷ n 1 ∷ EVERY ∷ IN ∷ LEFT ∷ n 1 ∷ RIGHT ∷ SAME ∷ n 1 ∷ DO ∷ M ∷ EQUALS ∷ n 7 ∷ END ∷
-    ID ∷ EQUALS ∷ n 2 ∷ WHEN ∷ IN ∷ LEFT ∷ n 1 ∷ RIGHT ∷ SAME ∷ n 1 ∷ DO ∷ M ∷ EQUALS ∷ n 8 ∷ END ∷
-    IDS ∷ EQUALS ∷ n 3 ∷ FROM ∷ IN ∷ LEFT ∷ n 1 ∷ RIGHT ∷ SAME ∷ n 1 ∷ DO ∷ OUT ∷ LEFT ∷ n 1 ∷ RIGHT ∷ EQUALS ∷ n 1 ∷ END ∷
-    IDS ∷ EQUALS ∷ n 4 ∷ WHENEVER ∷ IN ∷ LEFT ∷ n 2 ∷ RIGHT ∷ SAME ∷ n 1 ∷ DO ∷ LOCK ∷ OPEN ∷ n 1 ∷ CLOSE ∷ END ∷
-    []
+-- a set of four lines
+abbrev pub text : String
+text = "ID=1 EVERY $A_IN[1]==1 DO M=7\nID=2 WHEN $A_IN[1]==1 DO M=8\nIDS=3 FROM $A_IN[1]==1 DO $A_OUT[1]=1\nIDS=4 WHENEVER $A_IN[2]==1 DO LOCK(1)"
 
 -- a beat in this mode with this input word and this order buffer, each number 0
 abbrev pub beatWith : Bool → ℕ → List ℕ → Call
@@ -59,7 +59,7 @@ beat word = beatWith true word (replicate bufferSize 0)
 
 -- the code and the word of the lines that acted, newest first
 abbrev pub words : List Call → List (ℕ × ℕ)
-words cs = map (λ c. (c .1 .code, c .1 .acted)) (engineRun lines cs .told)
+words cs = map (λ c. (c .1 .code, c .1 .acted)) (engineRun (loadSet (bytes text)) cs .told)
 
 -- 1. input 1 on, on, off, on: EVERY (1) acts in beats 1 and 4, WHEN (2) in 1, FROM (4) in 1 to 4
 -- 2. EVERY, true, then locked while the input is off and on again, then released: its turn before was true, no second act; a line that is not in the set gives 40
@@ -72,5 +72,5 @@ pub runs :
     × (words (beat 1 ∷ beat 0 ∷ doReset ∷ beat 0 ∷ beat 1 ∷ doLock 1 ∷ doCancel 3 ∷ beat 1 ∷ doReset ∷ beat 1 ∷ []) ≡ (0, 0) ∷ (0, 0) ∷ (0, 0) ∷ (0, 0) ∷ (unknownLine, 0) ∷ (0, 4) ∷ (0, 0) ∷ (0, 0) ∷ (0, 4) ∷ (0, 7) ∷ [])
     × (words (beat 3 ∷ beat 0 ∷ doUnlock 1 ∷ beat 1 ∷ beat 0 ∷ beat 1 ∷ []) ≡ (0, 5) ∷ (0, 4) ∷ (0, 4) ∷ (0, 0) ∷ (0, 4) ∷ (0, 15) ∷ [])
     × (words (beatWith false 1 (replicate bufferSize 0) ∷ beatWith true 1 [] ∷ beat 1 ∷ []) ≡ (0, 7) ∷ (shortBuffer, 0) ∷ (0, 4) ∷ [])
-unfolding inRange valued lessThan equalTo wholeUnits outputOf grownTimer isIndex indexOf isIndexed indexAt joined more readProduct readSum readRest readExpression readVariable operandFrom readOperand sumAt expressionAt isInside cellOf variableValue lower opensTooMany wantingFault numberFault readFault joinSights sight isWritable writeFault codeFault idFault callFault countFault numberOf isRemoval assignedAt assignmentAt commandAt actionAt actionsAt lineParts bodyAt restAt lineAt joinTruths joinValues valueOver conditionValue rightValue linesFrom linesRead rankIn namesKnown allKnown namedLines soundLines powerOn grownCells inputCells beatCells allRanged isCell areCells allZero isFifoSound areFifos isFlag areFlags stateSound isSound writeCell writeInside writeTo lockOf takenAt assignmentOf commandOf actionOf actionsOf tries acts remembers takesTurn doTurn tryTurn turnOf turnsFrom areInputs beatBegun beatEnded wholeBeat beatAnswer beatBuffer foundAt found called lockedCall lockCall unlockCall cancelCall resetCancelled zeroed resetState resetCall step runFrom
+unfolding inRange valued lessThan equalTo wholeUnits outputOf grownTimer isIndex indexOf isIndexed indexAt joined more readProduct readSum readRest readExpression readVariable operandFrom readOperand sumAt expressionAt isInside cellOf variableValue lower opensTooMany wantingFault numberFault readFault joinSights sight isWritable writeFault codeFault idFault callFault countFault numberOf isRemoval assignedAt assignmentAt commandAt actionAt actionsAt lineParts bodyAt restAt lineAt joinTruths joinValues valueOver conditionValue rightValue linesFrom linesRead rankIn namesKnown allKnown namedLines soundLines powerOn grownCells inputCells beatCells allRanged isCell areCells allZero isFifoSound areFifos isFlag areFlags stateSound isSound writeCell writeInside writeTo lockOf takenAt assignmentOf commandOf actionOf actionsOf tries acts remembers takesTurn doTurn tryTurn turnOf turnsFrom areInputs beatBegun beatEnded wholeBeat beatAnswer beatBuffer foundAt found called lockedCall lockCall unlockCall cancelCall resetCancelled zeroed resetState resetCall step runFrom run wordToken written isFit numberToken wordFirst behindPoint numberWith numberFirst signFirst firstToken tokensFrom tokensOf split withoutReturn withoutComment bodies isBlank numbered tokenLines numbersOf leastFrom leastAbove rising placed setOf factorsGuess productGuess termsGuess sumGuess sumsGuess expressionGuess operandFirst operandGuess actionGuess actionsGuess conditionGuess lineGuess sameTokens ifWritten treeOf operandTokens actionTokens actionsTokens conditionTokens lineTokens rightFault isRemovalTree assignedFault actionFault actionsFault lineFault actionsNames namesIn eachKnown faultOf tokensFault faultBelow rowsFrom firstNot named outcome loadSet emptySet withoutMark withLine operandMeaning
 runs = (refl, refl, refl, refl, refl)

@@ -15,7 +15,7 @@ use Rattle.engine.specs.Order.{fourBytes, orderBytes}
 use Rattle.values.specs.Complement.{twosComplement}
 use Rattle.tokens.specs.Descent.{isIndex, indexOf, isIndexed, indexAt, joined, more, readProduct, readSum, readRest, readExpression, readVariable, operandFrom, readOperand, readClose, readTruth, sumAt, expressionAt}
 use Rattle.tokens.specs.Index.{isInside}
-use Rattle.working.specs.Variables.{cellOf, beatCount, fifoValue, fifoAt, variableValue}
+use Rattle.working.specs.Variables.{numberCount, cellOf, beatCount, fifoValue, fifoAt, variableValue}
 use Rattle.tokens.specs.SingleFault.{lower, opensTooMany, wantingFault, numberFault, readFault, isWritable, writeFault, codeFault, idFault, callFault}
 use Rattle.checking.specs.Fault.{joinSights, sight, countFault, numberOf, isRemoval, assignedAt, assignmentAt, commandAt, actionAt, actionsAt, lineParts, bodyAt, restAt, lineAt}
 use Rattle.working.specs.Operators.{joinLogic, joinTruths, joinValues}
@@ -95,7 +95,7 @@ answers code = (code, 0, 0, [])
 
 -- a beat in AUTOMATIC with this input word
 abbrev pub on : ℕ → Call
-on word = doBeat (record { automatic = true; word = word; lent = replicate 14 (pos 0); buffer = replicate bufferSize lentByte })
+on word = doBeat (record { automatic = true; word = word; lent = replicate numberCount (pos 0); buffer = replicate bufferSize lentByte })
 
 -- what the control gave: the load's code and line, each call's reply, and $R[1] afterwards
 abbrev pub shown : Loaded → Now State → ℕ × ℕ × List Shown × ℤ

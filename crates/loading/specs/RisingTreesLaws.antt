@@ -12,13 +12,14 @@ use Rattle.values.specs.Choice.{decide}
 use Rattle.tokens.specs.Token.{maxLines}
 use Rattle.grammar.specs.Tree.{Line, lineTokens, treeNumber}
 use Rattle.engine.specs.Set.{withEnd}
+use Rattle.soundness.specs.AnswerCodes.{OneOf}
 use Rattle.text.specs.Lines.{Numbered}
 use Rattle.reader.specs.Row.{Row, noRow, byNumber}
 use Rattle.reader.specs.Load.{rowOf}
 use Rattle.reader.specs.Draft.{Apart}
 use Rattle.loading.specs.TakenLaws.{All}
 use Rattle.loading.specs.ByNumberLaws.{Of, apart-number, by-rises, by-of, by-rank}
-use Rattle.loading.specs.TextTrees.{OneOf, Distinct, put, inOrder, risingTrees, RisesBy, GoodLines}
+use Rattle.loading.specs.TextTrees.{Distinct, put, inOrder, risingTrees, RisesBy, GoodLines}
 use Rattle.loading.specs.TextTreesLaws.{numbers, number-row}
 use Rattle.loading.specs.LoadedTurns.{AreTrees}
 

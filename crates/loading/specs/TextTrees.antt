@@ -12,15 +12,11 @@ use Rattle.tokens.specs.SingleFault.{opensTooMany}
 use Rattle.grammar.specs.Tree.{Line, treeNumber, WrittenAs}
 use Rattle.grammar.specs.TreeFault.{lineFault}
 use Rattle.grammar.specs.TreeNames.{Name, namesIn}
+use Rattle.soundness.specs.AnswerCodes.{OneOf}
 use Rattle.text.specs.Tokens.{tokensOf}
 use Rattle.text.specs.Lines.{Numbered, tokenLines}
 
--- ---- some of a kind
-
--- x is one of some
-abbrev pub OneOf : {A : Type 0} → A → List A → Type 0
-OneOf x [] = ⊥
-OneOf x (y ∷ ys) = (y ≡ x) ⊎ OneOf x ys
+-- ---- numbers
 
 -- no two of some numbers are equal
 abbrev pub Distinct : List ℕ → Type 0

@@ -24,6 +24,7 @@ use Rattle.grammar.specs.TreeOfLaws.{tree-of-tokens, no-tree}
 use Rattle.engine.specs.Set.{rankIn, isKnown, lockTable}
 use Rattle.soundness.specs.WriteSoundLaws.{lower-zero, unless-zero}
 use Rattle.soundness.specs.SetSoundLaws.{rank-number}
+use Rattle.soundness.specs.AnswerCodes.{OneOf}
 use Rattle.text.specs.Tokens.{tokensOf}
 use Rattle.text.specs.Lines.{Numbered}
 use Rattle.reader.specs.Row.{Row, numbersOf, noRow}
@@ -32,7 +33,7 @@ use Rattle.reader.specs.CheckedLaws.{faultless, line-number}
 use Rattle.reader.specs.RisingLaws.{number-at, numbers-length, next-row, no-fault}
 use Rattle.loading.specs.TakenLaws.{Placed}
 use Rattle.loading.specs.LinesReadLaws.{known-at}
-use Rattle.loading.specs.TextTrees.{OneOf, Distinct, MakesTokens, Shallow, IsLine, GoodLine, Faulty, noToken, deep, noLine, lineFaulty, numberUsed, GoodLines, FirstFaulty, numbersNamed, NamesOnly, AllNameOnly, FirstUnnamed}
+use Rattle.loading.specs.TextTrees.{Distinct, MakesTokens, Shallow, IsLine, GoodLine, Faulty, noToken, deep, noLine, lineFaulty, numberUsed, GoodLines, FirstFaulty, numbersNamed, NamesOnly, AllNameOnly, FirstUnnamed}
 
 -- ---- numbers
 

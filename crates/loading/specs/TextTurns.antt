@@ -12,12 +12,13 @@ use Rattle.engine.specs.declared.state.State.{State}
 use Rattle.engine.specs.Turn.{beatIn}
 use Rattle.engine.specs.Beat.{bufferSize, areInputs, Given, beatBegun, wholeBeat}
 use Rattle.soundness.specs.Call.{Call, afterAll}
+use Rattle.soundness.specs.AnswerCodes.{OneOf}
 use Rattle.turn_trees.specs.TurnTree.{namesOf, turnsTree}
 use Rattle.text.specs.Lines.{Numbered, tokenLines}
 use Rattle.reader.specs.Row.{Row, byNumber}
 use Rattle.reader.specs.Load.{rowOf, loadAnswer, loadSet}
 use Rattle.reader.specs.CheckedLaws.{line-number}
-use Rattle.loading.specs.TextTrees.{OneOf, Distinct, risingTrees, RisesBy, GoodLines, Takes}
+use Rattle.loading.specs.TextTrees.{Distinct, risingTrees, RisesBy, GoodLines, Takes}
 use Rattle.loading.specs.TextByTrees.{trees-rows, takes-rows}
 use Rattle.loading.specs.LoadedLaws.{rows-apart}
 use Rattle.loading.specs.LoadedTurns.{AreTrees, beat-after-calls}

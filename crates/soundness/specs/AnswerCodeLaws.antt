@@ -125,7 +125,7 @@ module _ (P : ℕ → Type 0) where
 -- ---- working
 
 abbrev pub TurnCode : ℕ → Type 0
-TurnCode c = OneOf turnCodes c
+TurnCode c = OneOf c turnCodes
 
 -- 22, then 30 to 34
 is-22 : TurnCode unsound

@@ -5,10 +5,10 @@ use mathlib.Core.List.{List, [], _∷_}
 use Prim.Native.Nat.{ℕ}
 use Rattle.values.specs.Codes.{shortBuffer, wrongNumbers, unsound, outOfRange, zeroDivisor, fifoEmpty, fifoFull, notAllowed, unknownLine}
 
--- the code is one of these
-abbrev pub OneOf : List ℕ → ℕ → Type 0
-OneOf [] c = ⊥
-OneOf (x ∷ xs) c = (c ≡ x) ⊎ OneOf xs c
+-- x is one of some
+abbrev pub OneOf : {A : Type 0} → A → List A → Type 0
+OneOf x [] = ⊥
+OneOf x (y ∷ ys) = (y ≡ x) ⊎ OneOf x ys
 
 -- what may end the turns of a beat: the alarms 30 to 34, and 22
 abbrev pub turnCodes : List ℕ

@@ -27,14 +27,14 @@ use Rattle.soundness.specs.AnswerCodeLaws.{StopsBy, stops-then, TurnCode
 -- ---- a beat
 
 abbrev BeatCode : ℕ → Type 0
-BeatCode c = OneOf beatCodes c
+BeatCode c = OneOf c beatCodes
 
 -- no 0 among some codes
 abbrev without0 : List ℕ → Bool
 without0 [] = true
 without0 (x ∷ xs) = ltb 0 x && without0 xs
 
-not-0 : (xs : List ℕ) (c : ℕ) → without0 xs ≡ true → OneOf xs c → c ≢ 0
+not-0 : (xs : List ℕ) (c : ℕ) → without0 xs ≡ true → OneOf c xs → c ≢ 0
 not-0 [] c w h e = h
 not-0 (x ∷ xs) c w (inl p) e = omega (arith, ltb-true 0 x (both (ltb 0 x) (without0 xs) w .0))
 not-0 (x ∷ xs) c w (inr h) e = not-0 xs c (both (ltb 0 x) (without0 xs) w .1) h e
@@ -62,11 +62,11 @@ module _ (s : List ℕ) (st : State) (g : Given) where
   stopped-not-0 c e = not-0 beatCodes c refl (rw e at beat-stops)
 
   -- A BEAT ANSWERS 0, 20, 21, 22 or an alarm of 30 to 34
-  pub beat-code : OneOf (0 ∷ beatCodes) (beatAnswer s st g .code)
+  pub beat-code : OneOf (beatAnswer s st g .code) (0 ∷ beatCodes)
   unfolding beatAnswer
   beat-code = by-answer (wholeBeat s st g) beat-stops
     where
-      by-answer : (x : Answer Turned) → StopsBy BeatCode x → OneOf (0 ∷ beatCodes) (turnedAnswer st x .code)
+      by-answer : (x : Answer Turned) → StopsBy BeatCode x → OneOf (turnedAnswer st x .code) (0 ∷ beatCodes)
       by-answer (good t) h = inl refl
       by-answer (stop c) h = inr h
 
@@ -81,34 +81,34 @@ module _ (s : List ℕ) (st : State) (g : Given) where
 
 -- ---- a host's call
 
-found-code : (s : List ℕ) (st : State) (n : ℕ) → OneOf (0 ∷ hostCodes) (found s st n .code)
+found-code : (s : List ℕ) (st : State) (n : ℕ) → OneOf (found s st n .code) (0 ∷ hostCodes)
 unfolding found foundAt
 found-code s st n =
-    let P : Found → Type 0 = λ f. OneOf (0 ∷ hostCodes) (f .code) in
+    let P : Found → Type 0 = λ f. OneOf (f .code) (0 ∷ hostCodes) in
     let k = rankIn (soundLines s .numbers) n 0 in
     either P (isSound s st)
     (λ e. either P (ltb k (soundLines s .count)) (λ e. either P (getD (st .cancelled) k false) (λ e. inr (inr (inl refl))) (λ e. inl refl)) (λ e. inr (inr (inl refl))))
     (λ e. inr (inl refl))
 
-called-code : (st : State) (f : Found) (change : ℕ → State) → OneOf (0 ∷ hostCodes) (f .code) → OneOf (0 ∷ hostCodes) (called st f change .code)
+called-code : (st : State) (f : Found) (change : ℕ → State) → OneOf (f .code) (0 ∷ hostCodes) → OneOf (called st f change .code) (0 ∷ hostCodes)
 unfolding called
-called-code st f change h = either (λ (c : Called). OneOf (0 ∷ hostCodes) (c .code)) (eqb (f .code) 0) (λ e. inl refl) (λ e. h)
+called-code st f change h = either (λ (c : Called). OneOf (c .code) (0 ∷ hostCodes)) (eqb (f .code) 0) (λ e. inl refl) (λ e. h)
 
 module _ (s : List ℕ) (st : State) where
   -- A HOST'S CALL ANSWERS 0, 22 or 40
-  pub lock-code : (n : ℕ) → OneOf (0 ∷ hostCodes) (lockCall s st n .code)
+  pub lock-code : (n : ℕ) → OneOf (lockCall s st n .code) (0 ∷ hostCodes)
   unfolding lockCall lockedCall
   lock-code n = called-code st (found s st n) (λ k. withLocked st k true) (found-code s st n)
 
-  pub unlock-code : (n : ℕ) → OneOf (0 ∷ hostCodes) (unlockCall s st n .code)
+  pub unlock-code : (n : ℕ) → OneOf (unlockCall s st n .code) (0 ∷ hostCodes)
   unfolding unlockCall lockedCall
   unlock-code n = called-code st (found s st n) (λ k. withLocked st k false) (found-code s st n)
 
-  pub cancel-code : (n : ℕ) → OneOf (0 ∷ hostCodes) (cancelCall s st n .code)
+  pub cancel-code : (n : ℕ) → OneOf (cancelCall s st n .code) (0 ∷ hostCodes)
   unfolding cancelCall
   cancel-code n = called-code st (found s st n) (λ k. withCancelled st k) (found-code s st n)
 
   -- a reset only 0 or 22
-  pub reset-code : OneOf (0 ∷ unsound ∷ []) (resetCall s st .code)
+  pub reset-code : OneOf (resetCall s st .code) (0 ∷ unsound ∷ [])
   unfolding resetCall
-  reset-code = either (λ (c : Called). OneOf (0 ∷ unsound ∷ []) (c .code)) (isSound s st) (λ e. inl refl) (λ e. inr (inl refl))
+  reset-code = either (λ (c : Called). OneOf (c .code) (0 ∷ unsound ∷ [])) (isSound s st) (λ e. inl refl) (λ e. inr (inl refl))

@@ -202,11 +202,6 @@ pub beat-answers : (s : List ℕ) (st : State) (g : Given) → length s ≤ setS
 unfolding beatAnswer
 beat-answers s st g l h = answered-whole s st (wholeBeat s st g) h (beat-holds s st g l h)
 
--- so a beat keeps a sound state sound
-pub beat-keeps : (s : List ℕ) (st : State) (g : Given) → length s ≤ setSize → length (st .r) ≡ rCount → length (st .cells) ≡ stateCells →
-    isSound s st ≡ true → isSound s (beatAnswer s st g .state) ≡ true
-beat-keeps s st g l lr lc h = beat-answers s st g l (record { sound = h; long = lr; sized = lc }) .0 .sound
-
 -- ---- call after call
 
 unchanged : (s : List ℕ) (st : State) (c : Called) → Whole s st → isSound s (c .state) ≡ true → Answers st c → Whole s (c .state)

@@ -256,22 +256,22 @@ abbrev pub CellSound : List ℤ → Celled → Type 0
 CellSound r a = BeatSound r (a .cells)
 
 module _ (r c : List ℤ) (runs : List Bool) (h : BeatSound r c) (i : ℕ) (v : ℤ) (e : inRange v ≡ true) where
-  marker-keeps : i ≤ 31 → BeatSound r (set c (cellOf MARKER i) (wholeUnits v))
+  marker-keeps : i ≤ lastIndex MARKER → BeatSound r (set c (cellOf MARKER i) (wholeUnits v))
   unfolding cellOf
   marker-keeps l =
       beat-cell r c h _ (markerAt + i) (wholeUnits v) (omega arith) (omega arith) (right-marker (markerAt + i) _ (omega arith) (omega arith) (whole-in-range v e) (whole-whole v))
 
-  parameter-keeps : i ≤ 31 → BeatSound r (set c (cellOf PARAM i) v)
+  parameter-keeps : i ≤ lastIndex PARAM → BeatSound r (set c (cellOf PARAM i) v)
   unfolding cellOf
   parameter-keeps l = beat-cell r c h _ (paramAt + i) v (omega arith) (omega arith) (right-parameter (paramAt + i) v (omega arith) (omega arith) e)
 
-  output-keeps : 1 ≤ i → i ≤ 16 → Holds (CellSound r) (fromWorked (outputOf v) >>= λ u. good (record { cells = set c (cellOf OUT i) u; runs = runs }))
+  output-keeps : firstIndex OUT ≤ i → i ≤ lastIndex OUT → Holds (CellSound r) (fromWorked (outputOf v) >>= λ u. good (record { cells = set c (cellOf OUT i) u; runs = runs }))
   unfolding cellOf
   output-keeps l m =
       holds-then (λ u. (outputOf v ≡ W.Value u)) (CellSound r) (fromWorked (outputOf v)) _ (worked-holds _ (outputOf v) (λ u g. g) (output-alarm v)) λ u g.
       beat-cell r c h _ (i - 1) u (omega arith) (omega arith) (right-output (i - 1) u (omega arith) (rw (output-same v u g) e) (output-right u (output-either v u g)))
 
-  timer-keeps : i ≤ 7 → CellSound r (writeTimer c runs (cellOf TIMER i) i v)
+  timer-keeps : i ≤ lastIndex TIMER → CellSound r (writeTimer c runs (cellOf TIMER i) i v)
   unfolding cellOf
   timer-keeps l =
       beat-cell r c h _ (timerAt + i) _ (omega arith) (omega arith)
@@ -294,7 +294,7 @@ module _ (r c : List ℤ) (runs : List Bool) (h : BeatSound r c) (i : ℕ) (v : 
 
 writable-low : (i : ℕ) → isWritable R i ≡ true → i < runAt 0
 unfolding isWritable
-writable-low i h = ltb-true i 100 h
+writable-low i h = ltb-true i (runAt 0) h
 
 -- a value in range, written where the check allows it, keeps the variables sound
 pub write-keeps : (x : Vars) (w i : ℕ) (v : ℤ) → VarsSound x → inRange v ≡ true → writeFault w i ≡ 0 → Holds VarsSound (writeTo x w i v)

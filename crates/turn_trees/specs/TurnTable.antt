@@ -16,7 +16,7 @@ use Rattle.values.specs.Fifo.{fits, appendAnswer, appended, shifted, removeAnsw
 use Rattle.tokens.specs.Token.{SAME, ATLEAST, MORE, MINUS, PLUS, TIMES, OVER, ID, IDS, WHEN, WHENEVER, EVERY, IN, MARKER, R, FIFO1, POS, LOCK, UNLOCK, X, maxLines}
 use Rattle.tokens.specs.Descent.{Answer, good, stop, _>>=_}
 use Rattle.tokens.specs.Index.{isInside}
-use Rattle.working.specs.Variables.{cellOf, beatCount, fifoValue, fifoAt, variableValue}
+use Rattle.working.specs.Variables.{numberCount, cellOf, beatCount, fifoValue, fifoAt, variableValue}
 use Rattle.working.specs.Operators.{joinLogic, joinTruths, joinValues}
 use Rattle.working.specs.Working.{valueOver}
 use Rattle.engine.specs.Order.{fourBytes, orderBytes}
@@ -98,7 +98,7 @@ turnCases =
     ∷ []
 
 abbrev pub outcomeOf : Case → Answer Shown
-outcomeOf c = turnsTree (namesOf fourLines (replicate maxLines false)) (c .automatic) fourLines 0 (beatBegun powerOn (record { automatic = c .automatic; word = c .inputs; lent = replicate 14 (pos 0); buffer = [] })) >>= shown
+outcomeOf c = turnsTree (namesOf fourLines (replicate maxLines false)) (c .automatic) fourLines 0 (beatBegun powerOn (record { automatic = c .automatic; word = c .inputs; lent = replicate numberCount (pos 0); buffer = [] })) >>= shown
 
 abbrev pub expected : Case → Answer Shown
 expected c = c .outcome
