@@ -1,5 +1,6 @@
--- The grammar of a line. Tree, Meaning, TreeFault, TreeNames, TreeOf and NumbersTo are the definitions; that writing and reading agree is shown in Agreement.. and ClosedTokens, the line
--- of some tokens and its fault in TreeOfLaws and LineByTree; the files named ..Laws hold what these need; LineTable computes worked lines of the documents.
+-- The grammar of a line. Tree, Meaning, TreeFault, TreeNames, TreeOf and NumbersTo are the definitions; the definition of loading (Load of reader) stands on Tree, TreeFault, TreeNames and TreeOf. That writing and
+-- reading agree is shown in Agreement.., ClosedTokens and LineByTree, that TreeOf finds just the line which is written in TreeOfLaws; the other files named ..Laws hold what these need, NumbersToLaws what holds of a
+-- line with other numbers; LineTable computes worked lines of the documents.
 pub mod Tree
 pub mod Meaning
 pub mod TreeFault
