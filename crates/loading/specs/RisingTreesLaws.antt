@@ -117,8 +117,8 @@ module _ {A : Type 0} (f : A → ℕ) where
       let e = same-first x y xs ys (a .1) (b .1) (g x (inl refl)) (h y (inl refl)) in
       let c : RisesBy f (f x) ys = rw e (b .1) in
       let i = same-rising xs ys (f x) (a .1) c
-          (λ z o. one-later x z xs ys (a .1) o (subst (λ (v : A). (v ≡ z) ⊎ OneOf z ys) (sym e) (g z (inr o))))
-          (λ z o. one-later x z ys xs c o (h z (inr o))) in
+      (λ z o. one-later x z xs ys (a .1) o (subst (λ (v : A). (v ≡ z) ⊎ OneOf z ys) (sym e) (g z (inr o))))
+      (λ z o. one-later x z ys xs c o (h z (inr o))) in
       rw (e, i)
 
 -- ---- rows
