@@ -7,13 +7,12 @@ use native.Mathlib.Omega.{arith}
 use lib.IntN.{ℤ}
 use Rattle.tokens.specs.Descent.{Answer, good, stop, _>>=_}
 use Rattle.working.specs.declared.walk.ValueOrAlarm.{ValueOrAlarm}
-use Rattle.engine.specs.declared.action.Flags.{Flags}
+use Rattle.engine.specs.declared.action.Progress.{Progress}
 use Rattle.engine.specs.declared.action.RightSide.{RightSide}
 use Rattle.engine.specs.declared.action.Done.{Done}
 use Rattle.engine.specs.Write.{Vars}
 use Rattle.engine.specs.Action.{World, Taken, Did, Note, alarmOf, fromValueOrAlarm}
-use Rattle.engine.specs.WriteAnswers.{varsOf}
-use Rattle.engine.specs.ActionAnswers.{worldOf, IsWorked, IsTaken, IsDone, Within}
+use Rattle.engine.specs.ActionAnswers.{IsWorked, IsTaken, IsDone, Within}
 use Rattle.values.specs.Choice.{contrary}
 
 module _ (g : ValueOrAlarm) where
@@ -32,33 +31,33 @@ module _ (x : RightSide) where
   worked-stop (good a) h e = contrary (h .0) e
   worked-stop (stop k) h e = cc
 
-module _ (x : RightSide) (r c : List ℤ) (runs : List Bool) where
-  pub taken-good : (y : Answer Taken) → IsTaken x r c runs y → x .good ≡ true → y ≡ good (record { value = x .value; vars = varsOf r c runs; next = x .next })
+module _ (x : RightSide) (u : Vars) where
+  pub taken-good : (y : Answer Taken) → IsTaken x u y → x .good ≡ true → y ≡ good (record { value = x .value; vars = u; next = x .next })
   taken-good (good a) h e = rw (h .1 .0, h .1 .1 .0) (ap (λ (v : Vars). good (record { value = a .value; vars = v; next = a .next })) (sym (h .1 .1 .1)))
   taken-good (stop k) h e = contrary e (h .0)
 
-  pub taken-stop : (y : Answer Taken) → IsTaken x r c runs y → x .good ≡ false → y ≡ stop (x .alarm)
+  pub taken-stop : (y : Answer Taken) → IsTaken x u y → x .good ≡ false → y ≡ stop (x .alarm)
   taken-stop (good a) h e = contrary (h .0) e
   taken-stop (stop k) h e = cc
 
-module _ (x : Done) (r c : List ℤ) (out : List ℕ) where
-  pub done-good : (y : Answer Did) → IsDone x r c out y → x .good ≡ true → (ns : List Note) × (y ≡ good (record { world = worldOf r c out (x .flags); next = x .next; notes = ns }))
+module _ (x : Done) (v : World) where
+  pub done-good : (y : Answer Did) → IsDone x v y → x .good ≡ true → (ns : List Note) × (y ≡ good (record { world = v; next = x .next; notes = ns }))
   done-good (good a) h e = (a .notes, rw (h .1 .0) (ap (λ (w : World). good (record { world = w; next = a .next; notes = a .notes })) (sym (h .1 .1))))
   done-good (stop k) h e = contrary e (h .0)
 
-  pub done-stop : (y : Answer Did) → IsDone x r c out y → x .good ≡ false → y ≡ stop (x .alarm)
+  pub done-stop : (y : Answer Did) → IsDone x v y → x .good ≡ false → y ≡ stop (x .alarm)
   done-stop (good a) h e = contrary (h .0) e
   done-stop (stop k) h e = cc
 
 -- what a right side gave is taken, and changes nothing
-pub worked-taken : (x : RightSide) (r c : List ℤ) (runs : List Bool) (y : Answer (ℤ × ℕ)) → IsWorked x y → IsTaken x r c runs (y >>= λ a. good (record { value = a .0; vars = varsOf r c runs; next = a .1 }))
-worked-taken x r c runs (good a) h = (h .0, (h .1 .0, (h .1 .1, refl)))
-worked-taken x r c runs (stop k) h = h
+pub worked-taken : (x : RightSide) (u : Vars) (y : Answer (ℤ × ℕ)) → IsWorked x y → IsTaken x u (y >>= λ a. good (record { value = a .0; vars = u; next = a .1 }))
+worked-taken x u (good a) h = (h .0, (h .1 .0, (h .1 .1, refl)))
+worked-taken x u (stop k) h = h
 
 -- a world differs by its orders alone
 pub with-orders : (x : World) {a b : List ℕ} → a ≡ b → _≡_ {A = World} (record { vars = x .vars; locked = x .locked; memory = x .memory; acted = x .acted; orders = a }) (record { vars = x .vars; locked = x .locked; memory = x .memory; acted = x .acted; orders = b })
 with-orders x e = rw e
 
--- an answer that hands back the flags
-pub same-flags : (n : ℕ) {x : Done} {b : Bool} {a q : ℕ} {f : Flags} → x ≡ record { good = b; alarm = a; next = q; flags = f } → Within n x f
-same-flags n e = rw e (omega arith, refl)
+-- an answer that hands back the progress
+pub same-progress : (n : ℕ) {x : Done} {b : Bool} {a q : ℕ} {f : Progress} → x ≡ record { good = b; alarm = a; next = q; progress = f } → Within n x f
+same-progress n e = rw e (omega arith, refl)

@@ -5,7 +5,6 @@ use mathlib.Core.List.{List, _++_}
 use Prim.Native.Nat.{ℕ, zero, suc, _-_, _<_, _≤_}
 use native.Mathlib.Omega.{arith}
 use lib.Dec.{eqb}
-use lib.IntN.{ℤ}
 use lib.ListN.{getD}
 use borrow.Author.Tests.{ne-eqb}
 use Rattle.values.specs.Codes.{unsound}
@@ -23,13 +22,13 @@ came (good d) = good (d .world, d .next)
 came (stop k) = stop k
 
 -- what holds what one comes to holds what the other comes to
-pub all-come : (x : Done) (r c : List ℤ) (out : List ℕ) (y z : Answer Did) → came y ≡ came z → IsDone x r c out y → IsDone x r c out z
-all-come x r c out (good d) (good e) q h =
+pub all-come : (x : Done) (v : World) (y z : Answer Did) → came y ≡ came z → IsDone x v y → IsDone x v z
+all-come x v (good d) (good e) q h =
     let w : _≡_ {A = World × ℕ} (d .world, d .next) (e .world, e .next) = cc in
     (h .0, (h .1 .0 ∙ ap (λ (z : World × ℕ). z .1) w, h .1 .1 ∙ ap (λ (z : World × ℕ). z .0) w))
-all-come x r c out (good d) (stop k) q h = clash (cc)
-all-come x r c out (stop k) (good e) q h = clash (cc)
-all-come x r c out (stop k) (stop l) q h = (h .0, h .1 ∙ (cc))
+all-come x v (good d) (stop k) q h = clash (cc)
+all-come x v (stop k) (good e) q h = clash (cc)
+all-come x v (stop k) (stop l) q h = (h .0, h .1 ∙ (cc))
 
 module _ (s numbers : List ℕ) (cancelled : List Bool) (number : ℕ) where
   -- what follows an action, with j more allowed

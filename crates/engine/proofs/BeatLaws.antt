@@ -1,79 +1,116 @@
--- Laws of a beat: what it comes to by its checks, and what it answers.
+-- Laws of a beat: what it comes to by its checks, and what it answers and leaves.
 use mathlib.Core.Path.{_≡_, refl, sym, ap, _∙_}
-use mathlib.Core.Bool.{true, false}
+use mathlib.Core.Bool.{Bool, true, false, _&&_}
 use mathlib.Core.List.{List, _∷_, _++_}
 use Prim.Native.Nat.{ℕ, _*_, _/_, _<_, _≤_}
 use native.Mathlib.Omega.{arith}
 use borrow.Author.Tests.{lt-ltb, le-ltb}
 use lib.IntN.{ℤ}
 use lib.ListN.{length, take, drop}
+use Rattle.values.specs.Choice.{and-true, chosen, refused}
 use Rattle.values.specs.Codes.{shortBuffer, wrongNumbers, unsound}
 use Rattle.tokens.specs.Descent.{Answer, good, stop, _>>=_}
-use Rattle.engine.specs.declared.action.Flags.{Flags}
+use Rattle.engine.specs.declared.action.Progress.{Progress}
+use Rattle.engine.specs.declared.one_beat.BeatCode.{BeatCode}
 use Rattle.engine.specs.declared.one_beat.Beaten.{Beaten}
+use Rattle.engine.specs.declared.set.Lines.{Lines}
 use Rattle.engine.specs.declared.state.State.{State}
 use Rattle.working.specs.Variables.{inputCount}
 use Rattle.engine.specs.Set.{soundLines}
 use Rattle.engine.specs.Sound.{stateSound, isSound}
 use Rattle.engine.specs.Order.{orderSize}
+use Rattle.working.specs.Variables.{inputCount}
+use Rattle.engine.specs.Write.{Vars}
 use Rattle.engine.specs.Turn.{Entry, beatIn, Turned}
-use Rattle.engine.specs.Beat.{bufferSize, areInputs, buffered, Given, beatEnded, allTurns, wholeBeat, turnedAnswer}
+use Rattle.engine.specs.Beat.{bufferSize, areInputs, buffered, Given, beatEnded, allTurns, beatOver, wholeBeat, turnedAnswer}
+use Rattle.engine.specs.Held.{Held, heldIn, stateHeld, turnedCode, heldAfter}
 use Rattle.engine.specs.ActionAnswers.{worldOf}
 
-module _ (s : List ℕ) (st : State) (g : Given) where
-  pub lines-unsound : soundLines s .sound ≡ false → wholeBeat s st g ≡ stop unsound
-  unfolding wholeBeat isSound
-  lines-unsound h = simp (wholeBeat, isSound, h)
+module _ (s : List ℕ) (ls : Lines) (st : State) (g : Given) where
+  pub lines-unsound : ls .sound ≡ false → beatOver s ls st g ≡ stop unsound
+  unfolding beatOver
+  lines-unsound h = simp (beatOver, h)
 
-  module _ (h : soundLines s .sound ≡ true) where
-    pub state-unsound : stateSound (soundLines s .count) st ≡ false → wholeBeat s st g ≡ stop unsound
-    unfolding wholeBeat isSound
-    state-unsound e = simp (wholeBeat, isSound, h, e)
+  module _ (h : ls .sound ≡ true) where
+    pub state-unsound : stateSound (ls .count) st ≡ false → beatOver s ls st g ≡ stop unsound
+    unfolding beatOver
+    state-unsound e = simp (beatOver, h, e)
 
-    module _ (e : stateSound (soundLines s .count) st ≡ true) where
-      sound : isSound s st ≡ true
-      unfolding isSound
-      sound = simp (h, e)
+    module _ (e : stateSound (ls .count) st ≡ true) where
+      sound : (ls .sound && stateSound (ls .count) st) ≡ true
+      sound = and-true h e
 
-      pub too-short : length (g .buffer) < bufferSize → wholeBeat s st g ≡ stop shortBuffer
-      unfolding wholeBeat
-      too-short l = simp (wholeBeat, sound, lt-ltb (length (g .buffer)) bufferSize l)
+      pub too-short : length (g .buffer) < bufferSize → beatOver s ls st g ≡ stop shortBuffer
+      unfolding beatOver
+      too-short l = chosen _ _ _ sound ∙ chosen _ _ _ (lt-ltb (length (g .buffer)) bufferSize l)
 
       module _ (l : bufferSize ≤ length (g .buffer)) where
-        pub no-inputs : areInputs (g .lent) ≡ false → wholeBeat s st g ≡ stop wrongNumbers
-        unfolding wholeBeat
-        no-inputs i = simp (wholeBeat, sound, le-ltb (length (g .buffer)) bufferSize l, i)
+        pub no-inputs : areInputs (g .lent) ≡ false → beatOver s ls st g ≡ stop wrongNumbers
+        unfolding beatOver
+        no-inputs i = chosen _ _ _ sound ∙ refused _ _ _ (le-ltb (length (g .buffer)) bufferSize l) ∙ refused _ _ _ i
 
         module _ (i : areInputs (g .lent) ≡ true) where
-          turns-beat : wholeBeat s st g ≡ (allTurns s (soundLines s) st g >>= λ t. good (record { world = t .world; entries = beatIn (g .automatic) ∷ t .entries }))
-          unfolding wholeBeat
-          turns-beat = simp (wholeBeat, sound, le-ltb (length (g .buffer)) bufferSize l, i)
+          turns-beat : beatOver s ls st g ≡ (allTurns s ls st g >>= λ t. good (record { world = t .world; entries = beatIn (g .automatic) ∷ t .entries }))
+          unfolding beatOver
+          turns-beat = chosen _ _ _ sound ∙ refused _ _ _ (le-ltb (length (g .buffer)) bufferSize l) ∙ chosen _ _ _ i
 
           -- what the turns came to is what the beat comes to, but for what is written down
-          pub turns-told : {x : Beaten} {o : List ℕ} → x ≡ turnedAnswer st (allTurns s (soundLines s) st g) → o ≡ buffered (g .buffer) (allTurns s (soundLines s) st g) →
-              (x ≡ turnedAnswer st (wholeBeat s st g)) × (o ≡ buffered (g .buffer) (wholeBeat s st g))
-          turns-told p q = rw turns-beat (p ∙ go (allTurns s (soundLines s) st g) .0, q ∙ go (allTurns s (soundLines s) st g) .1)
+          pub turns-told : (b : Held) {x : BeatCode} {a : Held} → x ≡ turnedCode (allTurns s ls st g) → a ≡ heldAfter b (allTurns s ls st g) →
+              (x ≡ turnedCode (beatOver s ls st g)) × (a ≡ heldAfter b (beatOver s ls st g))
+          turns-told b p q = rw turns-beat (p ∙ go (allTurns s ls st g) .0, q ∙ go (allTurns s ls st g) .1)
             where
-              go : (y : Answer Turned) → let z : Answer Turned = y >>= λ t. good (record { world = t .world; entries = beatIn (g .automatic) ∷ t .entries }) in (turnedAnswer st y ≡ turnedAnswer st z) × (buffered (g .buffer) y ≡ buffered (g .buffer) z)
+              go : (y : Answer Turned) → let z : Answer Turned = y >>= λ t. good (record { world = t .world; entries = beatIn (g .automatic) ∷ t .entries }) in (turnedCode y ≡ turnedCode z) × (heldAfter b y ≡ heldAfter b z)
               go (good t) = (refl, refl)
               go (stop k) = (refl, refl)
 
--- what a beat that comes to y answers
-module _ (st : State) (b : List ℕ) (y : Answer Turned) where
-  pub refuses : {x : Beaten} {k : ℕ} → x ≡ record { code = k; orders = 0; acted = 0; state = st } → y ≡ stop k → (x ≡ turnedAnswer st y) × (b ≡ buffered b y)
-  refuses x e = (x ∙ ap (turnedAnswer st) (sym e), ap (buffered b) (sym e))
+-- what a beat that comes to y answers and leaves of what it held
+module _ (h : Held) (y : Answer Turned) where
+  pub refuses : {x : BeatCode} {k : ℕ} → x ≡ record { code = k; orders = 0; acted = 0 } → y ≡ stop k → (x ≡ turnedCode y) × (h ≡ heldAfter h y)
+  refuses x e = (x ∙ ap turnedCode (sym e), ap (heldAfter h) (sym e))
 
   -- the first 8 bytes for each order are those of the orders
-  module _ (r c : List ℤ) (out : List ℕ) (f : Flags) (es : List Entry) (e : y ≡ good (record { world = worldOf r c out f; entries = es })) (l : length (take (f .count * orderSize) out) ≡ f .count * orderSize) where
+  module _ (vars : Vars) (locked memory : List Bool) (out : List ℕ) (f : Progress) (es : List Entry) (e : y ≡ good (record { world = worldOf vars locked memory out f; entries = es })) (l : length (take (f .count * orderSize) out) ≡ f .count * orderSize) where
     bytes : f .count * orderSize ≡ orderSize * f .count
     bytes = omega arith
 
     written : length (take (orderSize * f .count) out) ≡ orderSize * f .count
     written = rw bytes at l
 
-    pub answers : {x : Beaten} {next : State} {kept : List ℤ} → x ≡ record { code = 0; orders = f .count; acted = f .acted; state = next } → next ≡ record { r = r; cells = kept; runs = f .runs; locked = f .locked; cancelled = st .cancelled; memory = f .memory } → kept ≡ drop inputCount c → x ≡ turnedAnswer st y
-    unfolding beatEnded
-    answers p n k = let m : orderSize * f .count / orderSize ≡ f .count = omega arith in p ∙ rw (n, e, written, m, k)
+    pub answers : {x : BeatCode} → x ≡ record { code = 0; orders = f .count; acted = f .acted } → x ≡ turnedCode y
+    answers p = let m : orderSize * f .count / orderSize ≡ f .count = omega arith in p ∙ rw (e, written, m)
 
-    pub writes : {o : List ℕ} → o ≡ take (f .count * orderSize) out ++ drop (f .count * orderSize) b → o ≡ buffered b y
-    writes o = o ∙ rw (e, written, bytes)
+    pub leaves : {o : List ℕ} → o ≡ take (f .count * orderSize) out ++ drop (f .count * orderSize) (h .buffer) → heldIn (vars .r) (vars .cells) (vars .runs) locked memory o ≡ heldAfter h y
+    leaves o = rw (o, e, written, bytes)
+
+-- what is left, array by array
+pub each-array : {x y : BeatCode} {a b : Held} → (x ≡ y) × (a ≡ b) → (x ≡ y) × ((a .r ≡ b .r) × ((a .cells ≡ b .cells) × ((a .runs ≡ b .runs) × ((a .locked ≡ b .locked) × ((a .memory ≡ b .memory) × (a .buffer ≡ b .buffer))))))
+each-array p =
+    let e = p .1 in
+    (p .0, (ap (λ (h : Held). h .r) e, (ap (λ (h : Held). h .cells) e, (ap (λ (h : Held). h .runs) e, (ap (λ (h : Held). h .locked) e, (ap (λ (h : Held). h .memory) e, ap (λ (h : Held). h .buffer) e))))))
+
+-- ---- the beat of a state by value
+
+-- the lines that are read from the set
+beat-by-lines : (s : List ℕ) (st : State) (g : Given) → wholeBeat s st g ≡ beatOver s (soundLines s) st g
+unfolding wholeBeat beatOver isSound
+beat-by-lines s st g = refl
+
+pub beat-over-lines : (s : List ℕ) (st : State) (g : Given) {ls : Lines} {x : State} → ls ≡ soundLines s → x ≡ st → beatOver s ls x g ≡ wholeBeat s st g
+beat-over-lines s st g p q = rw (p, q) (sym (beat-by-lines s st g))
+
+-- a state that was taken apart is put together
+module _ (st : State) (h : Held) (e : stateHeld (st .cancelled) h ≡ st) where
+  put-together : (y : Answer Turned) → _≡_ {A = Beaten} (record { code = turnedCode y .code; orders = turnedCode y .orders; acted = turnedCode y .acted; state = stateHeld (st .cancelled) (heldAfter h y) }) (turnedAnswer st y)
+  unfolding beatEnded
+  put-together (good t) = refl
+  put-together (stop k) = ap (λ (x : State). record { code = k; orders = 0; acted = 0; state = x }) e
+
+  buffer-left : (y : Answer Turned) → heldAfter h y .buffer ≡ buffered (h .buffer) y
+  buffer-left (good t) = refl
+  buffer-left (stop k) = refl
+
+  -- what the beat in place answered and left, where kept is the state's part of the cells
+  pub put-back : {y z : Answer Turned} → y ≡ z → {x : BeatCode} {k : Held} {kept : List ℤ} → x ≡ turnedCode y → k ≡ heldAfter h y → kept ≡ drop inputCount (k .cells) →
+      (_≡_ {A = Beaten} (record { code = x .code; orders = x .orders; acted = x .acted; state = record { r = k .r; cells = kept; runs = k .runs; locked = k .locked; cancelled = st .cancelled; memory = k .memory } }) (turnedAnswer st z))
+      × (k .buffer ≡ buffered (h .buffer) z)
+  put-back {y} {z} p q r t = rw (t, q, r, p) (put-together z, buffer-left z)

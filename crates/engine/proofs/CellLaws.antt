@@ -1,5 +1,5 @@
 -- Laws of cells that a loop writes: a list copied into another, inputs put in front; and the cells of a beat, part by part.
-use mathlib.Core.Path.{_≡_, refl, sym, _∙_}
+use mathlib.Core.Path.{_≡_, refl, sym, ap, _∙_}
 use mathlib.Core.Bool.{cond}
 use mathlib.Core.List.{List, [], _++_, append-assoc, append-nil}
 use Prim.Native.Nat.{ℕ, _+_, _-_, _/_, _%_, _^_, _<_}
@@ -8,8 +8,8 @@ use native.Mathlib.Numerals.{add-one}
 use native.Mathlib.Nat.{pow-suc, div-div-eq-div-mul}
 use lib.Dec.{eqb}
 use lib.IntN.{ℤ, pos}
-use lib.ListN.{length, take, drop, getD, set, length-append, length-drop, drop-of-length-le}
-use lib.Seq.{paste, paste-suc, take-all, take-length, take-at, append-snoc}
+use lib.ListN.{length, take, drop, getD, set, length-drop, drop-of-length-le}
+use lib.Seq.{paste, paste-suc, length-take-le, take-all, take-length, take-at, drop-at, drop-drop, append-snoc}
 use Rattle.values.specs.Value.{unit}
 use Rattle.values.specs.ListLaws.{put}
 use Rattle.engine.specs.Cells.{inputCell, inputCells}
@@ -40,23 +40,31 @@ module _ (word i rest : ℕ) (r : rest ≡ word / 2 ^ i) where
 
 -- ---- the cells of a beat, part by part: i input bits, n numbers and m cells of the state
 
-module _ (i n m : ℕ) (a b g z : List ℤ) (la : length a ≡ i) (lb : length b ≡ n) (lg : length g ≡ m) (lz : length z ≡ i + n + m) where
-  -- the inputs are put in front of z, then b and g are copied behind them
-  module _ (x : List ℤ) (ex : x ≡ a ++ drop i z) where
-    module _ (y : List ℤ) (ey : y ≡ take i x ++ (b ++ drop (i + length b) x)) where
-      front : y ≡ (a ++ b) ++ drop (i + length b) x
-      front =
-          let t : take i x ≡ a = rw ex (take-at a (drop i z) i la) in
-          ey ∙ rw (t, append-assoc)
+-- the inputs are put in front of d, then the numbers are copied behind them
+pub begun : (a b g d x y : List ℤ) → length a ≡ 16 → length b ≡ 14 → drop 30 d ≡ g → x ≡ a ++ drop 16 d → y ≡ take 16 x ++ (b ++ drop (16 + length b) x) → y ≡ a ++ (b ++ g)
+begun a b g d x y la lb e ex ey =
+    let t : take 16 x ≡ a = rw ex (take-at a (drop 16 d) 16 la) in
+    let r : drop (16 + 14) x ≡ g = sym (drop-drop 14 16 x) ∙ ap (λ (l : List ℤ). drop 14 l) (ap (λ (l : List ℤ). drop 16 l) ex ∙ drop-at a (drop 16 d) 16 la) ∙ drop-drop 14 16 d ∙ e in
+    ey ∙ rw (t, lb, r)
 
-      long : length y ≡ i + n + m
-      long = rw front (simp (length-append, length-drop, la, lb) (rw ex (simp (length-append, length-drop, la, lz) (omega arith))))
+-- a part of 92 cells behind the first 30 is replaced
+pub replaced : (d g x : List ℤ) → length d ≡ 122 → x ≡ take 30 d ++ (g ++ drop 92 (drop 30 d)) → drop 30 x ≡ g
+replaced d g x l e =
+    let n : drop 92 (drop 30 d) ≡ [] = drop-of-length-le (drop 30 d) {i = 92} (rw length-drop (omega arith)) in
+    ap (λ (l : List ℤ). drop 30 l) (e ∙ ap (λ (l : List ℤ). take 30 d ++ l) (ap (λ (l : List ℤ). g ++ l) n ∙ append-nil g)) ∙ drop-at (take 30 d) g 30 (length-take-le 30 d (omega arith))
 
-      pub parts : take (i + n) y ++ (g ++ drop (i + n + length g) y) ≡ a ++ (b ++ g)
-      parts =
-          let t : take (i + n) y ≡ a ++ b = rw front (take-at (a ++ b) (drop (i + length b) x) (i + n) (simp (length-append, la, lb))) in
-          let d : drop (i + n + length g) y ≡ [] = drop-of-length-le y {i = i + n + length g} (omega (arith, long, lg)) in
-          rw (t, d, append-nil, append-assoc)
+-- 92 cells behind the first 30, copied over cells that are 0
+pub spread : (z s x : List ℤ) → length z ≡ 122 → length s ≡ 92 → x ≡ take 30 z ++ (s ++ drop (30 + length s) z) → drop 30 x ≡ s
+spread z s x lz ls e =
+    let n : drop (30 + length s) z ≡ [] = drop-of-length-le z {i = 30 + length s} (omega arith) in
+    ap (λ (l : List ℤ). drop 30 l) (e ∙ ap (λ (l : List ℤ). take 30 z ++ l) (ap (λ (l : List ℤ). s ++ l) n ∙ append-nil s)) ∙ drop-at (take 30 z) s 30 (length-take-le 30 z (omega arith))
+
+-- all behind the first 30 cells, as a part of them
+pub behind-inputs : (d : List ℤ) → take (length d - 30) (drop 30 d) ≡ drop 30 d
+behind-inputs d = take-all (length d - 30) (drop 30 d) (rw length-drop (omega arith))
+
+pub all-behind : (d : List ℤ) → length d ≡ 122 → take 92 (drop 30 d) ≡ drop 30 d
+all-behind d l = take-all 92 (drop 30 d) (rw length-drop (omega arith))
 
 -- all behind the first n cells, copied over the rest
 pub kept : (n m : ℕ) (d z : List ℤ) → length d ≡ n + m → length z ≡ m → take 0 z ++ (take (length d - n) (drop n d) ++ drop (0 + length (take (length d - n) (drop n d))) z) ≡ drop n d

@@ -20,55 +20,49 @@ use Rattle.engine.specs.declared.set.Lines.{Lines}
 use Rattle.engine.specs.declared.state.State.{State}
 use Rattle.engine.proofs.SetLaws.{turn}
 
+-- what was said so far, and what is said of the rest
+and-next : (g x t : Bool) → ((g && x) && t) ≡ (g && (x && t))
+and-next true x t = refl
+and-next false x t = refl
+
+and-done : (g : Bool) {t : Bool} → t ≡ true → g ≡ (g && t)
+and-done true e = sym e
+and-done false e = refl
+
 -- a rule f for a list, from place i on: the test p of its first element, and the rule for the rest; x is what the test of the element at i said
 module _ (p : ℕ → ℤ → Bool) (f : List ℤ → ℕ → Bool) (some : (v : ℤ) (vs : List ℤ) (i : ℕ) → f (v ∷ vs) i ≡ (p i v && f vs (i + 1))) (xs : List ℤ) (i : ℕ) (l : i < length xs) (x : Bool) (e : x ≡ p i (getD xs i (pos 0))) where
   falls : f (drop i xs) i ≡ (x && f (drop (i + 1) xs) (i + 1))
   falls = rw (drop-cons xs i (pos 0) l, add-one i, e) (some (getD xs i (pos 0)) (drop (suc i) xs) i ∙ rw add-one)
 
-  each-not : x ≡ false → f (drop i xs) i ≡ false
-  each-not z = falls ∙ rw z
-
-  each-on : x ≡ true → f (drop i xs) i ≡ f (drop (i + 1) xs) (i + 1)
-  each-on z = falls ∙ rw z
+  each-next : (g : Bool) → ((g && x) && f (drop (i + 1) xs) (i + 1)) ≡ (g && f (drop i xs) i)
+  each-next g = and-next g x (f (drop (i + 1) xs) (i + 1)) ∙ ap (λ (t : Bool). g && t) (sym falls)
 
 module _ (xs : List ℤ) (i : ℕ) where
   module _ (l : i < length xs) (x : Bool) where
-    pub ranged-not : x ≡ inRange (getD xs i (pos 0)) → x ≡ false → allRanged (drop i xs) ≡ false
+    pub ranged-next : x ≡ inRange (getD xs i (pos 0)) → (g : Bool) → ((g && x) && allRanged (drop (i + 1) xs)) ≡ (g && allRanged (drop i xs))
     unfolding allRanged
-    ranged-not = each-not (λ _ v. inRange v) (λ vs _. allRanged vs) (λ v vs _. refl) xs i l x
+    ranged-next = each-next (λ _ v. inRange v) (λ vs _. allRanged vs) (λ v vs _. refl) xs i l x
 
-    pub ranged-on : x ≡ inRange (getD xs i (pos 0)) → x ≡ true → allRanged (drop i xs) ≡ allRanged (drop (i + 1) xs)
+    pub zero-next : x ≡ equalTo (getD xs i (pos 0)) (pos 0) → (g : Bool) → ((g && x) && allZero (drop (i + 1) xs)) ≡ (g && allZero (drop i xs))
+    unfolding allZero
+    zero-next = each-next (λ _ v. equalTo v (pos 0)) (λ vs _. allZero vs) (λ v vs _. refl) xs i l x
+
+    pub cells-next : x ≡ isCell i (getD xs i (pos 0)) → (g : Bool) → ((g && x) && areCells (drop (i + 1) xs) (i + 1)) ≡ (g && areCells (drop i xs) i)
+    unfolding areCells
+    cells-next = each-next isCell areCells (λ v vs _. refl) xs i l x
+
+  module _ (l : length xs ≤ i) (g : Bool) where
+    pub ranged-done : g ≡ (g && allRanged (drop i xs))
     unfolding allRanged
-    ranged-on = each-on (λ _ v. inRange v) (λ vs _. allRanged vs) (λ v vs _. refl) xs i l x
+    ranged-done = and-done g (rw (drop-of-length-le xs {i = i} l))
 
-    pub zero-not : x ≡ equalTo (getD xs i (pos 0)) (pos 0) → x ≡ false → allZero (drop i xs) ≡ false
+    pub zero-done : g ≡ (g && allZero (drop i xs))
     unfolding allZero
-    zero-not = each-not (λ _ v. equalTo v (pos 0)) (λ vs _. allZero vs) (λ v vs _. refl) xs i l x
+    zero-done = and-done g (rw (drop-of-length-le xs {i = i} l))
 
-    pub zero-on : x ≡ equalTo (getD xs i (pos 0)) (pos 0) → x ≡ true → allZero (drop i xs) ≡ allZero (drop (i + 1) xs)
-    unfolding allZero
-    zero-on = each-on (λ _ v. equalTo v (pos 0)) (λ vs _. allZero vs) (λ v vs _. refl) xs i l x
-
-    pub cells-not : x ≡ isCell i (getD xs i (pos 0)) → x ≡ false → areCells (drop i xs) i ≡ false
+    pub cells-done : g ≡ (g && areCells (drop i xs) i)
     unfolding areCells
-    cells-not = each-not isCell areCells (λ v vs _. refl) xs i l x
-
-    pub cells-on : x ≡ isCell i (getD xs i (pos 0)) → x ≡ true → areCells (drop i xs) i ≡ areCells (drop (i + 1) xs) (i + 1)
-    unfolding areCells
-    cells-on = each-on isCell areCells (λ v vs _. refl) xs i l x
-
-  module _ (l : length xs ≤ i) where
-    pub ranged-none : allRanged (drop i xs) ≡ true
-    unfolding allRanged
-    ranged-none = rw (drop-of-length-le xs {i = i} l)
-
-    pub zero-none : allZero (drop i xs) ≡ true
-    unfolding allZero
-    zero-none = rw (drop-of-length-le xs {i = i} l)
-
-    pub cells-none : areCells (drop i xs) i ≡ true
-    unfolding areCells
-    cells-none = rw (drop-of-length-le xs {i = i} l)
+    cells-done = and-done g (rw (drop-of-length-le xs {i = i} l))
 
 -- ---- a rule f for m numbers from k on: the test p of the first, and the rule for the rest; x is what the test of k said
 
@@ -76,45 +70,32 @@ module _ (p : ℕ → Bool) (f : ℕ → ℕ → Bool) (some : (m k : ℕ) → f
   counts : f (n - k) k ≡ (x && f (n - (k + 1)) (k + 1))
   counts = rw (turn n k l, e) (some (n - (k + 1)) k)
 
-  number-not : x ≡ false → f (n - k) k ≡ false
-  number-not z = counts ∙ rw z
-
-  number-on : x ≡ true → f (n - k) k ≡ f (n - (k + 1)) (k + 1)
-  number-on z = counts ∙ rw z
+  number-next : (g : Bool) → ((g && x) && f (n - (k + 1)) (k + 1)) ≡ (g && f (n - k) k)
+  number-next g = and-next g x (f (n - (k + 1)) (k + 1)) ∙ ap (λ (t : Bool). g && t) (sym counts)
 
 module _ (r c : List ℤ) (k : ℕ) where
-  module _ (l : k < fifos) (x : Bool) where
-    pub fifos-not : x ≡ isFifoSound r c k → x ≡ false → areFifos r c (fifos - k) k ≡ false
-    unfolding areFifos
-    fifos-not = number-not (isFifoSound r c) (areFifos r c) (λ m k. refl) fifos k l x
-
-    pub fifos-on : x ≡ isFifoSound r c k → x ≡ true → areFifos r c (fifos - k) k ≡ areFifos r c (fifos - (k + 1)) (k + 1)
-    unfolding areFifos
-    fifos-on = number-on (isFifoSound r c) (areFifos r c) (λ m k. refl) fifos k l x
-
-  pub fifos-none : (m : ℕ) → m ≤ 0 → areFifos r c m k ≡ true
+  pub fifos-next : k < fifos → (x : Bool) → x ≡ isFifoSound r c k → (g : Bool) → ((g && x) && areFifos r c (fifos - (k + 1)) (k + 1)) ≡ (g && areFifos r c (fifos - k) k)
   unfolding areFifos
-  fifos-none zero h = refl
-  fifos-none (suc m) h = absurd (omega arith)
+  fifos-next l x = number-next (isFifoSound r c) (areFifos r c) (λ m k. refl) fifos k l x
+
+  pub fifos-done : (m : ℕ) → m ≤ 0 → (g : Bool) → g ≡ (g && areFifos r c m k)
+  unfolding areFifos
+  fifos-done zero h g = and-done g refl
+  fifos-done (suc m) h g = absurd (omega arith)
 
 module _ (count : ℕ) (locked cancelled memory : List Bool) (k : ℕ) where
   -- what is tested of a rank
   abbrev flag : ℕ → Bool
   flag i = isFlag count i (getD locked i false) (getD cancelled i false) (getD memory i false)
 
-  module _ (l : k < maxLines) (x : Bool) where
-    pub flags-not : x ≡ flag k → x ≡ false → areFlags count locked cancelled memory (maxLines - k) k ≡ false
-    unfolding areFlags
-    flags-not = number-not flag (areFlags count locked cancelled memory) (λ m k. refl) maxLines k l x
-
-    pub flags-on : x ≡ flag k → x ≡ true → areFlags count locked cancelled memory (maxLines - k) k ≡ areFlags count locked cancelled memory (maxLines - (k + 1)) (k + 1)
-    unfolding areFlags
-    flags-on = number-on flag (areFlags count locked cancelled memory) (λ m k. refl) maxLines k l x
-
-  pub flags-none : (m : ℕ) → m ≤ 0 → areFlags count locked cancelled memory m k ≡ true
+  pub flags-next : k < maxLines → (x : Bool) → x ≡ flag k → (g : Bool) → ((g && x) && areFlags count locked cancelled memory (maxLines - (k + 1)) (k + 1)) ≡ (g && areFlags count locked cancelled memory (maxLines - k) k)
   unfolding areFlags
-  flags-none zero h = refl
-  flags-none (suc m) h = absurd (omega arith)
+  flags-next l x = number-next flag (areFlags count locked cancelled memory) (λ m k. refl) maxLines k l x
+
+  pub flags-done : (m : ℕ) → m ≤ 0 → (g : Bool) → g ≡ (g && areFlags count locked cancelled memory m k)
+  unfolding areFlags
+  flags-done zero h g = and-done g refl
+  flags-done (suc m) h g = absurd (omega arith)
 
 -- ---- an output: an alarm of `output` is not 0
 

@@ -1,6 +1,6 @@
 -- Laws of the turns: what a line's turn comes to by its tests, the bits of the word, and turns in a row.
 use mathlib.Core.Path.{_≡_, refl, sym, ap, _∙_}
-use mathlib.Core.Bool.{Bool, true, false}
+use mathlib.Core.Bool.{Bool, true, false, _||_}
 use mathlib.Core.List.{List, [], _∷_, _++_, map}
 use Prim.Native.Nat.{ℕ, zero, suc, _+_, _-_, _*_, _^_, _<_, _≤_}
 use native.Mathlib.Nat.{pow-le-pow-right, two-pow-succ}
@@ -14,20 +14,20 @@ use Rattle.tokens.specs.Descent.{Answer, good, stop, _>>=_}
 use Rattle.working.specs.Operators.{isYes}
 use Rattle.working.specs.Working.{conditionValue}
 use Rattle.checking.specs.declared.line.Line.{Line}
-use Rattle.engine.specs.declared.action.Flags.{Flags}
+use Rattle.engine.specs.declared.action.Progress.{Progress}
 use Rattle.engine.specs.declared.action.Done.{Done}
 use Rattle.engine.specs.Set.{noLine}
 use Rattle.engine.specs.Action.{World, Did, fromValueOrAlarm}
-use Rattle.engine.specs.Turn.{Entry, worked, Turned, lockEntry, remembered, doTurn, tryTurn, turnOf, turnsFrom}
+use Rattle.engine.specs.Turn.{Entry, worked, Turned, lockEntry, remembered, takesTurn, doTurn, tryTurn, turnOf, turnsFrom}
 use Rattle.engine.specs.Keyword.{tries, acts, remembers}
-use Rattle.engine.specs.ActionAnswers.{worldOf, IsDone}
+use Rattle.engine.specs.ActionAnswers.{IsDone}
 use Rattle.engine.specs.TurnAnswers.{IsTurned, BeforeTurn}
 use Rattle.values.specs.Choice.{contrary}
 
 -- what actions did is what their turn comes to
-pub done-turned : (x : Done) (r c : List ℤ) (out : List ℕ) (y : Answer Did) (es : List Entry) → IsDone x r c out y → IsTurned x r c out (y >>= λ d. good (record { world = d .world; entries = es ++ map lockEntry (d .notes) }))
-done-turned x r c out (good d) es h = (h .0, h .1 .1)
-done-turned x r c out (stop k) es h = h
+pub done-turned : (x : Done) (v : World) (y : Answer Did) (es : List Entry) → IsDone x v y → IsTurned x v (y >>= λ d. good (record { world = d .world; entries = es ++ map lockEntry (d .notes) }))
+done-turned x v (good d) es h = (h .0, h .1 .1)
+done-turned x v (stop k) es h = h
 
 -- ---- the bits of the word
 
@@ -40,11 +40,35 @@ pub word-fits : (k : ℕ) → k ≤ maxLines → 2 ^ k ≤ 2 ^ maxLines
 word-fits k h = pow-le-pow-right {n = 2} (omega arith) {i = k} {j = maxLines} h
 
 -- a turn may leave all as it was, and what is left before one turn is no more than may be before a later
-pub same-turn : (k : ℕ) (f : Flags) → BeforeTurn k f → BeforeTurn (k + 1) f
+pub same-turn : (k : ℕ) (f : Progress) → BeforeTurn k f → BeforeTurn (k + 1) f
 same-turn k f h = (omega arith, omega (arith, next-bit k))
 
-pub last-turn : (k : ℕ) (f : Flags) → k ≤ maxLines → BeforeTurn k f → BeforeTurn maxLines f
+pub last-turn : (k : ℕ) (f : Progress) → k ≤ maxLines → BeforeTurn k f → BeforeTurn maxLines f
 last-turn k f l h = (omega arith, omega (arith, word-fits k l))
+
+-- ---- whether a line takes its turn
+
+module _ (s numbers : List ℕ) (cancelled : List Bool) (automatic : Bool) (l : Line) (k : ℕ) (x : World) where
+  abbrev nothing : Answer Turned
+  nothing = good (record { world = x; entries = [] })
+
+  pub turn-cancelled : getD cancelled k false ≡ true → turnOf s numbers cancelled automatic l k x ≡ nothing
+  unfolding turnOf takesTurn
+  turn-cancelled c = simp (turnOf, takesTurn, c)
+
+  module _ (c : getD cancelled k false ≡ false) where
+    pub turn-locked : getD (x .locked) k false ≡ true → turnOf s numbers cancelled automatic l k x ≡ nothing
+    unfolding turnOf takesTurn
+    turn-locked e = simp (turnOf, takesTurn, c, e)
+
+    module _ (e : getD (x .locked) k false ≡ false) where
+      pub turn-not-free : (l .ids || automatic) ≡ false → turnOf s numbers cancelled automatic l k x ≡ nothing
+      unfolding turnOf takesTurn
+      turn-not-free f = simp (turnOf, takesTurn, c, e, f)
+
+      pub turn-taken : (l .ids || automatic) ≡ true → turnOf s numbers cancelled automatic l k x ≡ tryTurn s numbers cancelled automatic l k x
+      unfolding turnOf takesTurn
+      turn-taken f = simp (turnOf, takesTurn, c, e, f)
 
 -- ---- the turn of a line that is tried
 
@@ -69,17 +93,17 @@ abbrev pub passed : Answer Turned → Answer World
 passed (good t) = good (t .world)
 passed (stop k) = stop k
 
-module _ (x : Done) (r c : List ℤ) (out : List ℕ) where
-  pub turned-good : (y : Answer Turned) → IsTurned x r c out y → x .good ≡ true → (es : List Entry) × (y ≡ good (record { world = worldOf r c out (x .flags); entries = es }))
+module _ (x : Done) (v : World) where
+  pub turned-good : (y : Answer Turned) → IsTurned x v y → x .good ≡ true → (es : List Entry) × (y ≡ good (record { world = v; entries = es }))
   turned-good (good t) h e = (t .entries, ap (λ (w : World). good (record { world = w; entries = t .entries })) (sym (h .1)))
   turned-good (stop k) h e = contrary e (h .0)
 
-  pub turned-stop : (y : Answer Turned) → IsTurned x r c out y → x .good ≡ false → y ≡ stop (x .alarm)
+  pub turned-stop : (y : Answer Turned) → IsTurned x v y → x .good ≡ false → y ≡ stop (x .alarm)
   turned-stop (good t) h e = contrary (h .0) e
   turned-stop (stop k) h e = cc
 
   -- what holds what one comes to holds what the other comes to
-  pub all-pass : (y z : Answer Turned) → passed y ≡ passed z → IsTurned x r c out y → IsTurned x r c out z
+  pub all-pass : (y z : Answer Turned) → passed y ≡ passed z → IsTurned x v y → IsTurned x v z
   all-pass (good t) (good u) q h = (h .0, h .1 ∙ (cc))
   all-pass (good t) (stop k) q h = clash (cc)
   all-pass (stop k) (good u) q h = clash (cc)

@@ -1,6 +1,6 @@
 -- What an answer of the code to a write says of the definition's: where it is good the definition gives what is held, else it stops with that alarm. One pair of laws for each answer.
 use mathlib.Core.Path.{_≡_, sym, ap}
-use mathlib.Core.Bool.{true, false}
+use mathlib.Core.Bool.{Bool, true, false}
 use mathlib.Core.List.{List}
 use Prim.Native.Nat.{ℕ}
 use lib.IntN.{ℤ}
@@ -22,16 +22,16 @@ module _ (x : Worked) (r c : List ℤ) where
   changed-stop (good a) h e = clash (cc)
   changed-stop (stop k) h e = cc
 
-module _ (x : Wrote) (r c : List ℤ) where
-  pub written-good : (y : Answer Vars) → IsWritten x r c y → x .good ≡ true → y ≡ good (varsOf r c (x .runs))
+module _ (x : Wrote) (u : Vars) where
+  pub written-good : (y : Answer Vars) → IsWritten x u y → x .good ≡ true → y ≡ good u
   written-good (good a) h e = ap good (sym (h .1))
   written-good (stop k) h e = contrary e (h .0)
 
-  pub written-stop : (y : Answer Vars) → IsWritten x r c y → x .good ≡ false → y ≡ stop (x .alarm)
+  pub written-stop : (y : Answer Vars) → IsWritten x u y → x .good ≡ false → y ≡ stop (x .alarm)
   written-stop (good a) h e = contrary (h .0) e
   written-stop (stop k) h e = cc
 
 -- what a cell's write gave is written, and changes nothing of R
-pub celled-written : (x : Wrote) (r c : List ℤ) (y : Answer Celled) → IsCelled x c y → IsWritten x r c (y >>= λ a. good (record { r = r; cells = a .cells; runs = a .runs }))
-celled-written x r c (good a) h = (h .0, rw (h .1 .0, h .1 .1))
-celled-written x r c (stop k) h = h
+pub celled-written : (x : Wrote) (r c : List ℤ) (runs : List Bool) (y : Answer Celled) → IsCelled x c runs y → IsWritten x (varsOf r c runs) (y >>= λ a. good (record { r = r; cells = a .cells; runs = a .runs }))
+celled-written x r c runs (good a) h = (h .0, rw (h .1 .0, h .1 .1))
+celled-written x r c runs (stop k) h = h

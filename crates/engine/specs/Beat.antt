@@ -14,7 +14,7 @@ use Rattle.engine.specs.Set.{soundLines}
 use Rattle.engine.specs.Order.{orderSize, maxOrders}
 use Rattle.working.specs.Variables.{inputCount, numberCount}
 use Rattle.engine.specs.Cells.{beatCells}
-use Rattle.engine.specs.Sound.{isSound, allRanged}
+use Rattle.engine.specs.Sound.{isSound, stateSound, allRanged}
 use Rattle.engine.specs.Action.{World}
 use Rattle.engine.specs.Turn.{beatIn, Turned, turnsFrom}
 
@@ -58,21 +58,29 @@ beatEnded st x = record {
 abbrev pub allTurns : List ℕ → Lines → State → Given → Answer Turned
 allTurns s ls st g = turnsFrom s (ls .numbers) (st .cancelled) (g .automatic) (ls .items) (ls .count) 0 (beatBegun st g)
 
--- the beat: what it came to and what is written down of it, or the code of a refusal or an alarm
-unfoldable pub wholeBeat : List ℕ → State → Given → Answer Turned
-wholeBeat s st g =
-    elim (isSound s st) [
+-- a beat over these lines, where `sound` says whether they and the state are: what it came to and what is written down of it, or the code of a refusal or an alarm
+abbrev pub beatWhere : Bool → List ℕ → Lines → State → Given → Answer Turned
+beatWhere sound s ls st g =
+    elim sound [
       | true ↦
           elim (ltb (length (g .buffer)) bufferSize) [
             | true ↦ stop shortBuffer
             | false ↦
                 elim (areInputs (g .lent)) [
-                  | true ↦ allTurns s (soundLines s) st g >>= λ t. good (record { world = t .world; entries = beatIn (g .automatic) ∷ t .entries })
+                  | true ↦ allTurns s ls st g >>= λ t. good (record { world = t .world; entries = beatIn (g .automatic) ∷ t .entries })
                   | false ↦ stop wrongNumbers
                 ]
           ]
       | false ↦ stop unsound
     ]
+
+-- a beat over lines that were read before
+unfoldable pub beatOver : List ℕ → Lines → State → Given → Answer Turned
+beatOver s ls st g = beatWhere (ls .sound && stateSound (ls .count) st) s ls st g
+
+-- the beat: that over the set's own lines
+unfoldable pub wholeBeat : List ℕ → State → Given → Answer Turned
+wholeBeat s st g = beatWhere (isSound s st) s (soundLines s) st g
 
 -- what the call answers
 abbrev pub turnedAnswer : State → Answer Turned → Beaten

@@ -1,10 +1,12 @@
 -- In the order in which they are read. Files ending in Answers say how the code holds what a definition gives, files ending in Laws what follows from them.
--- Set and state: Set, State, Sound. The host's calls: NamedLine, Calls. Orders and writes: Order, Drive, Write.
--- Actions: Action, Actions. Turns: Keyword, Turn. The beat: Timers, Cells, Beat.
+-- Set and state: Set, ReadLines, State, Sound. The host's calls: NamedLine, Calls. Orders and writes: Order, Drive, Write.
+-- Actions: Action, Actions. Turns: Keyword, Turn. The beat: Timers, Cells, Beat, Held.
 pub mod Set
 pub mod TableLaws
 pub mod SetCountLaws
 pub mod SetLinesLaws
+pub mod ReadLines
+pub mod ReadLinesLaws
 pub mod State
 pub mod Sound
 pub mod NamedLine
@@ -25,4 +27,5 @@ pub mod TurnAnswers
 pub mod Timers
 pub mod Cells
 pub mod Beat
+pub mod Held
 pub mod InputLaws

@@ -16,10 +16,10 @@ abbrev pub IsChanged : Worked → List ℤ → List ℤ → Answer Changed → T
 IsChanged x r c (good a) = (x ≡ Value (a .value)) × ((r ≡ a .r) × (c ≡ a .cells))
 IsChanged x r c (stop k) = x ≡ Alarm k
 
-abbrev pub IsCelled : Wrote → List ℤ → Answer Celled → Type 0
-IsCelled x c (good a) = (x .good ≡ true) × ((c ≡ a .cells) × (x .runs ≡ a .runs))
-IsCelled x c (stop k) = (x .good ≡ false) × (x .alarm ≡ k)
+abbrev pub IsCelled : Wrote → List ℤ → List Bool → Answer Celled → Type 0
+IsCelled x c runs (good a) = (x .good ≡ true) × ((c ≡ a .cells) × (runs ≡ a .runs))
+IsCelled x c runs (stop k) = (x .good ≡ false) × (x .alarm ≡ k)
 
-abbrev pub IsWritten : Wrote → List ℤ → List ℤ → Answer Vars → Type 0
-IsWritten x r c (good v) = (x .good ≡ true) × (varsOf r c (x .runs) ≡ v)
-IsWritten x r c (stop k) = (x .good ≡ false) × (x .alarm ≡ k)
+abbrev pub IsWritten : Wrote → Vars → Answer Vars → Type 0
+IsWritten x u (good v) = (x .good ≡ true) × (u ≡ v)
+IsWritten x u (stop k) = (x .good ≡ false) × (x .alarm ≡ k)

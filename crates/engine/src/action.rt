@@ -1,14 +1,16 @@
 // One action of a line: an assignment, POS, FA, MOV, M, SETAL, LOCK or UNLOCK, each by its own rule.
 //
-// R, the cells of the beat and the orders so far are lent and written in place; a beat that ends in an alarm throws them away.
+// The variables of the beat, the locks and the orders so far are lent and written in place; a beat that ends in an alarm takes them back.
 ghost use mathlib.Core.Path.{_≡_};
-ghost use mathlib.Core.Bool.{true, false};
+ghost use mathlib.Core.Bool.{Bool, true, false};
 ghost use Prim.Native.Nat.{ℕ, _+_, _<_};
 ghost use mathlib.Core.List.{List};
-ghost use lib.IntN.{ℤ, pos};
+ghost use lib.IntN.{pos};
 ghost use Rattle.working.specs.Working.{rightValue};
 ghost use Rattle.engine.specs.Action.{fromValueOrAlarm, alarmOf, did, ordered, takenAt, assignmentOf, driveOf, lockOf, commandOf, actionOf};
 ghost use Rattle.engine.specs.Order.{maxOrders};
+ghost use Rattle.engine.specs.ReadLines.{linesIn};
+ghost use Rattle.engine.specs.Write.{Vars};
 ghost use Rattle.engine.specs.WriteAnswers.{varsOf};
 ghost use Rattle.engine.specs.ActionAnswers.{worldOf, IsWorked, IsTaken, IsDone, Within};
 ghost use Rattle.tokens.specs.Token.{setSize};
@@ -18,7 +20,8 @@ use crate::order::ORDER_BYTES;
 use crate::order::ORDERS;
 use crate::order::Order;
 use crate::order::put;
-use crate::set::rank_in;
+use crate::read::READ;
+use crate::read::rank_of;
 use crate::write::take_oldest;
 use crate::write::write;
 use checking::is_removal;
@@ -42,12 +45,8 @@ use working::variables::CELLS;
 use working::variables::RS;
 use working::variables::TIMERS;
 
-// What a beat under way holds beside R, the cells and the orders: which timers run, which lines are locked, their memory, the word of those that acted, and
-// the count of orders.
-pub struct Flags {
-    pub runs: [bool; TIMERS],
-    pub locked: [bool; LINES],
-    pub memory: [bool; LINES],
+// What a beat under way holds beside the arrays that are lent: the word of the lines that acted, and the count of orders.
+pub struct Progress {
     pub acted: u64,
     pub count: usize,
 }
@@ -60,12 +59,12 @@ pub struct RightSide {
     pub next: usize,
 }
 
-// What actions did: the flags and the place behind them, or an alarm.
+// What actions did: the progress and the place behind them, or an alarm.
 pub struct Done {
     pub good: bool,
     pub alarm: u8,
     pub next: usize,
-    pub flags: Flags,
+    pub progress: Progress,
 }
 
 // ---- right sides
@@ -112,15 +111,9 @@ fn work(set: &[u32; SIZE], r: &[i32; RS], cells: &[i32; CELLS], p: usize) -> Rig
 }
 
 // The right side of an assignment at place p: FIFO [0] as the whole right side removes the oldest.
-fn take(
-    set: &[u32; SIZE],
-    r: &mut [i32; RS],
-    cells: &mut [i32; CELLS],
-    runs: [bool; TIMERS],
-    p: usize,
-) -> RightSide
+fn take(set: &[u32; SIZE], r: &mut [i32; RS], cells: &mut [i32; CELLS], p: usize) -> RightSide
     requires { ⌜ p < setSize + 5 ⌝ }
-    ensures { λ x. ⌜ IsTaken x (now (r .exit)) (now (cells .exit)) runs (takenAt (now (set .entry)) (varsOf (now (r .entry)) (now (cells .entry)) runs) p) ⌝ }
+    ensures { λ x. ⌜ ((runs : List Bool) → IsTaken x (varsOf (now (r .exit)) (now (cells .exit)) runs) (takenAt (now (set .entry)) (varsOf (now (r .entry)) (now (cells .entry)) runs) p)) ⌝ }
 {
     if !is_removal(set, p) {
         return work(set, r, cells, p);
@@ -138,25 +131,25 @@ fn take(
 
 // ---- actions
 
-pub fn did_all(next: usize, flags: Flags) -> Done
-    ensures { λ x. ⌜ x ≡ record { good = true; alarm = 0; next = next; flags = flags } ⌝ }
+pub fn did_all(next: usize, progress: Progress) -> Done
+    ensures { λ x. ⌜ x ≡ record { good = true; alarm = 0; next = next; progress = progress } ⌝ }
 {
     Done {
         good: true,
         alarm: 0,
         next: next,
-        flags: flags,
+        progress: progress,
     }
 }
 
-pub fn not_done(alarm: u8, flags: Flags) -> Done
-    ensures { λ x. ⌜ x ≡ record { good = false; alarm = alarm; next = 0; flags = flags } ⌝ }
+pub fn not_done(alarm: u8, progress: Progress) -> Done
+    ensures { λ x. ⌜ x ≡ record { good = false; alarm = alarm; next = 0; progress = progress } ⌝ }
 {
     Done {
         good: false,
         alarm: alarm,
         next: 0,
-        flags: flags,
+        progress: progress,
     }
 }
 
@@ -165,39 +158,36 @@ fn assign(
     set: &[u32; SIZE],
     r: &mut [i32; RS],
     cells: &mut [i32; CELLS],
-    flags: Flags,
+    runs: &mut [bool; TIMERS],
+    progress: Progress,
     w: u32,
     p: usize,
 ) -> Done
     requires { ⌜ p < setSize ⌝ }
-    ensures { λ x. ⌜ ((out : List ℕ) → IsDone x (now (r .exit)) (now (cells .exit)) out (assignmentOf (now (set .entry)) (worldOf (now (r .entry)) (now (cells .entry)) out flags) w p)) × Within 0 x flags ⌝ }
+    ensures { λ x. ⌜ ((locked memory : List Bool) (out : List ℕ) → IsDone x (worldOf (varsOf (now (r .exit)) (now (cells .exit)) (now (runs .exit))) locked memory out (x .progress)) (assignmentOf (now (set .entry)) (worldOf (varsOf (now (r .entry)) (now (cells .entry)) (now (runs .entry))) locked memory out progress) w p)) × Within 0 x progress ⌝ }
 {
-    let runs = flags.runs;
-    let t = take(set, r, cells, runs, p + 5);
+    let t = take(set, r, cells, p + 5);
     let good = t.good;
     if !good {
-        return not_done(t.alarm, flags);
+        return not_done(t.alarm, progress);
     }
     let x = write(r, cells, runs, w, index_at(set, w, p), t.value);
     let written = x.good;
     if !written {
-        return not_done(x.alarm, flags);
+        return not_done(x.alarm, progress);
     }
-    let mut next = flags;
-    let now_runs = x.runs;
-    next.runs = now_runs;
-    did_all(t.next, next)
+    did_all(t.next, progress)
 }
 
 // An order goes behind those of the beat so far.
-fn add_order(out: &mut [u8; ORDERS], flags: Flags, o: Order, next: usize) -> Done
-    requires { ⌜ flags .count < maxOrders ⌝ }
-    ensures { λ x. ⌜ ((r c : List ℤ) → IsDone x r c (now (out .exit)) (did next (ordered (worldOf r c (now (out .entry)) flags) o))) × Within 1 x flags ⌝ }
+fn add_order(out: &mut [u8; ORDERS], progress: Progress, o: Order, next: usize) -> Done
+    requires { ⌜ progress .count < maxOrders ⌝ }
+    ensures { λ x. ⌜ ((vars : Vars) (locked memory : List Bool) → IsDone x (worldOf vars locked memory (now (out .exit)) (x .progress)) (did next (ordered (worldOf vars locked memory (now (out .entry)) progress) o))) × Within 1 x progress ⌝ }
 {
-    let at = flags.count * ORDER_BYTES;
+    let at = progress.count * ORDER_BYTES;
     put(out, at, o);
-    let mut f = flags;
-    f.count = flags.count + 1;
+    let mut f = progress;
+    f.count = progress.count + 1;
     did_all(next, f)
 }
 
@@ -207,66 +197,73 @@ fn drive(
     r: &[i32; RS],
     cells: &[i32; CELLS],
     out: &mut [u8; ORDERS],
-    flags: Flags,
+    progress: Progress,
     number: u8,
     w: u32,
     p: usize,
 ) -> Done
-    requires { ⌜ (p < setSize) × (flags .count < maxOrders) ⌝ }
-    ensures { λ x. ⌜ IsDone x (now (r .entry)) (now (cells .entry)) (now (out .exit)) (driveOf (now (set .entry)) number (worldOf (now (r .entry)) (now (cells .entry)) (now (out .entry)) flags) w p) × Within 1 x flags ⌝ }
+    requires { ⌜ (p < setSize) × (progress .count < maxOrders) ⌝ }
+    ensures { λ x. ⌜ ((runs locked memory : List Bool) → IsDone x (worldOf (varsOf (now (r .entry)) (now (cells .entry)) runs) locked memory (now (out .exit)) (x .progress)) (driveOf (now (set .entry)) number (worldOf (varsOf (now (r .entry)) (now (cells .entry)) runs) locked memory (now (out .entry)) progress) w p)) × Within 1 x progress ⌝ }
 {
     if !is_axis(token_at(set, p + 2)) {
-        return not_done(UNSOUND, flags);
+        return not_done(UNSOUND, progress);
     }
     let axis = index_at(set, w, p);
     let t = work(set, r, cells, p + 5);
     let good = t.good;
     if !good {
-        return not_done(t.alarm, flags);
+        return not_done(t.alarm, progress);
     }
     let d = drive_order(number, w, axis as u8, t.value);
     let ordered = d.good;
     if !ordered {
-        return not_done(d.alarm, flags);
+        return not_done(d.alarm, progress);
     }
     let o = d.order;
-    add_order(out, flags, o, t.next)
+    add_order(out, progress, o, t.next)
 }
 
 // LOCK and UNLOCK take effect at once; naming a cancelled line, they do nothing.
-fn set_lock(cancelled: &[bool; LINES], flags: Flags, on: bool, k: usize, next: usize) -> Done
-    ensures { λ x. ⌜ ((r c : List ℤ) (out : List ℕ) → IsDone x r c out (lockOf (now (cancelled .entry)) (worldOf r c out flags) on k next)) × Within 0 x flags ⌝ }
+fn set_lock(
+    cancelled: &[bool; LINES],
+    locked: &mut [bool; LINES],
+    progress: Progress,
+    on: bool,
+    k: usize,
+    next: usize,
+) -> Done
+    ensures { λ x. ⌜ ((vars : Vars) (memory : List Bool) (out : List ℕ) → IsDone x (worldOf vars (now (locked .exit)) memory out (x .progress)) (lockOf (now (cancelled .entry)) (worldOf vars (now (locked .entry)) memory out progress) on k next)) × Within 0 x progress ⌝ }
 {
     if LINES <= k {
-        return not_done(UNSOUND, flags);
+        return not_done(UNSOUND, progress);
     }
     if cancelled[k] {
-        return did_all(next, flags);
+        return did_all(next, progress);
     }
-    let mut f = flags;
-    f.locked[k] = on;
-    did_all(next, f)
+    locked[k] = on;
+    did_all(next, progress)
 }
 
 // M= and a number; SETAL, LOCK, UNLOCK and a number in brackets; no other word is a command.
 fn command(
     set: &[u32; SIZE],
-    numbers: &[u8; LINES],
+    lines: &[usize; READ],
     cancelled: &[bool; LINES],
+    locked: &mut [bool; LINES],
     out: &mut [u8; ORDERS],
-    flags: Flags,
+    progress: Progress,
     number: u8,
     w: u32,
     p: usize,
 ) -> Done
-    requires { ⌜ (p < setSize) × (flags .count < maxOrders) ⌝ }
-    ensures { λ x. ⌜ ((r c : List ℤ) → IsDone x r c (now (out .exit)) (commandOf (now (set .entry)) (now (numbers .entry)) (now (cancelled .entry)) number (worldOf r c (now (out .entry)) flags) w p)) × Within 1 x flags ⌝ }
+    requires { ⌜ (p < setSize) × (progress .count < maxOrders) ⌝ }
+    ensures { λ x. ⌜ ((vars : Vars) (memory : List Bool) → IsDone x (worldOf vars (now (locked .exit)) memory (now (out .exit)) (x .progress)) (commandOf (now (set .entry)) (linesIn (now (lines .entry)) .numbers) (now (cancelled .entry)) number (worldOf vars (now (locked .entry)) memory (now (out .entry)) progress) w p)) × Within 1 x progress ⌝ }
 {
     let n = whole_of(token_at(set, p + 2));
     if w == M {
         return add_order(
             out,
-            flags,
+            progress,
             Order {
                 kind: Kind::M,
                 line: number,
@@ -279,7 +276,7 @@ fn command(
     if w == SETAL {
         return add_order(
             out,
-            flags,
+            progress,
             Order {
                 kind: Kind::Setal,
                 line: number,
@@ -290,35 +287,44 @@ fn command(
         );
     }
     if !is_call(w) {
-        return not_done(UNSOUND, flags);
+        return not_done(UNSOUND, progress);
     }
-    set_lock(cancelled, flags, w == LOCK, rank_in(numbers, n), p + 4)
+    set_lock(
+        cancelled,
+        locked,
+        progress,
+        w == LOCK,
+        rank_of(lines, n),
+        p + 4,
+    )
 }
 
 // The action at place p, of the line with that number.
 pub fn action(
     set: &[u32; SIZE],
-    numbers: &[u8; LINES],
+    lines: &[usize; READ],
     cancelled: &[bool; LINES],
     r: &mut [i32; RS],
     cells: &mut [i32; CELLS],
+    runs: &mut [bool; TIMERS],
+    locked: &mut [bool; LINES],
     out: &mut [u8; ORDERS],
-    flags: Flags,
+    progress: Progress,
     number: u8,
     p: usize,
 ) -> Done
-    requires { ⌜ flags .count < maxOrders ⌝ }
-    ensures { λ x. ⌜ IsDone x (now (r .exit)) (now (cells .exit)) (now (out .exit)) (actionOf (now (set .entry)) (now (numbers .entry)) (now (cancelled .entry)) number (worldOf (now (r .entry)) (now (cells .entry)) (now (out .entry)) flags) p) × Within 1 x flags ⌝ }
+    requires { ⌜ progress .count < maxOrders ⌝ }
+    ensures { λ x. ⌜ ((memory : List Bool) → IsDone x (worldOf (varsOf (now (r .exit)) (now (cells .exit)) (now (runs .exit))) (now (locked .exit)) memory (now (out .exit)) (x .progress)) (actionOf (now (set .entry)) (linesIn (now (lines .entry)) .numbers) (now (cancelled .entry)) number (worldOf (varsOf (now (r .entry)) (now (cells .entry)) (now (runs .entry))) (now (locked .entry)) memory (now (out .entry)) progress) p)) × Within 1 x progress ⌝ }
 {
     let w = token_at(set, p);
     if w == END {
-        return not_done(UNSOUND, flags);
+        return not_done(UNSOUND, progress);
     }
     if is_variable(w) {
-        return assign(set, r, cells, flags, w, p);
+        return assign(set, r, cells, runs, progress, w, p);
     }
     if is_drive(w) {
-        return drive(set, r, cells, out, flags, number, w, p);
+        return drive(set, r, cells, out, progress, number, w, p);
     }
-    command(set, numbers, cancelled, out, flags, number, w, p)
+    command(set, lines, cancelled, locked, out, progress, number, w, p)
 }

@@ -7,7 +7,7 @@ ghost use mathlib.Core.Bool.{cond};
 ghost use lib.Dec.{eqb};
 ghost use lib.IntN.{pos};
 ghost use Rattle.values.specs.Value.{unit};
-ghost use Rattle.working.specs.Variables.{bitCount, numberCount, inputCount};
+ghost use Rattle.working.specs.Variables.{bitCount, numberCount, inputCount, cellCount};
 ghost use Rattle.engine.specs.Cells.{inputCells, beatCells};
 use crate::timers::grow_timers;
 use values::arithmetic::UNIT;
@@ -51,22 +51,22 @@ fn put_inputs(cells: &mut [i32], word: u16)
     }
 }
 
-// The cells of a beat: inputs, the 14 numbers, the state's cells with the timers grown.
-pub fn beat_cells(
-    word: u16,
-    lent: &[i32],
-    runs: [bool; TIMERS],
-    state_cells: [i32; STATE_CELLS],
-) -> [i32; CELLS]
-    requires { ⌜ length (now lent) ≡ numberCount ⌝ }
-    ensures { λ x. ⌜ x ≡ beatCells word (now (lent .entry)) runs «state_cells» ⌝ }
+// The cells of a beat, in place: inputs, the 14 numbers, the state's cells with the timers grown.
+pub fn begin_cells(cells: &mut [i32], runs: &[bool; TIMERS], word: u16, lent: &[i32])
+    requires { ⌜ (length (now cells) ≡ cellCount) × (length (now lent) ≡ numberCount) ⌝ }
+    ensures { λ x. ⌜ now (cells .exit) ≡ beatCells word (now (lent .entry)) (now (runs .entry)) (drop inputCount (now (cells .entry))) ⌝ }
 {
-    let mut grown_cells = state_cells;
-    grow_timers(&mut grown_cells, &runs);
+    grow_timers(&mut cells[INPUTS..CELLS], runs);
+    put_inputs(cells, word);
+    copy_at(cells, BITS, lent);
+}
+
+// The cells of a state, behind input cells that are 0.
+pub fn spread_cells(from: &[i32; STATE_CELLS]) -> [i32; CELLS]
+    ensures { λ x. ⌜ drop inputCount x ≡ now (from .entry) ⌝ }
+{
     let mut cells = [0i32; CELLS];
-    put_inputs(&mut cells, word);
-    copy_at(&mut cells, BITS, lent);
-    copy_at(&mut cells, INPUTS, &grown_cells);
+    copy_at(&mut cells, INPUTS, from);
     cells
 }
 

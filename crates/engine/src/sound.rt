@@ -1,9 +1,11 @@
 // Sound: what document 01 asks of a set and a state, tested at every call.
 ghost use mathlib.Core.Path.{_≡_};
+ghost use mathlib.Core.Bool.{Bool};
+ghost use mathlib.Core.List.{List};
 ghost use Prim.Native.Nat.{_<_};
-ghost use lib.ListN.{drop};
+ghost use lib.ListN.{length, drop};
 ghost use Rattle.engine.specs.Sound.{allRanged, isOutput, isCell, areCells, allZero, isFifoSound, areFifos, isFlag, areFlags, stateSound, isSound};
-ghost use Rattle.working.specs.Variables.{fifos};
+ghost use Rattle.working.specs.Variables.{fifos, stateCells};
 ghost use Rattle.tokens.specs.Token.{maxLines};
 use crate::set::sound_lines;
 use crate::state::State;
@@ -22,7 +24,6 @@ use working::variables::MARKER_AT;
 use working::variables::PARAM_AT;
 use working::variables::RS;
 use working::variables::RUN_AT;
-use working::variables::STATE_CELLS;
 use working::variables::TIMER_AT;
 use working::variables::count_of;
 
@@ -30,14 +31,13 @@ use working::variables::count_of;
 pub fn all_ranged(xs: &[i32]) -> bool
     ensures { λ x. ⌜ x ≡ allRanged (now (xs .entry)) ⌝ }
 {
+    let mut good = true;
     let mut i: usize = 0;
     while i < xs.len() {
-        if !in_range(xs[i]) {
-            return false;
-        }
+        good = good & in_range(xs[i]);
         i += 1;
     }
-    true
+    good
 }
 
 fn is_output(v: i32) -> bool
@@ -74,33 +74,31 @@ fn is_cell(i: usize, v: i32) -> bool
 fn are_cells(cells: &[i32]) -> bool
     ensures { λ x. ⌜ x ≡ areCells (now (cells .entry)) 0 ⌝ }
 {
+    let mut good = true;
     let mut i: usize = 0;
     while i < cells.len() {
-        if !is_cell(i, cells[i]) {
-            return false;
-        }
+        good = good & is_cell(i, cells[i]);
         i += 1;
     }
-    true
+    good
 }
 
 // Whether all from place n on are 0.
 fn all_zero(xs: &[i32], n: usize) -> bool
     ensures { λ x. ⌜ x ≡ allZero (drop n (now (xs .entry))) ⌝ }
 {
+    let mut good = true;
     let mut i = n;
     while i < xs.len() {
-        if !is_equal(xs[i], 0) {
-            return false;
-        }
+        good = good & is_equal(xs[i], 0);
         i += 1;
     }
-    true
+    good
 }
 
 // Whether the unused places of FIFO k, from 0, are 0.
-fn is_fifo_sound(r: &[i32; RS], cells: &[i32; STATE_CELLS], k: usize) -> bool
-    requires { ⌜ k < fifos ⌝ }
+fn is_fifo_sound(r: &[i32; RS], cells: &[i32], k: usize) -> bool
+    requires { ⌜ (k < fifos) × (length (now cells) ≡ stateCells) ⌝ }
     ensures { λ x. ⌜ x ≡ isFifoSound (now (r .entry)) (now (cells .entry)) k ⌝ }
 {
     let start = RUN_AT + PLACES * k;
@@ -110,17 +108,17 @@ fn is_fifo_sound(r: &[i32; RS], cells: &[i32; STATE_CELLS], k: usize) -> bool
     all_zero(&all[start..end], count)
 }
 
-fn are_fifos(r: &[i32; RS], cells: &[i32; STATE_CELLS]) -> bool
+fn are_fifos(r: &[i32; RS], cells: &[i32]) -> bool
+    requires { ⌜ length (now cells) ≡ stateCells ⌝ }
     ensures { λ x. ⌜ x ≡ areFifos (now (r .entry)) (now (cells .entry)) fifos 0 ⌝ }
 {
+    let mut good = true;
     let mut k: usize = 0;
     while k < FIFOS {
-        if !is_fifo_sound(r, cells, k) {
-            return false;
-        }
+        good = good & is_fifo_sound(r, cells, k);
         k += 1;
     }
-    true
+    good
 }
 
 // Whether lock, cancel and memory of rank k go together, in a set of so many lines.
@@ -147,41 +145,55 @@ fn is_flag(count: usize, k: usize, locked: bool, cancelled: bool, memory: bool) 
 
 fn are_flags(
     count: usize,
-    locked: [bool; LINES],
-    cancelled: [bool; LINES],
-    memory: [bool; LINES],
+    locked: &[bool; LINES],
+    cancelled: &[bool; LINES],
+    memory: &[bool; LINES],
 ) -> bool
-    ensures { λ x. ⌜ x ≡ areFlags count locked cancelled memory maxLines 0 ⌝ }
+    ensures { λ x. ⌜ x ≡ areFlags count (now (locked .entry)) (now (cancelled .entry)) (now (memory .entry)) maxLines 0 ⌝ }
 {
+    let mut good = true;
     let mut k: usize = 0;
     while k < LINES {
-        if !is_flag(count, k, locked[k], cancelled[k], memory[k]) {
-            return false;
-        }
+        good = good & is_flag(count, k, locked[k], cancelled[k], memory[k]);
         k += 1;
     }
-    true
+    good
 }
 
-// Whether a state is sound for a set of so many lines.
+// Whether a state is sound for a set of so many lines; it is lent by its arrays, of which all but the running timers are looked at.
+pub fn is_held_sound(
+    count: usize,
+    r: &[i32; RS],
+    cells: &[i32],
+    locked: &[bool; LINES],
+    cancelled: &[bool; LINES],
+    memory: &[bool; LINES],
+) -> bool
+    requires { ⌜ length (now cells) ≡ stateCells ⌝ }
+    ensures { λ x. ⌜ ((runs : List Bool) → x ≡ stateSound count (record { r = now (r .entry); cells = now (cells .entry); runs = runs; locked = now (locked .entry); cancelled = now (cancelled .entry); memory = now (memory .entry) })) ⌝ }
+{
+    if !all_ranged(r) {
+        return false;
+    }
+    if !are_cells(cells) {
+        return false;
+    }
+    if !are_fifos(r, cells) {
+        return false;
+    }
+    are_flags(count, locked, cancelled, memory)
+}
+
+// The same of a state by value.
 pub fn is_state_sound(count: usize, state: State) -> bool
     ensures { λ x. ⌜ x ≡ stateSound count state ⌝ }
 {
     let r = state.r;
-    if !all_ranged(&r) {
-        return false;
-    }
     let cells = state.cells;
-    if !are_cells(&cells) {
-        return false;
-    }
-    if !are_fifos(&r, &cells) {
-        return false;
-    }
     let locked = state.locked;
     let cancelled = state.cancelled;
     let memory = state.memory;
-    are_flags(count, locked, cancelled, memory)
+    is_held_sound(count, &r, &cells, &locked, &cancelled, &memory)
 }
 
 // Whether a set and a state are sound.

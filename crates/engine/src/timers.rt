@@ -1,17 +1,18 @@
 // The timers among the cells of a state.
 ghost use mathlib.Core.Path.{_≡_};
 ghost use Prim.Native.Nat.{_+_};
-ghost use Rattle.working.specs.Variables.{timerCount};
+ghost use lib.ListN.{length};
+ghost use Rattle.working.specs.Variables.{timerCount, stateCells};
 ghost use Rattle.engine.specs.Timers.{grownCells};
 use values::time::Millis;
 use values::time::Timer;
 use values::time::grown;
-use working::variables::STATE_CELLS;
 use working::variables::TIMER_AT;
 use working::variables::TIMERS;
 
 // The running timers grow.
-pub fn grow_timers(cells: &mut [i32; STATE_CELLS], runs: &[bool; TIMERS])
+pub fn grow_timers(cells: &mut [i32], runs: &[bool; TIMERS])
+    requires { ⌜ length (now cells) ≡ stateCells ⌝ }
     ensures { λ x. ⌜ now (cells .exit) ≡ grownCells (now (runs .entry)) (now (cells .entry)) timerCount ⌝ }
 {
     let mut i: usize = 0;

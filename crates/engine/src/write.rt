@@ -1,6 +1,7 @@
 // Writes to variables: a FIFO, a cell, R.
 ghost use mathlib.Core.Path.{_≡_};
-ghost use mathlib.Core.Bool.{true, false};
+ghost use mathlib.Core.Bool.{Bool, true, false};
+ghost use mathlib.Core.List.{List};
 ghost use Prim.Native.Nat.{_+_, _≤_, _<_};
 ghost use lib.ListN.{length};
 ghost use lib.IntN.{pos};
@@ -44,7 +45,6 @@ use working::variables::count_of;
 pub struct Wrote {
     pub good: bool,
     pub alarm: u8,
-    pub runs: [bool; TIMERS],
 }
 
 // A FIFO's part and count: 0 appends, 1 removes, else empties by a written value.
@@ -98,57 +98,54 @@ pub fn take_oldest(r: &mut [i32; RS], cells: &mut [i32; CELLS], w: u32) -> Worke
     change_fifo(r, cells, 1, w, 0)
 }
 
-fn written_so(runs: [bool; TIMERS]) -> Wrote
-    ensures { λ x. ⌜ x ≡ record { good = true; alarm = 0; runs = runs } ⌝ }
+fn written_so() -> Wrote
+    ensures { λ x. ⌜ x ≡ record { good = true; alarm = 0 } ⌝ }
 {
     Wrote {
         good: true,
         alarm: 0,
-        runs: runs,
     }
 }
 
-fn not_written(alarm: u8, runs: [bool; TIMERS]) -> Wrote
-    ensures { λ x. ⌜ x ≡ record { good = false; alarm = alarm; runs = runs } ⌝ }
+fn not_written(alarm: u8) -> Wrote
+    ensures { λ x. ⌜ x ≡ record { good = false; alarm = alarm } ⌝ }
 {
     Wrote {
         good: false,
         alarm: alarm,
-        runs: runs,
     }
 }
 
 // Writing FIFO [0] appends, writing [4] empties.
-fn write_fifo(
-    r: &mut [i32; RS],
-    cells: &mut [i32; CELLS],
-    runs: [bool; TIMERS],
-    w: u32,
-    i: u32,
-    v: i32,
-) -> Wrote
+fn write_fifo(r: &mut [i32; RS], cells: &mut [i32; CELLS], w: u32, i: u32, v: i32) -> Wrote
     requires { ⌜ isFifo w ≡ true ⌝ }
-    ensures { λ x. ⌜ IsWritten x (now (r .exit)) (now (cells .exit)) (writeFifo (varsOf (now (r .entry)) (now (cells .entry)) runs) w i v) ⌝ }
+    ensures { λ x. ⌜ ((runs : List Bool) → IsWritten x (varsOf (now (r .exit)) (now (cells .exit)) runs) (writeFifo (varsOf (now (r .entry)) (now (cells .entry)) runs) w i v)) ⌝ }
 {
     if i == 0 {
         return match change_fifo(r, cells, 0, w, v) {
-            Worked::Value(_) => written_so(runs),
-            Worked::Alarm(a) => not_written(a, runs),
+            Worked::Value(_) => written_so(),
+            Worked::Alarm(a) => not_written(a),
         };
     }
     if i != 4 {
-        return not_written(UNSOUND, runs);
+        return not_written(UNSOUND);
     }
     match change_fifo(r, cells, 2, w, v) {
-        Worked::Value(_) => written_so(runs),
-        Worked::Alarm(a) => not_written(a, runs),
+        Worked::Value(_) => written_so(),
+        Worked::Alarm(a) => not_written(a),
     }
 }
 
 // A timer is written: its cell, and whether it runs.
-fn write_timer(cells: &mut [i32; CELLS], runs: [bool; TIMERS], at: usize, i: usize, v: i32) -> Wrote
+fn write_timer(
+    cells: &mut [i32; CELLS],
+    runs: &mut [bool; TIMERS],
+    at: usize,
+    i: usize,
+    v: i32,
+) -> Wrote
     requires { ⌜ (at < cellCount) × (i < timerCount) ⌝ }
-    ensures { λ x. ⌜ IsCelled x (now (cells .exit)) (good (writeTimer (now (cells .entry)) runs at i v)) ⌝ }
+    ensures { λ x. ⌜ IsCelled x (now (cells .exit)) (now (runs .exit)) (good (writeTimer (now (cells .entry)) (now (runs .entry)) at i v)) ⌝ }
 {
     let before = cells[at];
     let ran = runs[i];
@@ -161,36 +158,35 @@ fn write_timer(cells: &mut [i32; CELLS], runs: [bool; TIMERS], at: usize, i: usi
     );
     let time = t.time.0;
     cells[at] = time;
-    let mut now_runs = runs;
-    now_runs[i] = t.runs;
-    written_so(now_runs)
+    runs[i] = t.runs;
+    written_so()
 }
 
 // Outputs, markers, parameters and timers, each by its own rule.
-fn write_cell(cells: &mut [i32; CELLS], runs: [bool; TIMERS], w: u32, i: u32, v: i32) -> Wrote
+fn write_cell(cells: &mut [i32; CELLS], runs: &mut [bool; TIMERS], w: u32, i: u32, v: i32) -> Wrote
     requires { ⌜ (isInside w i ≡ true) × ((isFifo w ≡ false) × (w ≡ T.R → ⊥)) ⌝ }
-    ensures { λ x. ⌜ IsCelled x (now (cells .exit)) (writeCell (now (cells .entry)) runs w i v) ⌝ }
+    ensures { λ x. ⌜ IsCelled x (now (cells .exit)) (now (runs .exit)) (writeCell (now (cells .entry)) (now (runs .entry)) w i v) ⌝ }
 {
     let at = cell_of(w, i);
     if w == MARKER {
         cells[at] = whole_units(v);
-        return written_so(runs);
+        return written_so();
     }
     if w == PARAM {
         cells[at] = v;
-        return written_so(runs);
+        return written_so();
     }
     if w == OUT {
         return match output(v) {
             Worked::Value(u) => {
                 cells[at] = u;
-                written_so(runs)
+                written_so()
             }
-            Worked::Alarm(a) => not_written(a, runs),
+            Worked::Alarm(a) => not_written(a),
         };
     }
     if w != TIMER {
-        return not_written(UNSOUND, runs);
+        return not_written(UNSOUND);
     }
     write_timer(cells, runs, at, i as usize, v)
 }
@@ -199,23 +195,23 @@ fn write_cell(cells: &mut [i32; CELLS], runs: [bool; TIMERS], w: u32, i: u32, v:
 pub fn write(
     r: &mut [i32; RS],
     cells: &mut [i32; CELLS],
-    runs: [bool; TIMERS],
+    runs: &mut [bool; TIMERS],
     w: u32,
     i: u32,
     v: i32,
 ) -> Wrote
-    ensures { λ x. ⌜ IsWritten x (now (r .exit)) (now (cells .exit)) (writeTo (varsOf (now (r .entry)) (now (cells .entry)) runs) w i v) ⌝ }
+    ensures { λ x. ⌜ IsWritten x (varsOf (now (r .exit)) (now (cells .exit)) (now (runs .exit))) (writeTo (varsOf (now (r .entry)) (now (cells .entry)) (now (runs .entry))) w i v) ⌝ }
 {
     if !is_inside(w, i) {
-        return not_written(UNSOUND, runs);
+        return not_written(UNSOUND);
     }
     if w == R {
         let at = i as usize;
         r[at] = v;
-        return written_so(runs);
+        return written_so();
     }
     if is_fifo(w) {
-        return write_fifo(r, cells, runs, w, i, v);
+        return write_fifo(r, cells, w, i, v);
     }
     write_cell(cells, runs, w, i, v)
 }

@@ -8,7 +8,8 @@ use denote.Ref.{now}
 use Rattle.tokens.specs.Token.{setSize}
 use Rattle.tokens.specs.BetweenLaws.{lies-inside}
 use Rattle.engine.specs.Action.{actionOf}
-use Rattle.engine.proofs.ActionAnswerLaws.{same-flags}
+use Rattle.engine.specs.WriteAnswers.{varsOf}
+use Rattle.engine.proofs.ActionAnswerLaws.{same-progress}
 use Rattle.engine.proofs.action.action.Statement.{statement}
 use Rattle.engine.proofs.action.action.Tie as tie
 
@@ -23,24 +24,25 @@ action-spec =
     (tie.spec
     (λ c κs. search needs)
     (λ c κs. search needs)
-    (λ c. let t = c .before .before in (simp (actionOf, sym (t .token-at .ensures) ∙ c .before .if1 .taken, c .not-done .ensures) (refl, refl), same-flags 1 (c .not-done .ensures)))
+    (λ c. let t = c .before .before in (λ memory. simp (actionOf, sym (t .token-at .ensures) ∙ c .before .if1 .taken, c .not-done .ensures) (refl, refl), same-progress 1 (c .not-done .ensures)))
     (λ c κs. search needs)
-    (λ c κs. place (c .before .before .before .before))
+    (λ c κs. place (c .before .before .before .before .before))
     (λ c.
-    let v = c .before .before .before in
+    let v = c .before .before .before .before in
     let e = v .before .before in
-    (simp (actionOf, sym (e .before .token-at .ensures), ne-eqb _ _ (e .if1 .left), sym (v .before .is-variable .ensures) ∙ v .if2 .taken) (c .assign .ensures .0 (now (e .before .before .before .args .out))), (omega arith, c .assign .ensures .1 .1)))
+    (λ memory. simp (actionOf, sym (e .before .token-at .ensures), ne-eqb _ _ (e .if1 .left), sym (v .before .is-variable .ensures) ∙ v .if2 .taken) (c .assign .ensures .0 (now (e .before .before .before .args .locked)) memory (now (e .before .before .before .args .out))), (omega arith, c .assign .ensures .1 .1)))
     (λ c κs. search needs)
     (λ c κs. (place (c .before .before .before .before .before .before .before), search needs))
     (λ c.
     let d = c .before .before .before .before in
     let v = d .before .before in
     let e = v .before .before in
-    (simp (actionOf, sym (e .before .token-at .ensures), ne-eqb _ _ (e .if1 .left), sym (v .before .is-variable .ensures) ∙ v .if2 .left, sym (d .before .is-drive .ensures) ∙ d .if3 .taken) (c .drive .ensures .0), c .drive .ensures .1))
-    (λ c κs. (place (c .before .before .before .before .before), search needs))
+    let a = e .before .before .before .args in
+    (λ memory. simp (actionOf, sym (e .before .token-at .ensures), ne-eqb _ _ (e .if1 .left), sym (v .before .is-variable .ensures) ∙ v .if2 .left, sym (d .before .is-drive .ensures) ∙ d .if3 .taken) (c .drive .ensures .0 (now (a .runs)) (now (a .locked)) memory), c .drive .ensures .1))
+    (λ c κs. (place (c .before .before .before .before .before .before), search needs))
     (λ c.
-    let d = c .before .before in
+    let d = c .before .before .before in
     let v = d .before .before in
     let e = v .before .before in
     let a = e .before .before .before .args in
-    (simp (actionOf, sym (e .before .token-at .ensures), ne-eqb _ _ (e .if1 .left), sym (v .before .is-variable .ensures) ∙ v .if2 .left, sym (d .before .is-drive .ensures) ∙ d .if3 .left) (c .command .ensures .0 (now (a .r)) (now (a .cells))), c .command .ensures .1)))
+    (λ memory. simp (actionOf, sym (e .before .token-at .ensures), ne-eqb _ _ (e .if1 .left), sym (v .before .is-variable .ensures) ∙ v .if2 .left, sym (d .before .is-drive .ensures) ∙ d .if3 .left) (c .command .ensures .0 (varsOf (now (a .r)) (now (a .cells)) (now (a .runs))) memory), c .command .ensures .1)))

@@ -11,26 +11,37 @@ use Rattle.tokens.specs.Descent.{Answer, good, indexAt}
 use Rattle.engine.specs.Write.{Vars, writeTo}
 use Rattle.engine.specs.Action.{Taken, takenAt, assignmentOf}
 use Rattle.engine.specs.WriteAnswers.{varsOf, IsWritten}
-use Rattle.engine.proofs.ActionAnswerLaws.{taken-good, taken-stop, same-flags}
+use Rattle.engine.proofs.ActionAnswerLaws.{taken-good, taken-stop, same-progress}
 use Rattle.engine.proofs.WriteAnswerLaws.{written-good, written-stop}
 use Rattle.engine.proofs.action.assign.Statement.{statement}
 use Rattle.engine.proofs.action.assign.Tie as tie
 
+abbrev start : tie.After-take → tie.Start
+start c = c .before .before .before
+
+-- the variables behind the right side
+abbrev held : tie.After-take → Vars
+held c = varsOf (c .take .last .1 .0) (c .take .last .1 .1 .0) (now (start c .args .runs))
+
 -- the right side
 abbrev side : tie.After-take → Answer Taken
-side c = let a = c .before .before .before .before .args in takenAt (now (a .set)) (varsOf (now (a .r)) (now (a .cells)) (a .flags .runs)) (a .p + 5)
+side c = let a = start c .args in takenAt (now (a .set)) (varsOf (now (a .r)) (now (a .cells)) (now (a .runs))) (a .p + 5)
 
-taken : (c : tie.Else1) → let t = c .before .take in side (c .before) ≡ good (record { value = t .result .value; vars = varsOf (t .last .1 .0) (t .last .1 .1 .0) (c .before .before .before .before .before .args .flags .runs); next = t .result .next })
-taken c = let t = c .before .take in taken-good (t .result) (t .last .1 .0) (t .last .1 .1 .0) (c .before .before .before .before .before .args .flags .runs) (side (c .before)) (t .ensures) (not-false _ (c .if1 .left))
+taken : (c : tie.Else1) → let t = c .before .take in side (c .before) ≡ good (record { value = t .result .value; vars = held (c .before); next = t .result .next })
+taken c = let t = c .before .take in taken-good (t .result) (held (c .before)) (side (c .before)) (t .ensures (now (start (c .before) .args .runs))) (not-false _ (c .if1 .left))
 
 -- the write
 abbrev wrote : tie.After-write → Answer Vars
 wrote c =
-    let t = c .before .before .before .before .before .before .before in
-    let a = t .before .before .before .before .args in
-    writeTo (varsOf (t .take .last .1 .0) (t .take .last .1 .1 .0) (a .flags .runs)) (a .w) (indexAt (now (a .set)) (a .w) (a .p)) (t .take .result .value)
+    let t = c .before .before .before .before .before .before .before .before in
+    let a = start t .args in
+    writeTo (held t) (a .w) (indexAt (now (a .set)) (a .w) (a .p)) (t .take .result .value)
 
-written : (c : tie.After-write) → IsWritten (c .write .result) (c .write .last .0) (c .write .last .1 .0) (wrote c)
+-- the variables behind it
+abbrev left : tie.After-write → Vars
+left c = varsOf (c .write .last .0) (c .write .last .1 .0) (c .write .last .1 .1 .0)
+
+written : (c : tie.After-write) → IsWritten (c .write .result) (left c) (wrote c)
 written c = rw (c .before .before .index-at .ensures, back w32 (record { sfits = c .before .struct-told .given .1 .1 .0 .1 })) at (c .write .ensures)
 
 pub assign-spec : {M : Type 1} → statement M
@@ -44,16 +55,16 @@ assign-spec =
     (λ c.
     let s = c .before .before in
     let t = s .take in
-    (λ out. simp (assignmentOf, taken-stop (t .result) (t .last .1 .0) (t .last .1 .1 .0) (s .before .before .before .before .args .flags .runs) (side s) (t .ensures) (not-true _ (c .before .if1 .taken)), c .not-done .ensures) (refl, refl), same-flags 0 (c .not-done .ensures)))
+    (λ locked memory out. simp (assignmentOf, taken-stop (t .result) (held s) (side s) (t .ensures (now (start s .args .runs))) (not-true _ (c .before .if1 .taken)), c .not-done .ensures) (refl, refl), same-progress 0 (c .not-done .ensures)))
     (λ c κs. search needs)
     (λ c κs. search needs)
     (λ c κs. search needs)
     (λ c.
     let s = c .before .before in
     let w = s .write in
-    (λ out. simp (assignmentOf, taken (s .before .before .before .before .before .before), written-stop (w .result) (w .last .0) (w .last .1 .0) (wrote s) (written s) (not-true _ (c .before .if2 .taken)), c .not-done2 .ensures) (refl, refl), same-flags 0 (c .not-done2 .ensures)))
+    (λ locked memory out. simp (assignmentOf, taken (s .before .before .before .before .before .before .before), written-stop (w .result) (left s) (wrote s) (written s) (not-true _ (c .before .if2 .taken)), c .not-done2 .ensures) (refl, refl), same-progress 0 (c .not-done2 .ensures)))
     (λ c κs. search needs)
     (λ c.
-    let s = c .before .before .before in
+    let s = c .before .before in
     let w = s .write in
-    (λ out. simp (assignmentOf, taken (s .before .before .before .before .before .before), written-good (w .result) (w .last .0) (w .last .1 .0) (wrote s) (written s) (not-false _ (c .before .before .if2 .left)), c .did-all .ensures) (refl, (refl, refl)), rw (c .did-all .ensures) (omega arith, refl))))
+    (λ locked memory out. simp (assignmentOf, taken (s .before .before .before .before .before .before .before), written-good (w .result) (left s) (wrote s) (written s) (not-false _ (c .before .if2 .left)), c .did-all .ensures) (refl, (refl, refl)), rw (c .did-all .ensures) (omega arith, refl))))

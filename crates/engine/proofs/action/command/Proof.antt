@@ -12,7 +12,7 @@ use mir.Val.{toZ}
 use mir.ValLaws.{toZ-pos}
 use Rattle.tokens.specs.Token.{whole}
 use Rattle.engine.specs.Action.{commandOf}
-use Rattle.engine.proofs.ActionAnswerLaws.{same-flags}
+use Rattle.engine.proofs.ActionAnswerLaws.{same-progress}
 use Rattle.engine.proofs.action.command.Statement.{statement}
 use Rattle.engine.proofs.action.command.Tie as tie
 
@@ -39,23 +39,23 @@ command-spec =
     (λ c κs. search needs)
     (λ c.
     let s = c .before .before in
-    (λ r cs. rw (s .if1 .taken) (rw (value (s .before)) at (c .add-order .ensures .0 r cs)), c .add-order .ensures .1))
+    (λ vars memory. rw (s .if1 .taken) (rw (value (s .before)) at (c .add-order .ensures .0 vars (now (s .before .before .before .before .args .locked)) memory)), c .add-order .ensures .1))
     (λ c. omega (arith, small (c .before .before .before)))
     (λ c. search needs)
     (λ c κs. search needs)
     (λ c.
     let s = c .before .before in
-    (λ r cs. rw (s .if2 .taken) (rw (value (s .before .before)) at (c .add-order2 .ensures .0 r cs)), c .add-order2 .ensures .1))
+    (λ vars memory. rw (s .if2 .taken) (rw (value (s .before .before)) at (c .add-order2 .ensures .0 vars (now (s .before .before .before .before .before .args .locked)) memory)), c .add-order2 .ensures .1))
     (λ c κs. search needs)
     (λ c κs. search needs)
     (λ c.
     let i = c .before .before in
     let s = i .before in
-    (λ r cs. simp (commandOf, ne-eqb _ _ (s .before .if1 .left), ne-eqb _ _ (s .if2 .left), sym (i .is-call .ensures) ∙ not-true _ (c .before .if3 .taken), c .not-done .ensures) (refl, refl), same-flags 1 (c .not-done .ensures)))
+    (λ vars memory. simp (commandOf, ne-eqb _ _ (s .before .if1 .left), ne-eqb _ _ (s .if2 .left), sym (i .is-call .ensures) ∙ not-true _ (c .before .if3 .taken), c .not-done .ensures) (refl, refl), same-progress 1 (c .not-done .ensures)))
     (λ c κs. search needs)
     (λ c. search needs)
     (λ c κs. search needs)
     (λ c.
-    let e = c .before .before in
+    let e = c .before .before .before in
     let s = e .before .before in
-    (λ r cs. simp (commandOf, ne-eqb _ _ (s .before .if1 .left), ne-eqb _ _ (s .if2 .left), sym (e .before .is-call .ensures) ∙ not-false _ (e .if3 .left)) (rw (c .before .rank-in .ensures, number (s .before .before)) at (c .set-lock .ensures .0 r cs (now (s .before .before .before .before .before .args .out)))), (omega arith, c .set-lock .ensures .1 .1))))
+    (λ vars memory. simp (commandOf, ne-eqb _ _ (s .before .if1 .left), ne-eqb _ _ (s .if2 .left), sym (e .before .is-call .ensures) ∙ not-false _ (e .if3 .left)) (rw (c .before .rank-of .ensures, number (s .before .before)) at (c .set-lock .ensures .0 vars memory (now (s .before .before .before .before .before .args .out)))), (omega arith, c .set-lock .ensures .1 .1))))

@@ -16,7 +16,8 @@ use Rattle.working.specs.Working.{rightValue}
 use Rattle.engine.specs.Action.{fromValueOrAlarm, driveOf}
 use Rattle.engine.specs.Drive.{driveOrder}
 use Rattle.engine.specs.DriveAnswers.{IsOrder}
-use Rattle.engine.proofs.ActionAnswerLaws.{worked-good, worked-stop, same-flags}
+use Rattle.engine.specs.WriteAnswers.{varsOf}
+use Rattle.engine.proofs.ActionAnswerLaws.{worked-good, worked-stop, same-progress}
 use Rattle.engine.proofs.DriveAnswerLaws.{axis-byte, order-good, order-stop}
 use Rattle.engine.proofs.action.drive.Statement.{statement}
 use Rattle.engine.proofs.action.drive.Tie as tie
@@ -56,24 +57,24 @@ drive-spec =
     (λ c.
     let i = c .before .before in
     let a = i .before .before .before .args in
-    (simp (driveOf, rw (i .before .token-at .ensures) at (sym (i .is-axis .ensures) ∙ not-true _ (c .before .if1 .taken)), c .not-done .ensures) (refl, refl), same-flags 1 (c .not-done .ensures)))
+    (λ runs locked memory. simp (driveOf, rw (i .before .token-at .ensures) at (sym (i .is-axis .ensures) ∙ not-true _ (c .before .if1 .taken)), c .not-done .ensures) (refl, refl), same-progress 1 (c .not-done .ensures)))
     (λ c κs. search needs)
     (λ c. search needs)
     (λ c κs. search needs)
     (λ c κs. search needs)
     (λ c.
     let w = c .before .before in
-    (simp (driveOf, axis (w .before .before .before), worked-stop (w .work .result) (sum w) (w .work .ensures) (not-true _ (c .before .if2 .taken)), c .not-done2 .ensures) (refl, refl), same-flags 1 (c .not-done2 .ensures)))
+    (λ runs locked memory. simp (driveOf, axis (w .before .before .before), worked-stop (w .work .result) (sum w) (w .work .ensures) (not-true _ (c .before .if2 .taken)), c .not-done2 .ensures) (refl, refl), same-progress 1 (c .not-done2 .ensures)))
     (λ c. omega (arith, byte (c .before .before)))
     (λ c κs. search needs)
     (λ c κs. search needs)
     (λ c.
     let d = c .before .before in
     let e = d .before .before in
-    (simp (driveOf, axis (e .before .before .before .before), worked e, order-stop (d .drive-order .result) (order d) (ordered d) (not-true _ (c .before .if3 .taken)), c .not-done3 .ensures) (refl, refl), same-flags 1 (c .not-done3 .ensures)))
+    (λ runs locked memory. simp (driveOf, axis (e .before .before .before .before), worked e, order-stop (d .drive-order .result) (order d) (ordered d) (not-true _ (c .before .if3 .taken)), c .not-done3 .ensures) (refl, refl), same-progress 1 (c .not-done3 .ensures)))
     (λ c κs. search needs)
     (λ c.
     let d = c .before .before .before .before in
     let e = d .before .before in
     let a = e .before .before .before .before .before .before .before .before .args in
-    (simp (driveOf, axis (e .before .before .before .before), worked e, order-good (d .drive-order .result) (order d) (ordered d) (not-false _ (c .before .before .before .if3 .left))) (c .add-order .ensures .0 (now (a .r)) (now (a .cells))), c .add-order .ensures .1)))
+    (λ runs locked memory. simp (driveOf, axis (e .before .before .before .before), worked e, order-good (d .drive-order .result) (order d) (ordered d) (not-false _ (c .before .before .before .if3 .left))) (c .add-order .ensures .0 (varsOf (now (a .r)) (now (a .cells)) runs) locked memory), c .add-order .ensures .1)))

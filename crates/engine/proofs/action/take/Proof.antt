@@ -13,7 +13,7 @@ use Rattle.tokens.specs.Descent.{Answer}
 use Rattle.working.specs.Working.{rightValue}
 use Rattle.engine.specs.Write.{Changed, changeFifo}
 use Rattle.engine.specs.Action.{fromValueOrAlarm, takenAt}
-use Rattle.engine.specs.WriteAnswers.{IsChanged}
+use Rattle.engine.specs.WriteAnswers.{varsOf, IsChanged}
 use Rattle.engine.proofs.ActionAnswerLaws.{worked-taken}
 use Rattle.engine.proofs.WriteAnswerLaws.{changed-good, changed-stop}
 use Rattle.engine.proofs.ActionLaws.{removal-fifo}
@@ -41,8 +41,8 @@ take-spec =
     (λ c.
     let s = c .before .before .before in
     let a = s .before .before .args in
-    simp (takenAt, sym (s .before .is-removal .ensures) ∙ not-true _ (s .if1 .taken))
-    (worked-taken (c .work .result) (now (a .r)) (now (a .cells)) (a .runs) (fromValueOrAlarm (rightValue (now (a .set)) (now (a .r)) (now (a .cells)) (a .p))) (c .work .ensures)))
+    λ runs. simp (takenAt, sym (s .before .is-removal .ensures) ∙ not-true _ (s .if1 .taken))
+    (worked-taken (c .work .result) (varsOf (now (a .r)) (now (a .cells)) runs) (fromValueOrAlarm (rightValue (now (a .set)) (now (a .r)) (now (a .cells)) (a .p))) (c .work .ensures)))
     (λ c κs. search needs)
     (λ c κs. rw (c .token-at .ensures) (removal-fifo _ _ (removes (c .before .before .before .before))))
     (λ c. search needs)
@@ -51,9 +51,9 @@ take-spec =
     (λ c κs. search needs)
     (λ c.
     let f = c .before .before .before in
-    simp (takenAt, removes (f .before .before .before .before .before), changed-good (f .take-oldest .result) (f .take-oldest .last .0) (f .take-oldest .last .1 .0) (removal f) (changes f) (c .before .v .given .1))
+    λ runs. simp (takenAt, removes (f .before .before .before .before .before), changed-good (f .take-oldest .result) (f .take-oldest .last .0) (f .take-oldest .last .1 .0) (removal f) (changes f) (c .before .v .given .1))
     (refl, (back w32 (record { sfits = c .known-told .given .0 .1 }), (refl, refl))))
     (λ c.
     let f = c .before .before .before .before in
-    simp (takenAt, removes (f .before .before .before .before .before), changed-stop (f .take-oldest .result) (f .take-oldest .last .0) (f .take-oldest .last .1 .0) (removal f) (changes f) (c .before .before .a .given .1), c .not-taken .ensures)
+    λ runs. simp (takenAt, removes (f .before .before .before .before .before), changed-stop (f .take-oldest .result) (f .take-oldest .last .0) (f .take-oldest .last .1 .0) (removal f) (changes f) (c .before .before .a .given .1), c .not-taken .ensures)
     (refl, refl)))

@@ -1,33 +1,27 @@
--- `one_beat::beat` meets its contract: each refusal by the test that led to it; else what the turns came to.
+-- `one_beat::beat` meets its contract: the beat in place over the lines of the set, from the state taken apart.
 use borrow.Author.Needs.{needs}
-use borrow.Author.Tests.{not-true, not-false}
-use mathlib.Core.Path.{_≡_, sym, _∙_}
-use mathlib.Core.Bool.{true, false}
+use mathlib.Core.Path.{_≡_, ap, _∙_}
+use mathlib.Core.List.{List}
+use Prim.Native.Nat.{ℕ}
+use lib.IntN.{ℤ}
+use lib.ListN.{drop}
 use denote.Ref.{now}
-use Rattle.engine.specs.Set.{soundLines}
-use Rattle.engine.specs.Sound.{stateSound}
-use Rattle.engine.specs.Beat.{areInputs, beatAnswer, beatBuffer}
-use Rattle.engine.specs.SetCountLaws.{sound-count}
-use Rattle.engine.specs.InputLaws.{inputs-length}
-use Rattle.engine.proofs.BeatLaws.{lines-unsound, state-unsound, too-short, no-inputs, turns-told, refuses}
+use Rattle.engine.specs.declared.state.State.{State}
+use Rattle.engine.specs.ReadLines.{linesIn}
+use Rattle.engine.specs.ReadLinesLaws.{lines-back}
+use Rattle.engine.specs.Beat.{beatAnswer, beatBuffer}
+use Rattle.working.specs.Variables.{inputCount}
+use Rattle.engine.specs.Held.{Held, heldIn, stateHeld}
+use Rattle.engine.proofs.BeatLaws.{beat-over-lines, put-back}
 use Rattle.engine.proofs.one_beat.beat.Statement.{statement}
 use Rattle.engine.proofs.one_beat.beat.Tie as tie
 
--- what the checks told
-lines-not : (c : tie.Then1) → soundLines (now (c .before .before .before .args .set)) .sound ≡ false
-lines-not c = rw (← c .before .sound-lines .ensures) (not-true _ (c .if1 .taken))
+-- a state whose cells were spread
+abbrev apart : State → List ℤ → List ℕ → Held
+apart st c b = heldIn (st .r) c (st .runs) (st .locked) (st .memory) b
 
-lines-sound : (c : tie.Else1) → soundLines (now (c .before .before .before .args .set)) .sound ≡ true
-lines-sound c = rw (← c .before .sound-lines .ensures) (not-false _ (c .if1 .left))
-
-state-told : (c : tie.After-is-state-sound) → let a = c .before .before .before .before .args in c .is-state-sound .result ≡ stateSound (soundLines (now (a .set)) .count) (a .state)
-state-told c = rw (← c .before .before .sound-lines .ensures) (c .is-state-sound .ensures)
-
-state-sound : (c : tie.Else2) → let a = c .before .before .before .before .before .args in stateSound (soundLines (now (a .set)) .count) (a .state) ≡ true
-state-sound c = sym (state-told (c .before)) ∙ not-false _ (c .if2 .left)
-
-inputs : (c : tie.Else4) → areInputs (now (c .before .before .before .before .before .before .before .before .args .lent)) ≡ true
-inputs c = sym (c .before .are-inputs .ensures) ∙ not-false _ (c .if4 .left)
+same-state : (st : State) (c : List ℤ) (b : List ℕ) → drop inputCount c ≡ st .cells → stateHeld (st .cancelled) (apart st c b) ≡ st
+same-state st c b e = ap (λ (x : List ℤ). record { r = st .r; cells = x; runs = st .runs; locked = st .locked; cancelled = st .cancelled; memory = st .memory }) e
 
 pub beat-spec : {M : Type 1} → statement M
 unfolding beatAnswer beatBuffer
@@ -36,29 +30,16 @@ beat-spec =
     (tie.spec
     (λ c κs. search needs)
     (λ c κs. search needs)
-    (λ c. refuses _ _ _ (c .refused .ensures) (lines-unsound _ _ _ (lines-not (c .before))))
     (λ c κs. search needs)
     (λ c κs. search needs)
-    (λ c.
-    let t = c .before .before in
-    refuses _ _ _ (c .refused2 .ensures) (state-unsound _ _ _ (lines-sound (t .before)) (sym (state-told t) ∙ not-true _ (c .before .if2 .taken))))
-    (λ c κs. search needs)
-    (λ c.
-    let t = c .before .before in
-    refuses _ _ _ (c .refused3 .ensures) (too-short _ _ _ (lines-sound (t .before .before)) (state-sound t) (c .before .if3 .taken)))
-    (λ c κs. search needs)
-    (λ c κs. search needs)
-    (λ c.
-    let i = c .before .before in
-    let t = i .before .before in
-    refuses _ _ _ (c .refused4 .ensures) (no-inputs _ _ _ (lines-sound (t .before .before)) (state-sound t) (i .before .if3 .left) (sym (i .are-inputs .ensures) ∙ not-true _ (c .before .if4 .taken))))
-    (λ c κs.
-    let i = c .before in
-    (rw (i .before .before .before .before .before .before .sound-lines .ensures) (sound-count _), (inputs-length _ (inputs i), i .before .before .if3 .left)))
     (λ c. search needs)
     (λ c.
-    let m = c .before .before in
-    let i = m .before .before in
-    let t = i .before .before .before in
-    let e = rw (t .before .before .before .sound-lines .ensures) at (m .all-turns .ensures) in
-    turns-told _ _ _ (lines-sound (t .before .before)) (state-sound t) (i .before .before .if3 .left) (inputs i) (e .0) (e .1)))
+    let b = c .before .before .before .before in
+    let s = c .before .before .before .before .before .before .before .before .before .before .before .before .before .before .before .before .before .before .before .before .before .before .before .before in
+    let a = s .args in
+    let st = a .state in
+    let p = c .before .before .before .before .before .before .before .before .before .before .before .before .before .before .before .before .before in
+    let e = same-state st (p .spread-cells .result) (now (a .orders)) (p .spread-cells .ensures) in
+    let l = ap linesIn (c .before .before .before .before .before .before .before .before .before .before .before .before .before .before .before .before .before .before .before .before .before .read-lines .ensures) ∙ lines-back (now (a .set)) in
+    put-back st (apart st (p .spread-cells .result) (now (a .orders))) e (beat-over-lines (now (a .set)) st (record { automatic = a .automatic; word = a .inputs; lent = now (a .lent); buffer = now (a .orders) }) l e)
+    (b .beat-held .ensures .0) (b .beat-held .ensures .1) (c .kept-cells .ensures)))

@@ -1,4 +1,4 @@
--- `one_beat::finished` meets its contract: the answer holds the counts of the flags and the state.
+-- `one_beat::finished` meets its contract: the answer holds what the progress says.
 use borrow.Author.Needs.{needs}
 use mathlib.Core.Path.{refl}
 use Rattle.engine.proofs.one_beat.finished.Statement.{statement}

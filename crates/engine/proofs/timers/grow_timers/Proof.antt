@@ -1,11 +1,11 @@
 -- `timers::grow_timers` meets its contract: after i turns the first i timers have grown.
 use borrow.Author.Needs.{needs}
 use native.Mathlib.Omega.{arith}
-use mathlib.Core.Path.{_≡_, ap, _∙_}
+use mathlib.Core.Path.{_≡_, refl, ap, _∙_}
 use mathlib.Core.Bool.{false}
 use Prim.Native.Nat.{_+_, _-_, _≤_}
 use lib.IntN.{ℤ, pos}
-use lib.ListN.{getD}
+use lib.ListN.{length, getD, length-set}
 use mir.Syntax.{w32}
 use Rattle.values.specs.SignedLaws.{back}
 use Rattle.values.specs.Time.{timer, grownTimer}
@@ -16,7 +16,7 @@ use Rattle.engine.proofs.timers.grow_timers.Statement.{statement}
 use Rattle.engine.proofs.timers.grow_timers.Tie as tie
 
 abbrev Inv-loop : tie.InvT-loop
-Inv-loop cells₀ runs i₀ cells i = (cells ≡ grownCells runs cells₀ i) × (i ≤ timerCount)
+Inv-loop cells₀ runs i₀ cells i = (cells ≡ grownCells runs cells₀ i) × (i ≤ timerCount) × (length cells ≡ length cells₀)
 
 abbrev μ-loop : tie.MeasureT-loop
 μ-loop cells₀ runs i₀ cells i = timerCount - i
@@ -30,15 +30,16 @@ grow-timers-spec =
     (tie.spec
     Inv-loop
     μ-loop
-    (λ c. (grown-none _ _, omega arith))
+    (λ c. (grown-none _ _, omega arith, refl))
     (λ c. omega arith)
     (λ c. search needs)
-    (λ c. omega arith)
+    (λ c. omega (arith, c .before .loop .inv .2, c .before .before .pre))
     (λ c. omega arith)
     (λ c κs. search needs)
     (λ c. search needs)
+    (λ c. omega (arith, c .before .before .before .before .before .loop .inv .2, c .before .before .before .before .before .before .pre))
     (λ c. omega arith)
     (λ c. omega arith)
-    (λ c. omega arith)
-    (λ c. (grown-turn _ _ _ _ _ _ (c .before .before .before .before .before .loop .inv .0) (grew (c .before)) (back w32 (record { sfits = c .struct-told .given .0 .1 .1 .0 .1 })), omega arith))
+    (λ c. (grown-turn _ _ _ _ _ _ (c .before .before .before .before .before .loop .inv .0) (grew (c .before)) (back w32 (record { sfits = c .struct-told .given .0 .1 .1 .0 .1 })), omega arith, simp length-set (c .before .before .before .before .before .loop .inv .2)))
+    (λ c. c .before .loop .inv .2)
     (λ c. let e : c .before .loop .i ≡ timerCount = omega arith in rw e at (c .before .loop .inv .0)))

@@ -37,13 +37,13 @@ write-spec =
     let f = c .before .before .before in
     let s = f .before .before .before in
     simp (writeTo, writeInside, holds s, ne-eqb _ _ (f .before .before .if2 .left), sym (f .before .is-fifo .ensures) ∙ f .if3 .taken)
-    (rw (back w32 (s .before .before .fits .v)) at (c .write-fifo .ensures)))
+    (rw (back w32 (s .before .before .fits .v)) at (c .write-fifo .ensures (now (s .before .before .args .runs)))))
     (λ c κs.
-    let f = c .before in
+    let f = c .before .before in
     (holds (f .before .before .before), (sym (f .before .is-fifo .ensures) ∙ f .if3 .left, f .before .before .if2 .left)))
     (λ c.
-    let f = c .before .before in
+    let f = c .before .before .before in
     let s = f .before .before .before in
     let a = s .before .before .args in
     simp (writeTo, writeInside, holds s, ne-eqb _ _ (f .before .before .if2 .left), sym (f .before .is-fifo .ensures) ∙ f .if3 .left)
-    (celled-written (c .write-cell .result) (now (a .r)) (c .write-cell .last .0) (writeCell (now (a .cells)) (a .runs) (a .w) (a .i) (a .v)) (rw (back w32 (s .before .before .fits .v)) at (c .write-cell .ensures)))))
+    (celled-written (c .write-cell .result) (now (a .r)) (c .write-cell .last .0) (c .write-cell .last .1 .0) (writeCell (now (a .cells)) (now (a .runs)) (a .w) (a .i) (a .v)) (rw (back w32 (s .before .before .fits .v)) at (c .write-cell .ensures)))))

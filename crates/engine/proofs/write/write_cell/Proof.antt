@@ -62,8 +62,8 @@ write-cell-spec =
     (λ c.
     let s = c .before .before .before .before in
     simp (writeCell, ne-eqb _ _ (s .if1 .left), ne-eqb _ _ (c .before .before .before .if2 .left), ne-eqb _ _ (c .before .before .if3 .left), ne-eqb _ _ (c .before .if4 .taken), c .not-written2 .ensures) (refl, refl))
-    (λ c κs. let e = c .before in (cell-fits (e .before .before .before .before), timer-fits e))
+    (λ c κs. let e = c .before .before in (cell-fits (e .before .before .before .before), timer-fits e))
     (λ c.
-    let e = c .before .before in
+    let e = c .before .before .before in
     let s = e .before .before .before .before in
     rw (e .if4 .left) (rw (s .cell-of .ensures, back w32 (s .before .fits .v), e .if4 .left) at (c .write-timer .ensures))))

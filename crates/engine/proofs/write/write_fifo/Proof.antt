@@ -37,12 +37,12 @@ write-fifo-spec =
     (λ c κs. search needs)
     (λ c.
     let f = c .before .before .before in
-    simp (writeFifo, eq-eqb _ _ (f .before .before .before .if1 .taken), changed-good (f .change-fifo .result) (f .change-fifo .last .0) (f .change-fifo .last .1 .0) (appends f) (appended f) (c .before .enum-told .given .1), c .written-so .ensures) (refl, refl))
+    λ runs. simp (writeFifo, eq-eqb _ _ (f .before .before .before .if1 .taken), changed-good (f .change-fifo .result) (f .change-fifo .last .0) (f .change-fifo .last .1 .0) (appends f) (appended f) (c .before .enum-told .given .1), c .written-so .ensures) (refl, refl))
     (λ c.
     let f = c .before .before .before .before in
-    simp (writeFifo, eq-eqb _ _ (f .before .before .before .if1 .taken), changed-stop (f .change-fifo .result) (f .change-fifo .last .0) (f .change-fifo .last .1 .0) (appends f) (appended f) (c .before .before .a .given .1), c .not-written .ensures) (refl, refl))
+    λ runs. simp (writeFifo, eq-eqb _ _ (f .before .before .before .if1 .taken), changed-stop (f .change-fifo .result) (f .change-fifo .last .0) (f .change-fifo .last .1 .0) (appends f) (appended f) (c .before .before .a .given .1), c .not-written .ensures) (refl, refl))
     (λ c κs. search needs)
-    (λ c. simp (writeFifo, ne-eqb _ _ (c .before .before .if1 .left), ne-eqb _ _ (c .before .if2 .taken), c .not-written2 .ensures) (refl, refl))
+    (λ c runs. simp (writeFifo, ne-eqb _ _ (c .before .before .if1 .left), ne-eqb _ _ (c .before .if2 .taken), c .not-written2 .ensures) (refl, refl))
     (λ c κs. search needs)
     (λ c. search needs)
     (λ c κs. search needs)
@@ -51,8 +51,8 @@ write-fifo-spec =
     (λ c.
     let f = c .before .before .before in
     let s = f .before .before .before in
-    simp (writeFifo, ne-eqb _ _ (s .before .if1 .left), eq-eqb _ _ (s .if2 .left), changed-good (f .change-fifo2 .result) (f .change-fifo2 .last .0) (f .change-fifo2 .last .1 .0) (empties f) (emptied f) (c .before .enum-told2 .given .1), c .written-so2 .ensures) (refl, refl))
+    λ runs. simp (writeFifo, ne-eqb _ _ (s .before .if1 .left), eq-eqb _ _ (s .if2 .left), changed-good (f .change-fifo2 .result) (f .change-fifo2 .last .0) (f .change-fifo2 .last .1 .0) (empties f) (emptied f) (c .before .enum-told2 .given .1), c .written-so2 .ensures) (refl, refl))
     (λ c.
     let f = c .before .before .before .before in
     let s = f .before .before .before in
-    simp (writeFifo, ne-eqb _ _ (s .before .if1 .left), eq-eqb _ _ (s .if2 .left), changed-stop (f .change-fifo2 .result) (f .change-fifo2 .last .0) (f .change-fifo2 .last .1 .0) (empties f) (emptied f) (c .before .before .a2 .given .1), c .not-written3 .ensures) (refl, refl)))
+    λ runs. simp (writeFifo, ne-eqb _ _ (s .before .if1 .left), eq-eqb _ _ (s .if2 .left), changed-stop (f .change-fifo2 .result) (f .change-fifo2 .last .0) (f .change-fifo2 .last .1 .0) (empties f) (emptied f) (c .before .before .a2 .given .1), c .not-written3 .ensures) (refl, refl)))

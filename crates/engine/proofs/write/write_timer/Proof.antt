@@ -20,6 +20,6 @@ write-timer-spec =
     (λ c κs. search needs)
     (λ c.
     let w = c .before .before in
-    let s = w .before .before in
-    let e = rw (back w32 (record { sfits = w .before .before2 .given }), back w32 (s .fits .v)) at (w .written .ensures) in
+    let s = w .before .before .before in
+    let e = rw (back w32 (record { sfits = w .before .before .before2 .given }), back w32 (s .fits .v)) at (w .written .ensures) in
     rw (c .written-so .ensures, back w32 (record { sfits = c .before .struct-told .given .0 .1 .1 .0 .1 }), e) (refl, (refl, refl))))
