@@ -5,25 +5,20 @@ use mathlib.Core.List.{List, _∷_, _++_}
 use Prim.Native.Nat.{ℕ, _*_, _/_, _<_, _≤_}
 use native.Mathlib.Omega.{arith}
 use borrow.Author.Tests.{lt-ltb, le-ltb}
-use lib.IntN.{ℤ}
 use lib.ListN.{length, take, drop}
 use Rattle.values.specs.Choice.{and-true, chosen, refused}
 use Rattle.values.specs.Codes.{shortBuffer, wrongNumbers, unsound}
 use Rattle.tokens.specs.Descent.{Answer, good, stop, _>>=_}
 use Rattle.engine.specs.declared.action.Progress.{Progress}
 use Rattle.engine.specs.declared.one_beat.BeatCode.{BeatCode}
-use Rattle.engine.specs.declared.one_beat.Beaten.{Beaten}
 use Rattle.engine.specs.declared.set.Lines.{Lines}
 use Rattle.engine.specs.declared.state.State.{State}
-use Rattle.working.specs.Variables.{inputCount}
-use Rattle.engine.specs.Set.{soundLines}
-use Rattle.engine.specs.Sound.{stateSound, isSound}
+use Rattle.engine.specs.Sound.{stateSound}
 use Rattle.engine.specs.Order.{orderSize}
-use Rattle.working.specs.Variables.{inputCount}
 use Rattle.engine.specs.Write.{Vars}
 use Rattle.engine.specs.Turn.{Entry, beatIn, Turned}
-use Rattle.engine.specs.Beat.{bufferSize, areInputs, buffered, Given, beatEnded, allTurns, beatOver, wholeBeat, turnedAnswer}
-use Rattle.engine.specs.Held.{Held, heldIn, stateHeld, turnedCode, heldAfter}
+use Rattle.engine.specs.Beat.{bufferSize, areInputs, Given, allTurns, beatOver}
+use Rattle.engine.specs.Held.{Held, heldIn, turnedCode, heldAfter}
 use Rattle.engine.specs.ActionAnswers.{worldOf}
 
 module _ (s : List ℕ) (ls : Lines) (st : State) (g : Given) where
@@ -87,30 +82,3 @@ pub each-array : {x y : BeatCode} {a b : Held} → (x ≡ y) × (a ≡ b) → (x
 each-array p =
     let e = p .1 in
     (p .0, (ap (λ (h : Held). h .r) e, (ap (λ (h : Held). h .cells) e, (ap (λ (h : Held). h .runs) e, (ap (λ (h : Held). h .locked) e, (ap (λ (h : Held). h .memory) e, ap (λ (h : Held). h .buffer) e))))))
-
--- ---- the beat of a state by value
-
--- the lines that are read from the set
-beat-by-lines : (s : List ℕ) (st : State) (g : Given) → wholeBeat s st g ≡ beatOver s (soundLines s) st g
-unfolding wholeBeat beatOver isSound
-beat-by-lines s st g = refl
-
-pub beat-over-lines : (s : List ℕ) (st : State) (g : Given) {ls : Lines} {x : State} → ls ≡ soundLines s → x ≡ st → beatOver s ls x g ≡ wholeBeat s st g
-beat-over-lines s st g p q = rw (p, q) (sym (beat-by-lines s st g))
-
--- a state that was taken apart is put together
-module _ (st : State) (h : Held) (e : stateHeld (st .cancelled) h ≡ st) where
-  put-together : (y : Answer Turned) → _≡_ {A = Beaten} (record { code = turnedCode y .code; orders = turnedCode y .orders; acted = turnedCode y .acted; state = stateHeld (st .cancelled) (heldAfter h y) }) (turnedAnswer st y)
-  unfolding beatEnded
-  put-together (good t) = refl
-  put-together (stop k) = ap (λ (x : State). record { code = k; orders = 0; acted = 0; state = x }) e
-
-  buffer-left : (y : Answer Turned) → heldAfter h y .buffer ≡ buffered (h .buffer) y
-  buffer-left (good t) = refl
-  buffer-left (stop k) = refl
-
-  -- what the beat in place answered and left, where kept is the state's part of the cells
-  pub put-back : {y z : Answer Turned} → y ≡ z → {x : BeatCode} {k : Held} {kept : List ℤ} → x ≡ turnedCode y → k ≡ heldAfter h y → kept ≡ drop inputCount (k .cells) →
-      (_≡_ {A = Beaten} (record { code = x .code; orders = x .orders; acted = x .acted; state = record { r = k .r; cells = kept; runs = k .runs; locked = k .locked; cancelled = st .cancelled; memory = k .memory } }) (turnedAnswer st z))
-      × (k .buffer ≡ buffered (h .buffer) z)
-  put-back {y} {z} p q r t = rw (t, q, r, p) (put-together z, buffer-left z)

@@ -54,10 +54,10 @@ replaced d g x l e =
     ap (λ (l : List ℤ). drop 30 l) (e ∙ ap (λ (l : List ℤ). take 30 d ++ l) (ap (λ (l : List ℤ). g ++ l) n ∙ append-nil g)) ∙ drop-at (take 30 d) g 30 (length-take-le 30 d (omega arith))
 
 -- 92 cells behind the first 30, copied over cells that are 0
-pub spread : (z s x : List ℤ) → length z ≡ 122 → length s ≡ 92 → x ≡ take 30 z ++ (s ++ drop (30 + length s) z) → drop 30 x ≡ s
+pub spread : (z s x : List ℤ) → length z ≡ 122 → length s ≡ 92 → x ≡ take 30 z ++ (s ++ drop (30 + length s) z) → x ≡ take 30 z ++ s
 spread z s x lz ls e =
     let n : drop (30 + length s) z ≡ [] = drop-of-length-le z {i = 30 + length s} (omega arith) in
-    ap (λ (l : List ℤ). drop 30 l) (e ∙ ap (λ (l : List ℤ). take 30 z ++ l) (ap (λ (l : List ℤ). s ++ l) n ∙ append-nil s)) ∙ drop-at (take 30 z) s 30 (length-take-le 30 z (omega arith))
+    e ∙ ap (λ (l : List ℤ). take 30 z ++ l) (ap (λ (l : List ℤ). s ++ l) n ∙ append-nil s)
 
 -- all behind the first 30 cells, as a part of them
 pub behind-inputs : (d : List ℤ) → take (length d - 30) (drop 30 d) ≡ drop 30 d

@@ -4,8 +4,9 @@ use mathlib.Core.List.{List, [], _∷_, _++_}
 use Prim.Native.Nat.{ℕ, zero, suc, _/_, _%_, _^_}
 use lib.Dec.{eqb}
 use lib.IntN.{ℤ, pos}
+use lib.ListN.{replicate}
 use Rattle.values.specs.Value.{unit}
-use Rattle.working.specs.Variables.{timerCount, bitCount}
+use Rattle.working.specs.Variables.{timerCount, bitCount, inputCount}
 use Rattle.engine.specs.Timers.{grownCells}
 
 -- bit i-1 of the input word is $A_IN[i]
@@ -19,3 +20,7 @@ inputCells word (suc n) = inputCells word n ++ (inputCell word n ∷ [])
 -- the cells of a beat: inputs, the numbers, the state's cells with the timers grown
 unfoldable pub beatCells : ℕ → List ℤ → List Bool → List ℤ → List ℤ
 beatCells word lent runs c = inputCells word bitCount ++ (lent ++ grownCells runs c timerCount)
+
+-- the cells of a state, ready for a beat: behind input cells that are 0
+unfoldable pub spreadCells : List ℤ → List ℤ
+spreadCells c = replicate inputCount (pos 0) ++ c

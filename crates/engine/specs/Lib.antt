@@ -28,4 +28,5 @@ pub mod Timers
 pub mod Cells
 pub mod Beat
 pub mod Held
+pub mod HeldLaws
 pub mod InputLaws

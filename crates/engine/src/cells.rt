@@ -8,7 +8,7 @@ ghost use lib.Dec.{eqb};
 ghost use lib.IntN.{pos};
 ghost use Rattle.values.specs.Value.{unit};
 ghost use Rattle.working.specs.Variables.{bitCount, numberCount, inputCount, cellCount};
-ghost use Rattle.engine.specs.Cells.{inputCells, beatCells};
+ghost use Rattle.engine.specs.Cells.{inputCells, beatCells, spreadCells};
 use crate::timers::grow_timers;
 use values::arithmetic::UNIT;
 use working::variables::BITS;
@@ -63,7 +63,7 @@ pub fn begin_cells(cells: &mut [i32], runs: &[bool; TIMERS], word: u16, lent: &[
 
 // The cells of a state, behind input cells that are 0.
 pub fn spread_cells(from: &[i32; STATE_CELLS]) -> [i32; CELLS]
-    ensures { λ x. ⌜ drop inputCount x ≡ now (from .entry) ⌝ }
+    ensures { λ x. ⌜ x ≡ spreadCells (now (from .entry)) ⌝ }
 {
     let mut cells = [0i32; CELLS];
     copy_at(&mut cells, INPUTS, from);

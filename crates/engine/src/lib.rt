@@ -23,6 +23,8 @@ pub use calls::cancel;
 pub use calls::lock;
 pub use calls::reset;
 pub use calls::unlock;
+pub use cells::kept_cells;
+pub use cells::spread_cells;
 pub use one_beat::BeatCode;
 pub use one_beat::Beaten;
 pub use one_beat::beat;

@@ -4,11 +4,13 @@ use mathlib.Core.Path.{refl}
 use lib.IntN.{pos}
 use lib.ListN.{replicate}
 use denote.Ref.{now}
+use Rattle.engine.specs.Cells.{spreadCells}
 use Rattle.engine.proofs.CellLaws.{spread}
 use Rattle.engine.proofs.cells.spread_cells.Statement.{statement}
 use Rattle.engine.proofs.cells.spread_cells.Tie as tie
 
 pub spread-cells-spec : {M : Type 1} → statement M
+unfolding spreadCells
 spread-cells-spec =
     tie.close
     (tie.spec
