@@ -16,7 +16,6 @@ use Rattle.transcript.specs.declared.intake.Intake.{Intake}
 use Rattle.transcript.specs.declared.intake.Brought.{Brought}
 use Rattle.transcript.specs.declared.intake.Ending.the-variants as E
 use Rattle.transcript.specs.declared.session.Session.{Session}
-use Rattle.transcript.specs.declared.session.Ended.{Ended}
 use Rattle.transcript.specs.declared.beat_line.MaybeLent.{MaybeLent}
 use Rattle.transcript.specs.BeatLine.{Lent}
 use Rattle.transcript.specs.Output.{loadLine, errorLine, outSize, lastStart}
@@ -25,19 +24,19 @@ use Rattle.transcript.specs.Totals.{maxBeats, ended, areFit}
 use Rattle.transcript.specs.TotalsLaws.{FitTotals}
 use Rattle.transcript.specs.Tally.{counted, answerOf, beatText}
 use Rattle.transcript.specs.SetText.{keptSize}
-use Rattle.transcript.specs.Intake.{intakeFits, Arrival, nothing, wholeText, beatLine, Arrived, lineOver, lineKept, inputOver}
+use Rattle.transcript.specs.Intake.{OVER, withPhase, intakeFits, Arrival, nothing, wholeText, beatLine, Arrived, lineOver, lineKept, inputOver}
 use Rattle.transcript.specs.IntakeAnswers.{endingOf, sizeIn, lentBy, broughtBy}
 use Rattle.transcript.specs.IntakeLaws.{FitIntake, line-fit, input-fit, over-line}
 use Rattle.transcript.specs.Machine.{Machine, Fed, withIntake, withTotals, stopped, isFit, standing, opened, beatOf, beatEnd, arrivalWorked, lineEnd}
-use Rattle.transcript.specs.SessionAnswers.{IsFed, machineOf}
+use Rattle.transcript.specs.SessionAnswers.{IsFed, machineOf, sessionOf}
 use Rattle.transcript.specs.MaybeLent.{maybeLent, lentIn, lentOr}
 use Rattle.transcript.specs.SessionRoomLaws.{LiveTotals, Lives, beat-room}
 
 -- what is left to say once it is known what a session came to
-pub fed : {f : Fed} {t s o b exit : List ℕ} {y : Session} {at q : ℕ} → f ≡ record { machine = machineOf t s y; output = o } → IsPut b at o exit q → IsFed f t s b at (record { session = y; end = q }) exit
+pub fed : {f : Fed} {m : Machine} {o b exit : List ℕ} {at q : ℕ} → f ≡ record { machine = m; output = o } → IsPut b at o exit q → IsFed f m b at exit q
 fed e p = rw e (record { machine = refl; output = p })
 
-pub fed-as : {f g : Fed} {t s b exit : List ℕ} {at : ℕ} {y : Ended} → f ≡ g → IsFed g t s b at y exit → IsFed f t s b at y exit
+pub fed-as : {f g : Fed} {m : Machine} {b exit : List ℕ} {at q : ℕ} → f ≡ g → IsFed g m b at exit q → IsFed f m b at exit q
 fed-as e p = rw e p
 
 -- ---- a session
@@ -61,7 +60,7 @@ module _ (t s : List ℕ) (x : Session) (l : Lent) {y : Totals} (e : y ≡ count
   beats-are : x .totals .beats .0 + 1 ≡ y .beats .0
   beats-are = ap (λ (z : Totals). z .beats .0) (sym e)
 
-  pub beat-last : y .beats .0 ≡ maxBeats → {z : Session} → z ≡ stopped (withTotals x y) → beatOf (machineOf t s x) l ≡ record { machine = machineOf t s z; output = beatText s (x .totals) l ++ ended y }
+  pub beat-last : y .beats .0 ≡ maxBeats → {i : Intake} → i ≡ withPhase (x .intake) OVER → beatOf (machineOf t s x) l ≡ record { machine = machineOf t s (sessionOf i y); output = beatText s (x .totals) l ++ ended y }
   unfolding beatOf
   beat-last h k = rw (k, e) (simp (beatOf, eq-eqb (x .totals .beats .0 + 1) maxBeats (beats-are ∙ h)))
 
@@ -83,7 +82,7 @@ module _ (t s : List ℕ) (x : Session) (l : MaybeLent) where
   unfolding beatEnd
   beat-good e = rw (lent-good e)
 
-  pub beat-ill : l .good ≡ false → {z : Session} → z ≡ stopped x → beatEnd (machineOf t s x) (lentOr l) ≡ record { machine = machineOf t s z; output = errorLine (x .totals .lines + 1) }
+  pub beat-ill : l .good ≡ false → {i : Intake} → i ≡ withPhase (x .intake) OVER → beatEnd (machineOf t s x) (lentOr l) ≡ record { machine = machineOf t s (withIntake x i); output = errorLine (x .totals .lines + 1) }
   unfolding beatEnd
   beat-ill e k = rw (lent-ill e, k)
 
@@ -98,7 +97,7 @@ module _ (t s : List ℕ) (x : Session) (u : List ℕ) {l : Loaded} (e : l ≡ l
   unfolding opened
   opens h = rw f (simp (opened, code-is ∙ h))
 
-  pub opens-not : (l .code ≡ 0 → ⊥) → {z : Session} → z ≡ stopped x → opened (machineOf t s x) u ≡ record { machine = machineOf t v z; output = loadLine (l .code) (l .line) }
+  pub opens-not : (l .code ≡ 0 → ⊥) → {i : Intake} → i ≡ withPhase (x .intake) OVER → opened (machineOf t s x) u ≡ record { machine = machineOf t v (withIntake x i); output = loadLine (l .code) (l .line) }
   unfolding opened
   opens-not h k = rw (f, e, k) (go (loadAnswer u .code) refl (λ g. h (sym code-is ∙ g)))
     where
@@ -114,36 +113,47 @@ unfolding lentOr
 lent-back none = refl
 lent-back (some l) = refl
 
-module _ (m : Machine) {b : Brought} (a : Arrived) (e : b ≡ broughtBy a) where
+-- a brought b, with the totals n
+module _ (t s : List ℕ) (n : Totals) {b : Brought} (a : Arrived) (e : b ≡ broughtBy a) where
+  -- the machine behind it
+  abbrev behindEnd : Machine
+  behindEnd = machineOf t s (sessionOf (b .intake) n)
+
+  abbrev cameTo : Fed
+  cameTo = arrivalWorked (machineOf t s (sessionOf (a .intake) n)) (a .arrival)
+
+  came-as : cameTo ≡ arrivalWorked behindEnd (a .arrival)
+  came-as = rw e
+
   ending-is : endingOf (a .arrival) ≡ b .ending
   ending-is = ap (λ (y : Brought). y .ending) (sym e)
 
-  pub brought-nothing : b .ending ≡ E.Nothing → arrivalWorked m (a .arrival) ≡ standing m
+  pub came-nothing : b .ending ≡ E.Nothing → cameTo ≡ standing behindEnd
   unfolding arrivalWorked
-  brought-nothing h = go (a .arrival) (ending-is ∙ h)
+  came-nothing h = came-as ∙ go (a .arrival) (ending-is ∙ h)
     where
-      go : (r : Arrival) → endingOf r ≡ E.Nothing → arrivalWorked m r ≡ standing m
+      go : (r : Arrival) → endingOf r ≡ E.Nothing → arrivalWorked behindEnd r ≡ standing behindEnd
       go nothing g = refl
       go (wholeText n) g = clash (cc)
       go (beatLine o) g = clash (cc)
 
-  pub brought-text : b .ending ≡ E.Text → arrivalWorked m (a .arrival) ≡ opened m (take (b .size) (m .text))
+  pub came-text : b .ending ≡ E.Text → cameTo ≡ opened behindEnd (take (b .size) t)
   unfolding arrivalWorked
-  brought-text h = rw e (go (a .arrival) (ending-is ∙ h))
+  came-text h = came-as ∙ go (a .arrival) (ending-is ∙ h) ∙ ap (λ (y : Brought). opened behindEnd (take (y .size) t)) (sym e)
     where
-      go : (r : Arrival) → endingOf r ≡ E.Text → arrivalWorked m r ≡ opened m (take (sizeIn r) (m .text))
+      go : (r : Arrival) → endingOf r ≡ E.Text → arrivalWorked behindEnd r ≡ opened behindEnd (take (sizeIn r) t)
       go nothing g = clash (cc)
       go (wholeText n) g = refl
       go (beatLine o) g = clash (cc)
 
-  pub brought-beat : b .ending ≡ E.Beat → arrivalWorked m (a .arrival) ≡ beatEnd m (lentOr (b .lent))
+  pub came-beat : b .ending ≡ E.Beat → cameTo ≡ beatEnd behindEnd (lentOr (b .lent))
   unfolding arrivalWorked
-  brought-beat h = rw e (go (a .arrival) (ending-is ∙ h))
+  came-beat h = came-as ∙ go (a .arrival) (ending-is ∙ h) ∙ ap (λ (y : Brought). beatEnd behindEnd (lentOr (y .lent))) (sym e)
     where
-      go : (r : Arrival) → endingOf r ≡ E.Beat → arrivalWorked m r ≡ beatEnd m (lentOr (maybeLent (lentBy r)))
+      go : (r : Arrival) → endingOf r ≡ E.Beat → arrivalWorked behindEnd r ≡ beatEnd behindEnd (lentOr (maybeLent (lentBy r)))
       go nothing g = clash (cc)
       go (wholeText n) g = clash (cc)
-      go (beatLine o) g = ap (beatEnd m) (lent-back o)
+      go (beatLine o) g = ap (beatEnd behindEnd) (lent-back o)
 
 -- the size that is told
 module _ (x : Intake) (f : FitIntake x) {b : Brought} where
@@ -153,23 +163,10 @@ module _ (x : Intake) (f : FitIntake x) {b : Brought} where
   pub input-told : b ≡ broughtBy (inputOver x) → b .size ≤ keptSize
   input-told e = rw e (input-fit x f .1)
 
--- the machine behind a line's end
-module _ (t s : List ℕ) (x : Session) {b : Brought} (e : b ≡ broughtBy (lineOver (x .intake))) {u : List ℕ} (k : u ≡ lineKept (x .intake) t) where
-  abbrev behindLine : Machine
-  behindLine = machineOf u s (withIntake x (b .intake))
-
-  line-as : lineEnd (machineOf t s x) ≡ arrivalWorked behindLine (lineOver (x .intake) .arrival)
-  unfolding lineEnd
-  line-as = rw (e, k)
-
-  pub line-nothing : b .ending ≡ E.Nothing → lineEnd (machineOf t s x) ≡ standing behindLine
-  line-nothing h = line-as ∙ brought-nothing behindLine (lineOver (x .intake)) e h
-
-  pub line-text : b .ending ≡ E.Text → lineEnd (machineOf t s x) ≡ opened behindLine (take (b .size) u)
-  line-text h = line-as ∙ brought-text behindLine (lineOver (x .intake)) e h
-
-  pub line-beat : b .ending ≡ E.Beat → lineEnd (machineOf t s x) ≡ beatEnd behindLine (lentOr (b .lent))
-  line-beat h = line-as ∙ brought-beat behindLine (lineOver (x .intake)) e h
+-- a line's end, with the text u behind it
+pub line-as : (t s : List ℕ) (x : Session) {u : List ℕ} → u ≡ lineKept (x .intake) t → lineEnd (machineOf t s x) ≡ arrivalWorked (machineOf u s (sessionOf (lineOver (x .intake) .intake) (x .totals))) (lineOver (x .intake) .arrival)
+unfolding lineEnd
+line-as t s x k = rw k
 
 -- a session that takes in a beat line is not over after the last beat
 pub line-totals : {x : Session} → Lives x → {b : Brought} → b ≡ broughtBy (lineOver (x .intake)) → b .ending ≡ E.Beat → FitTotals (x .totals)

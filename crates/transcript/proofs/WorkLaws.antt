@@ -11,25 +11,29 @@ use Rattle.text.specs.Byte.{inLine, run}
 use Rattle.text.specs.ByteLaws.{run-within}
 use Rattle.values.specs.PutAt.{putAt, IsPut}
 use Rattle.values.specs.PutLaws.{put-both, put-nothing}
-use Rattle.transcript.specs.declared.intake.Brought.{Brought}
-use Rattle.transcript.specs.declared.intake.Ending.the-variants as E
 use Rattle.transcript.specs.declared.intake.Intake.{Intake}
 use Rattle.transcript.specs.declared.session.Session.{Session}
-use Rattle.transcript.specs.declared.session.Ended.{Ended}
 use Rattle.transcript.specs.Output.{outSize, lastStart, lineRoom}
+use Rattle.transcript.specs.declared.totals.Totals.{Totals}
 use Rattle.transcript.specs.Totals.{ended}
 use Rattle.transcript.specs.Intake.{BEATS, bytesTaken, bytesKept, inputOver}
-use Rattle.transcript.specs.IntakeAnswers.{broughtBy}
-use Rattle.transcript.specs.MaybeLent.{lentOr}
-use Rattle.transcript.specs.Machine.{Machine, Fed, Work, withIntake, isFit, opened, beatEnd, arrivalWorked, chunk, lineEnd, endAfter, lastOutput, finished, finishedText, workFrom, worked}
-use Rattle.transcript.specs.SessionAnswers.{IsFed, machineOf, stepAnswer}
+use Rattle.transcript.specs.Machine.{Machine, Fed, Work, withIntake, isFit, arrivalWorked, chunk, lineEnd, endAfter, lastOutput, finished, finishedText, workFrom, worked}
+use Rattle.transcript.specs.SessionAnswers.{IsFed, IsWorked, machineOf, sessionOf, stepAnswer}
 use Rattle.transcript.specs.SessionRoomLaws.{Lives, fit-parts, fit-lives, chunk-lives, line-lives}
-use Rattle.transcript.proofs.StepLaws.{brought-nothing, brought-text, brought-beat}
 
 -- what is left to say once it is known what a piece came to
-pub work-is : {w : Work} {t s o b exit : List ℕ} {y : Session} {k q : ℕ} → w ≡ record { machine = machineOf t s y; taken = k; output = o } → IsPut b 0 o exit q →
+pub work-is : {w : Work} {m : Machine} {o b exit : List ℕ} {k q : ℕ} → w ≡ record { machine = m; taken = k; output = o } → IsPut b 0 o exit q → IsWorked w m k b exit q
+work-is e p = rw e (record { machine = refl; taken = refl; output = p })
+
+-- and once it was worked
+pub step-is : {w : Work} {t s b exit : List ℕ} {y : Session} {k q : ℕ} → IsWorked w (machineOf t s y) k b exit q →
     (record { session = y; taken = k; written = q } ≡ stepAnswer w) × ((t ≡ w .machine .text) × ((s ≡ w .machine .set) × (exit ≡ putAt b 0 (w .output))))
-work-is {o = o} {q = q} e p = let h : q ≡ length o = let f = p .behind in omega arith in rw (e, h) (refl, (refl, (refl, p .put)))
+step-is {w} {q = q} f = let h : q ≡ length (w .output) = let b = f .output .behind in omega arith in rw (f .machine, f .taken, h) (refl, (refl, (refl, f .output .put)))
+
+-- with totals that are held in place
+pub step-as : (t s input : List ℕ) (i : Intake) {u v b exit : List ℕ} {j : Intake} {m n y z : Totals} {k q : ℕ} → m ≡ n → y ≡ z → IsWorked (worked (machineOf t s (sessionOf i n)) input) (machineOf u v (sessionOf j z)) k b exit q →
+    IsWorked (worked (machineOf t s (sessionOf i m)) input) (machineOf u v (sessionOf j y)) k b exit q
+step-as t s input i e f w = rw (e, f) w
 
 module _ (m : Machine) (t : List ℕ) where
   pub unfit-work : isFit (m .session) ≡ false → worked m t ≡ record { machine = m; taken = length t; output = [] }
@@ -129,7 +133,7 @@ module _ {input : List ℕ} {w : Work} {buffer : List ℕ} {m : Machine} {i : �
     pub going-ends : length input ≤ e → w ≡ record { machine = c; taken = e; output = g .printed }
     going-ends l = sym (g .comes) ∙ input-over input i e r (g .within) m (g .left) (g .printed) short (g .enough) d l
 
-    pub going-on : e < length input → {t s exit : List ℕ} {y : Ended} → IsFed (lineEnd c) t s out at y exit → Going input w buffer (machineOf t s (y .session)) (e + 1) exit (y .end)
+    pub going-on : e < length input → {n : Machine} {exit : List ℕ} {q : ℕ} → IsFed (lineEnd c) n out at exit q → Going input w buffer n (e + 1) exit q
     going-on l f =
         record {
           lives = rw (f .machine) at (line-lives c going-lives);
@@ -148,12 +152,12 @@ pub put-whole : {s a b t : List ℕ} {q : ℕ} → b ≡ a → IsPut s 0 a t q �
 put-whole e h = rw e (let b = h .behind in omega arith, h .put)
 
 -- what came last is put, and END behind it
-pub put-after : {f : Fed} {w : List ℕ} → w ≡ lastOutput f → {t s b mid exit : List ℕ} {y : Ended} {q : ℕ} → IsFed f t s b 0 y mid → IsPut mid (y .end) (endAfter (y .session)) exit q →
+pub put-after : {f : Fed} {w : List ℕ} → w ≡ lastOutput f → {m : Machine} {b mid exit : List ℕ} {p q : ℕ} → IsFed f m b 0 mid p → IsPut mid p (endAfter (m .session)) exit q →
     (q ≡ length w) × (exit ≡ putAt b 0 w)
 put-after {f} e g p = put-whole (e ∙ ap (λ (x : Machine). f .output ++ endAfter (x .session)) (g .machine)) (put-both (g .output) p)
 
 -- and END has room there
-pub end-has-room : {f : Fed} {t s b exit : List ℕ} {y : Ended} → IsFed f t s b 0 y exit → length (f .output) ≤ lineRoom → y .end ≤ outSize
+pub end-has-room : {f : Fed} {m : Machine} {b exit : List ℕ} {p : ℕ} → IsFed f m b 0 exit p → length (f .output) ≤ lineRoom → p ≤ outSize
 end-has-room g h = let e = g .output .behind in omega arith
 
 pub end-beats : (x : Session) → x .intake .phase ≡ BEATS → endAfter x ≡ ended (x .totals)
@@ -169,20 +173,6 @@ module _ (t s : List ℕ) (x : Session) where
   unfolding finishedText
   finish-unfit h = simp (finishedText, h)
 
-  module _ (h : isFit x ≡ true) {b : Brought} (e : b ≡ broughtBy (inputOver (x .intake))) where
-    -- the machine behind the end of input
-    abbrev behindInput : Machine
-    behindInput = machineOf t s (withIntake x (b .intake))
-
-    finish-as : finishedText (machineOf t s x) ≡ lastOutput (arrivalWorked behindInput (inputOver (x .intake) .arrival))
-    unfolding finishedText finished
-    finish-as = simp (finishedText, h) (rw e)
-
-    pub finish-nothing : b .ending ≡ E.Nothing → finishedText (machineOf t s x) ≡ endAfter (withIntake x (b .intake))
-    finish-nothing g = finish-as ∙ ap lastOutput (brought-nothing behindInput (inputOver (x .intake)) e g)
-
-    pub finish-text : b .ending ≡ E.Text → finishedText (machineOf t s x) ≡ lastOutput (opened behindInput (take (b .size) t))
-    finish-text g = finish-as ∙ ap lastOutput (brought-text behindInput (inputOver (x .intake)) e g)
-
-    pub finish-beat : b .ending ≡ E.Beat → finishedText (machineOf t s x) ≡ lastOutput (beatEnd behindInput (lentOr (b .lent)))
-    finish-beat g = finish-as ∙ ap lastOutput (brought-beat behindInput (inputOver (x .intake)) e g)
+  pub finish-fit : isFit x ≡ true → {n : Totals} → x .totals ≡ n → finishedText (machineOf t s x) ≡ lastOutput (arrivalWorked (machineOf t s (sessionOf (inputOver (x .intake) .intake) n)) (inputOver (x .intake) .arrival))
+  unfolding finishedText finished
+  finish-fit h e = simp (finishedText, h) (ap (λ (n : Totals). lastOutput (arrivalWorked (machineOf t s (sessionOf (inputOver (x .intake) .intake) n)) (inputOver (x .intake) .arrival))) e)

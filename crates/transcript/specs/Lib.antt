@@ -1,4 +1,4 @@
--- Synrun is all that synrun prints from all that it reads, in document 01's words, with Input, BeatLine, Tally, Totals and Output; SetText, HalfLine and Intake say how the code reads it, Machine how it works and prints that; MaybeLent, IntakeAnswers and SessionAnswers how the code holds it. Definitions; their laws are in ..Laws.
+-- Synrun is all that synrun prints from all that it reads, in document 01's words, with Input, BeatLine, Tally, Totals and Output; SetText, HalfLine and Intake say how the code reads it, Machine how it works and prints that; MaybeLent, IntakeAnswers, InPlace and SessionAnswers how the code holds it. Definitions; their laws are in ..Laws.
 pub mod BeatLine
 pub mod HalfLine
 pub mod MaybeLent
@@ -14,7 +14,9 @@ pub mod Intake
 pub mod IntakeAnswers
 pub mod IntakeLaws
 pub mod Machine
+pub mod InPlace
 pub mod SessionAnswers
 mod OrdersLaws
 pub mod SessionRoomLaws
+pub mod InPlaceLaws
 pub mod BeatTakenLaws

@@ -73,7 +73,7 @@ lineRoom = beatRoom + endRoom
 
 -- the last place where what a line of input prints may begin
 abbrev pub lastStart : ℕ
-lastStart = 4096
+lastStart = 65536
 
 -- the bytes that output is handed over in
 abbrev pub outSize : ℕ

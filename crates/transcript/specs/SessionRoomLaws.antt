@@ -78,7 +78,7 @@ pub opened-room : (m : Machine) (t : List ℕ) → length (opened m t .output) �
 unfolding opened
 opened-room m t = byCode (Prints lineRoom) (loadAnswer t .code) (λ e. omega arith) (λ c e. let a = load-room (suc c) (loadAnswer t .line) in omega arith)
 
-arrival-room : (m : Machine) (a : Arrival) → Prints lineRoom (arrivalWorked m a)
+pub arrival-room : (m : Machine) (a : Arrival) → Prints lineRoom (arrivalWorked m a)
 unfolding arrivalWorked
 arrival-room m nothing = omega arith
 arrival-room m (wholeText n) = opened-room m (take n (m .text))

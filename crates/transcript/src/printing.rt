@@ -27,7 +27,7 @@ const END_ROOM: usize = 37;
 const LINE_ROOM: usize = CODE_ROOM + ORDER_ROOM * MAX_ORDERS + END_ROOM;
 
 // The last place where what a line of input prints may begin.
-pub const LAST_START: usize = 4096;
+pub const LAST_START: usize = 65536;
 
 // The bytes that output is handed over in.
 pub const OUT: usize = LAST_START + LINE_ROOM;

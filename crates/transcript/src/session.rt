@@ -1,19 +1,25 @@
-// A session of synrun: the lines of its input, as the intake brings them, are worked and printed.
+// A session of synrun: the lines of its input, as the intake brings them, are worked and printed. Over a piece of input the set's lines are read once, and the state is held by its arrays and written in place.
 ghost use mathlib.Core.Path.{_≡_};
+ghost use mathlib.Core.Bool.{true};
 ghost use mathlib.Core.List.{List};
 ghost use Prim.Native.Nat.{ℕ, _≤_};
 ghost use lib.Dec.{eqb};
 ghost use lib.ListN.{length};
 ghost use Rattle.values.specs.PutAt.{putAt, IsPut};
-ghost use Rattle.transcript.specs.Intake.{OVER};
-ghost use Rattle.transcript.specs.Machine.{begun, stopped, isFit, opened, beatOf, beatEnd, lineEnd, endAfter, finishedText, worked};
+ghost use Rattle.engine.specs.ReadLines.{linesWritten};
+ghost use Rattle.engine.specs.declared.state.State.{State};
+ghost use Rattle.transcript.specs.declared.totals.Totals.{Totals};
+ghost use Rattle.transcript.specs.Intake.{OVER, Arrived};
+ghost use Rattle.transcript.specs.IntakeAnswers.{broughtBy};
+ghost use Rattle.transcript.specs.Machine.{begun, isFit, opened, beatOf, beatEnd, arrivalWorked, lineEnd, endAfter, finishedText, worked};
 ghost use Rattle.transcript.specs.Output.{lastStart, outSize};
-ghost use Rattle.transcript.specs.SessionAnswers.{IsFed, machineOf, stepAnswer};
+ghost use Rattle.transcript.specs.SessionAnswers.{IsFed, IsWorked, machineOf, sessionOf, stepAnswer};
+ghost use Rattle.transcript.specs.InPlace.{stateIn, sessionIn};
+ghost use Rattle.transcript.specs.InPlaceLaws.{FitCounts, LivesOn, MayCome};
 ghost use Rattle.transcript.specs.MaybeLent.{lentIn, lentOr};
-ghost use Rattle.transcript.specs.TotalsLaws.{FitTotals};
-ghost use Rattle.transcript.specs.SessionRoomLaws.{Lives};
 use crate::beat_line::MaybeLent;
 use crate::intake::BEATS;
+use crate::intake::Brought;
 use crate::intake::Ending;
 use crate::intake::Intake;
 use crate::intake::OVER;
@@ -28,17 +34,29 @@ use crate::printing::OUT;
 use crate::printing::load_line;
 use crate::set_text::KEPT;
 use crate::tally::tally_beat;
+use crate::totals::Counts;
 use crate::totals::MAX_BEATS;
 use crate::totals::Totals;
 use crate::totals::are_fit;
+use crate::totals::counts_of;
 use crate::totals::no_totals;
 use crate::totals::put_end;
 use crate::totals::put_error;
-use engine::empty_set;
+use crate::totals::totals_of;
+use engine::ORDERS;
+use engine::READ;
+use engine::State;
+use engine::kept_cells;
+use engine::read_lines;
+use engine::spread_cells;
 use reader::load;
 use text::bytes::Kind;
 use text::bytes::run_end;
+use tokens::token::LINES;
 use tokens::token::SIZE;
+use working::variables::CELLS;
+use working::variables::RS;
+use working::variables::TIMERS;
 
 // What is kept between two pieces of input.
 pub struct Session {
@@ -53,10 +71,25 @@ pub struct Stepped {
     pub written: usize,
 }
 
-// What a line came to: the session, and the place behind what it printed.
+// What a line came to, beside what is written in place: the place behind what it printed.
 pub struct Ended {
-    pub session: Session,
+    pub intake: Intake,
+    pub counts: Counts,
     pub end: usize,
+}
+
+// The same of a set text.
+pub struct Opened {
+    pub intake: Intake,
+    pub end: usize,
+}
+
+// What a piece of input came to, beside what is written in place.
+pub struct Piece {
+    pub intake: Intake,
+    pub counts: Counts,
+    pub taken: usize,
+    pub written: usize,
 }
 
 // Before the first byte of input.
@@ -89,127 +122,306 @@ fn is_fit(session: Session) -> bool
     are_fit(totals)
 }
 
-// The session is over.
-fn stop_session(session: Session) -> Session
-    ensures { λ x. ⌜ x ≡ stopped session ⌝ }
-{
-    let intake = session.intake;
-    let mut x = session;
-    x.intake = stop(intake);
-    x
-}
-
 // ---- what came in is worked
 
 // A beat line that lends something: C, an O per order, and END behind the last beat.
 fn work_beat(
-    session: Session,
+    intake: Intake,
+    counts: Counts,
     set: &[u32; SIZE],
+    lines: &[usize; READ],
+    r: &mut [i32; RS],
+    cells: &mut [i32; CELLS],
+    runs: &mut [bool; TIMERS],
+    locked: &mut [bool; LINES],
+    cancelled: &[bool; LINES],
+    memory: &mut [bool; LINES],
+    orders: &mut [u8; ORDERS],
     lent: MaybeLent,
     out: &mut [u8],
     at: usize,
 ) -> Ended
-    requires { ⌜ FitTotals (session .totals) × (at ≤ lastStart) ⌝ }
-    ensures { λ x. ⌜ ((t : List ℕ) → IsFed (beatOf (machineOf t (now (set .entry)) session) (lentIn lent)) t (now (set .entry)) (now (out .entry)) at x (now (out .exit))) ⌝ }
+    requires { ⌜ (now lines ≡ linesWritten (now set)) × (FitCounts counts × (at ≤ lastStart)) ⌝ }
+    ensures { λ x. ⌜ ((t : List ℕ) → IsFed (beatOf (machineOf t (now (set .entry)) (sessionIn intake counts (stateIn (now (r .entry)) (now (cells .entry)) (now (runs .entry)) (now (locked .entry)) (now (cancelled .entry)) (now (memory .entry))))) (lentIn lent)) (machineOf t (now (set .entry)) (sessionIn (x .intake) (x .counts) (stateIn (now (r .exit)) (now (cells .exit)) (now (runs .exit)) (now (locked .exit)) (now (cancelled .entry)) (now (memory .exit))))) (now (out .entry)) at (now (out .exit)) (x .end)) ⌝ }
 {
-    let totals = session.totals;
-    let t = tally_beat(totals, set, lent, out, at);
-    let next = t.totals;
-    let mut x = session;
-    x.totals = next;
+    let t = tally_beat(
+        counts,
+        set,
+        lines,
+        r,
+        cells,
+        runs,
+        locked,
+        cancelled,
+        memory,
+        orders,
+        lent,
+        out,
+        at,
+    );
+    let next = t.counts;
     if next.beats.0 == MAX_BEATS.0 {
         let end = put_end(next, out, t.end);
         return Ended {
-            session: stop_session(x),
+            intake: stop(intake),
+            counts: next,
             end: end,
         };
     }
     Ended {
-        session: x,
+        intake: intake,
+        counts: next,
         end: t.end,
     }
 }
 
 // A beat line: E if it is ill-formed.
 fn beat_end(
-    session: Session,
+    intake: Intake,
+    counts: Counts,
     set: &[u32; SIZE],
+    lines: &[usize; READ],
+    r: &mut [i32; RS],
+    cells: &mut [i32; CELLS],
+    runs: &mut [bool; TIMERS],
+    locked: &mut [bool; LINES],
+    cancelled: &[bool; LINES],
+    memory: &mut [bool; LINES],
+    orders: &mut [u8; ORDERS],
     lent: MaybeLent,
     out: &mut [u8],
     at: usize,
 ) -> Ended
-    requires { ⌜ FitTotals (session .totals) × (at ≤ lastStart) ⌝ }
-    ensures { λ x. ⌜ ((t : List ℕ) → IsFed (beatEnd (machineOf t (now (set .entry)) session) (lentOr lent)) t (now (set .entry)) (now (out .entry)) at x (now (out .exit))) ⌝ }
+    requires { ⌜ (now lines ≡ linesWritten (now set)) × (FitCounts counts × (at ≤ lastStart)) ⌝ }
+    ensures { λ x. ⌜ ((t : List ℕ) → IsFed (beatEnd (machineOf t (now (set .entry)) (sessionIn intake counts (stateIn (now (r .entry)) (now (cells .entry)) (now (runs .entry)) (now (locked .entry)) (now (cancelled .entry)) (now (memory .entry))))) (lentOr lent)) (machineOf t (now (set .entry)) (sessionIn (x .intake) (x .counts) (stateIn (now (r .exit)) (now (cells .exit)) (now (runs .exit)) (now (locked .exit)) (now (cancelled .entry)) (now (memory .exit))))) (now (out .entry)) at (now (out .exit)) (x .end)) ⌝ }
 {
     let good = lent.good;
     if good {
-        return work_beat(session, set, lent, out, at);
+        return work_beat(
+            intake,
+            counts,
+            set,
+            lines,
+            r,
+            cells,
+            runs,
+            locked,
+            cancelled,
+            memory,
+            orders,
+            lent,
+            out,
+            at,
+        );
     }
-    let totals = session.totals;
-    let end = put_error(totals, out, at);
+    let end = put_error(counts, out, at);
     Ended {
-        session: stop_session(session),
+        intake: stop(intake),
+        counts: counts,
         end: end,
     }
 }
 
-// The set text is whole: it is loaded.
-fn open_set(session: Session, t: &[u8], set: &mut [u32; SIZE], out: &mut [u8], at: usize) -> Ended
+// The set text is whole: it is loaded, and the lines of its set are read.
+fn open_set(
+    intake: Intake,
+    t: &[u8],
+    set: &mut [u32; SIZE],
+    lines: &mut [usize; READ],
+    out: &mut [u8],
+    at: usize,
+) -> Opened
     requires { ⌜ at ≤ lastStart ⌝ }
-    ensures { λ x. ⌜ ((m s : List ℕ) → IsFed (opened (machineOf m s session) (now (t .entry))) m (now (set .exit)) (now (out .entry)) at x (now (out .exit))) ⌝ }
+    ensures { λ x. ⌜ now (lines .exit) ≡ linesWritten (now (set .exit)) ⌝ }
+    ensures { λ x. ⌜ ((m s : List ℕ) (n : Totals) → IsFed (opened (machineOf m s (sessionOf intake n)) (now (t .entry))) (machineOf m (now (set .exit)) (sessionOf (x .intake) n)) (now (out .entry)) at (now (out .exit)) (x .end)) ⌝ }
 {
     let l = load(t, set);
+    read_lines(set, lines);
     let code = l.code;
     if code != 0 {
         let end = load_line(out, at, code, l.line);
-        return Ended {
-            session: stop_session(session),
+        return Opened {
+            intake: stop(intake),
             end: end,
         };
     }
-    Ended {
-        session: session,
+    Opened {
+        intake: intake,
         end: at,
     }
 }
 
-// An LF: what it brings is worked.
-fn line_end(
-    session: Session,
-    text: &mut [u8; KEPT],
+// What the end of a line, or of the input, brought.
+fn work_arrival(
+    b: Brought,
+    counts: Counts,
+    text: &[u8; KEPT],
     set: &mut [u32; SIZE],
+    lines: &mut [usize; READ],
+    r: &mut [i32; RS],
+    cells: &mut [i32; CELLS],
+    runs: &mut [bool; TIMERS],
+    locked: &mut [bool; LINES],
+    cancelled: &[bool; LINES],
+    memory: &mut [bool; LINES],
+    orders: &mut [u8; ORDERS],
     out: &mut [u8],
     at: usize,
 ) -> Ended
-    requires { ⌜ Lives session × (at ≤ lastStart) ⌝ }
-    ensures { λ x. ⌜ IsFed (lineEnd (machineOf (now (text .entry)) (now (set .entry)) session)) (now (text .exit)) (now (set .exit)) (now (out .entry)) at x (now (out .exit)) ⌝ }
+    requires { ⌜ (now lines ≡ linesWritten (now set)) × (MayCome b counts × (at ≤ lastStart)) ⌝ }
+    ensures { λ x. ⌜ now (lines .exit) ≡ linesWritten (now (set .exit)) ⌝ }
+    ensures { λ x. ⌜ ((a : Arrived) → b ≡ broughtBy a → IsFed (arrivalWorked (machineOf (now (text .entry)) (now (set .entry)) (sessionIn (a .intake) counts (stateIn (now (r .entry)) (now (cells .entry)) (now (runs .entry)) (now (locked .entry)) (now (cancelled .entry)) (now (memory .entry))))) (a .arrival)) (machineOf (now (text .entry)) (now (set .exit)) (sessionIn (x .intake) (x .counts) (stateIn (now (r .exit)) (now (cells .exit)) (now (runs .exit)) (now (locked .exit)) (now (cancelled .entry)) (now (memory .exit))))) (now (out .entry)) at (now (out .exit)) (x .end)) ⌝ }
 {
-    let intake = session.intake;
-    let b = end_line(intake, text);
-    let next = b.intake;
-    let mut x = session;
-    x.intake = next;
+    let intake = b.intake;
     let ending = b.ending;
     match ending {
         Ending::Nothing => Ended {
-            session: x,
+            intake: intake,
+            counts: counts,
             end: at,
         },
         Ending::Text => {
             let all = &text[..];
             let size = b.size;
-            open_set(x, &all[..size], set, out, at)
+            let o = open_set(intake, &all[..size], set, lines, out, at);
+            let next = o.intake;
+            Ended {
+                intake: next,
+                counts: counts,
+                end: o.end,
+            }
         }
         Ending::Beat => {
             let lent = b.lent;
-            beat_end(x, set, lent, out, at)
+            beat_end(
+                intake,
+                counts,
+                set,
+                lines,
+                r,
+                cells,
+                runs,
+                locked,
+                cancelled,
+                memory,
+                orders,
+                lent,
+                out,
+                at,
+            )
         }
     }
 }
 
+// An LF: what it brings is worked.
+fn line_end(
+    intake: Intake,
+    counts: Counts,
+    text: &mut [u8; KEPT],
+    set: &mut [u32; SIZE],
+    lines: &mut [usize; READ],
+    r: &mut [i32; RS],
+    cells: &mut [i32; CELLS],
+    runs: &mut [bool; TIMERS],
+    locked: &mut [bool; LINES],
+    cancelled: &[bool; LINES],
+    memory: &mut [bool; LINES],
+    orders: &mut [u8; ORDERS],
+    out: &mut [u8],
+    at: usize,
+) -> Ended
+    requires { ⌜ (now lines ≡ linesWritten (now set)) × (LivesOn intake counts × (at ≤ lastStart)) ⌝ }
+    ensures { λ x. ⌜ now (lines .exit) ≡ linesWritten (now (set .exit)) ⌝ }
+    ensures { λ x. ⌜ IsFed (lineEnd (machineOf (now (text .entry)) (now (set .entry)) (sessionIn intake counts (stateIn (now (r .entry)) (now (cells .entry)) (now (runs .entry)) (now (locked .entry)) (now (cancelled .entry)) (now (memory .entry)))))) (machineOf (now (text .exit)) (now (set .exit)) (sessionIn (x .intake) (x .counts) (stateIn (now (r .exit)) (now (cells .exit)) (now (runs .exit)) (now (locked .exit)) (now (cancelled .entry)) (now (memory .exit))))) (now (out .entry)) at (now (out .exit)) (x .end) ⌝ }
+{
+    let b = end_line(intake, text);
+    work_arrival(
+        b,
+        counts,
+        text,
+        set,
+        lines,
+        r,
+        cells,
+        runs,
+        locked,
+        cancelled,
+        memory,
+        orders,
+        out,
+        at,
+    )
+}
+
 // ---- the calls
 
-// A piece of input, line by line while there is room for what one more line may print. What is left of the piece goes in again.
+// A piece of input, line by line while there is room for what one more line may print.
+fn work_lines(
+    intake: Intake,
+    counts: Counts,
+    text: &mut [u8; KEPT],
+    set: &mut [u32; SIZE],
+    lines: &mut [usize; READ],
+    r: &mut [i32; RS],
+    cells: &mut [i32; CELLS],
+    runs: &mut [bool; TIMERS],
+    locked: &mut [bool; LINES],
+    cancelled: &[bool; LINES],
+    memory: &mut [bool; LINES],
+    orders: &mut [u8; ORDERS],
+    input: &[u8],
+    out: &mut [u8; OUT],
+) -> Piece
+    requires { ⌜ (now lines ≡ linesWritten (now set)) × ((y : State) → isFit (sessionIn intake counts y) ≡ true) ⌝ }
+    ensures { λ x. ⌜ IsWorked (worked (machineOf (now (text .entry)) (now (set .entry)) (sessionIn intake counts (stateIn (now (r .entry)) (now (cells .entry)) (now (runs .entry)) (now (locked .entry)) (now (cancelled .entry)) (now (memory .entry))))) (now (input .entry))) (machineOf (now (text .exit)) (now (set .exit)) (sessionIn (x .intake) (x .counts) (stateIn (now (r .exit)) (now (cells .exit)) (now (runs .exit)) (now (locked .exit)) (now (cancelled .entry)) (now (memory .exit))))) (x .taken) (now (out .entry)) (now (out .exit)) (x .written) ⌝ }
+{
+    let mut kept = intake;
+    let mut n = counts;
+    let mut i: usize = 0;
+    let mut at: usize = 0;
+    while at <= LAST_START {
+        let end = run_end(input, i, Kind::Line);
+        kept = take_in(kept, text, &input[i..end]);
+        if input.len() <= end {
+            return Piece {
+                intake: kept,
+                counts: n,
+                taken: end,
+                written: at,
+            };
+        }
+        let f = line_end(
+            kept,
+            n,
+            text,
+            set,
+            lines,
+            r,
+            cells,
+            runs,
+            locked,
+            cancelled,
+            memory,
+            orders,
+            out,
+            at,
+        );
+        let next = f.intake;
+        kept = next;
+        let counted = f.counts;
+        n = counted;
+        at = f.end;
+        i = end + 1;
+    }
+    Piece {
+        intake: kept,
+        counts: n,
+        taken: i,
+        written: at,
+    }
+}
+
+// A piece of input. What is left of it goes in again.
 pub fn step(
     session: Session,
     text: &mut [u8; KEPT],
@@ -222,51 +434,73 @@ pub fn step(
     ensures { λ x. ⌜ now (set .exit) ≡ worked (machineOf (now (text .entry)) (now (set .entry)) session) (now (input .entry)) .machine .set ⌝ }
     ensures { λ x. ⌜ now (out .exit) ≡ putAt (now (out .entry)) 0 (worked (machineOf (now (text .entry)) (now (set .entry)) session) (now (input .entry)) .output) ⌝ }
 {
-    let mut s = session;
-    let mut i: usize = 0;
-    let mut at: usize = 0;
-    if !is_fit(s) {
+    if !is_fit(session) {
         return Stepped {
-            session: s,
+            session: session,
             taken: input.len(),
             written: 0,
         };
     }
-    while at <= LAST_START {
-        let end = run_end(input, i, Kind::Line);
-        let intake = s.intake;
-        s.intake = take_in(intake, text, &input[i..end]);
-        if input.len() <= end {
-            return Stepped {
-                session: s,
-                taken: end,
-                written: at,
-            };
-        }
-        let f = line_end(s, text, set, out, at);
-        let next = f.session;
-        s = next;
-        at = f.end;
-        i = end + 1;
-    }
+    let mut lines = [0usize; READ];
+    read_lines(set, &mut lines);
+    let totals = session.totals;
+    let state = totals.state;
+    let mut r = state.r;
+    let state_cells = state.cells;
+    let mut cells = spread_cells(&state_cells);
+    let mut runs = state.runs;
+    let mut locked = state.locked;
+    let cancelled = state.cancelled;
+    let mut memory = state.memory;
+    let mut orders = [0u8; ORDERS];
+    let intake = session.intake;
+    let w = work_lines(
+        intake,
+        counts_of(totals),
+        text,
+        set,
+        &mut lines,
+        &mut r,
+        &mut cells,
+        &mut runs,
+        &mut locked,
+        &cancelled,
+        &mut memory,
+        &mut orders,
+        input,
+        out,
+    );
+    let kept = kept_cells(&cells);
+    let next = State {
+        r: r,
+        cells: kept,
+        runs: runs,
+        locked: locked,
+        cancelled: cancelled,
+        memory: memory,
+    };
+    let after = w.intake;
+    let s = Session {
+        intake: after,
+        totals: totals_of(w.counts, next),
+    };
     Stepped {
         session: s,
-        taken: i,
-        written: at,
+        taken: w.taken,
+        written: w.written,
     }
 }
 
 // END, where beat lines are still awaited.
-fn put_last(session: Session, out: &mut [u8], at: usize) -> usize
+fn put_last(intake: Intake, counts: Counts, out: &mut [u8], at: usize) -> usize
     requires { ⌜ at ≤ outSize ⌝ }
-    ensures { λ x. ⌜ IsPut (now (out .entry)) at (endAfter session) (now (out .exit)) x ⌝ }
+    ensures { λ x. ⌜ ((y : State) → IsPut (now (out .entry)) at (endAfter (sessionIn intake counts y)) (now (out .exit)) x) ⌝ }
 {
-    let phase = session.intake.phase;
+    let phase = intake.phase;
     if phase != BEATS {
         return at;
     }
-    let totals = session.totals;
-    put_end(totals, out, at)
+    put_end(counts, out, at)
 }
 
 // The end of input: what is still to be printed, and how many bytes it is.
@@ -277,27 +511,37 @@ pub fn finish(session: Session, text: &[u8; KEPT], set: &[u32; SIZE], out: &mut 
     if !is_fit(session) {
         return 0;
     }
+    let mut own = *set;
+    let mut lines = [0usize; READ];
+    read_lines(&own, &mut lines);
+    let totals = session.totals;
+    let state = totals.state;
+    let mut r = state.r;
+    let state_cells = state.cells;
+    let mut cells = spread_cells(&state_cells);
+    let mut runs = state.runs;
+    let mut locked = state.locked;
+    let cancelled = state.cancelled;
+    let mut memory = state.memory;
+    let mut orders = [0u8; ORDERS];
     let intake = session.intake;
-    let b = end_input(intake);
-    let next = b.intake;
-    let mut x = session;
-    x.intake = next;
-    let ending = b.ending;
-    match ending {
-        Ending::Nothing => put_last(x, out, 0),
-        Ending::Text => {
-            let mut loaded = empty_set();
-            let all = &text[..];
-            let size = b.size;
-            let f = open_set(x, &all[..size], &mut loaded, out, 0);
-            let s = f.session;
-            put_last(s, out, f.end)
-        }
-        Ending::Beat => {
-            let lent = b.lent;
-            let f = beat_end(x, set, lent, out, 0);
-            let s = f.session;
-            put_last(s, out, f.end)
-        }
-    }
+    let f = work_arrival(
+        end_input(intake),
+        counts_of(totals),
+        text,
+        &mut own,
+        &mut lines,
+        &mut r,
+        &mut cells,
+        &mut runs,
+        &mut locked,
+        &cancelled,
+        &mut memory,
+        &mut orders,
+        out,
+        0,
+    );
+    let after = f.intake;
+    let counts = f.counts;
+    put_last(after, counts, out, f.end)
 }

@@ -1,49 +1,73 @@
-// A beat of a session, worked and counted, and the lines that are printed of it.
+// A beat of a session, worked in place and counted, and the lines that are printed of it.
 ghost use mathlib.Core.Path.{_≡_};
 ghost use Prim.Native.Nat.{_≤_};
 ghost use Rattle.values.specs.PutAt.{IsPut};
+ghost use Rattle.engine.specs.ReadLines.{linesWritten};
 ghost use Rattle.transcript.specs.MaybeLent.{lentIn};
 ghost use Rattle.transcript.specs.Output.{lastStart};
 ghost use Rattle.transcript.specs.Tally.{counted, answerOf, beatText};
-ghost use Rattle.transcript.specs.TotalsLaws.{FitTotals};
+ghost use Rattle.transcript.specs.InPlace.{totalsOf, stateIn};
+ghost use Rattle.transcript.specs.InPlaceLaws.{FitCounts};
 use crate::beat_line::MaybeLent;
 use crate::printing::code_line;
 use crate::printing::order_lines;
-use crate::totals::Totals;
+use crate::totals::Counts;
 use crate::totals::count;
 use engine::ORDERS;
-use engine::State;
-use engine::beat;
+use engine::READ;
+use engine::beat_over;
+use tokens::token::LINES;
 use tokens::token::SIZE;
+use working::variables::CELLS;
+use working::variables::RS;
+use working::variables::TIMERS;
 
-// What a beat came to: the totals with it, and the place behind what was put.
+// What a beat came to: the counts with it, and the place behind what was put.
 pub struct Tallied {
-    pub totals: Totals,
+    pub counts: Counts,
     pub end: usize,
 }
 
-// The beat over what a line told: C and an O per order are put, and it is counted.
+// The beat over what a line told: C and an O per order are put, and it is counted. What the order buffer has behind the orders of this beat is not looked at.
 pub fn tally_beat(
-    totals: Totals,
+    counts: Counts,
     set: &[u32; SIZE],
+    lines: &[usize; READ],
+    r: &mut [i32; RS],
+    cells: &mut [i32; CELLS],
+    runs: &mut [bool; TIMERS],
+    locked: &mut [bool; LINES],
+    cancelled: &[bool; LINES],
+    memory: &mut [bool; LINES],
+    orders: &mut [u8; ORDERS],
     lent: MaybeLent,
     out: &mut [u8],
     at: usize,
 ) -> Tallied
-    requires { ⌜ FitTotals totals × (at ≤ lastStart) ⌝ }
-    ensures { λ x. ⌜ x .totals ≡ counted totals (answerOf (now (set .entry)) totals (lentIn lent)) ⌝ }
-    ensures { λ x. ⌜ IsPut (now (out .entry)) at (beatText (now (set .entry)) totals (lentIn lent)) (now (out .exit)) (x .end) ⌝ }
+    requires { ⌜ (now lines ≡ linesWritten (now set)) × (FitCounts counts × (at ≤ lastStart)) ⌝ }
+    ensures { λ x. ⌜ totalsOf (x .counts) (stateIn (now (r .exit)) (now (cells .exit)) (now (runs .exit)) (now (locked .exit)) (now (cancelled .entry)) (now (memory .exit))) ≡ counted (totalsOf counts (stateIn (now (r .entry)) (now (cells .entry)) (now (runs .entry)) (now (locked .entry)) (now (cancelled .entry)) (now (memory .entry)))) (answerOf (now (set .entry)) (totalsOf counts (stateIn (now (r .entry)) (now (cells .entry)) (now (runs .entry)) (now (locked .entry)) (now (cancelled .entry)) (now (memory .entry)))) (lentIn lent)) ⌝ }
+    ensures { λ x. ⌜ IsPut (now (out .entry)) at (beatText (now (set .entry)) (totalsOf counts (stateIn (now (r .entry)) (now (cells .entry)) (now (runs .entry)) (now (locked .entry)) (now (cancelled .entry)) (now (memory .entry)))) (lentIn lent)) (now (out .exit)) (x .end) ⌝ }
 {
-    let mut orders = [0u8; ORDERS];
-    let state = totals.state;
     let numbers = lent.numbers;
-    let b = beat(set, state, lent.automatic, lent.word, &numbers, &mut orders);
+    let b = beat_over(
+        set,
+        lines,
+        r,
+        cells,
+        runs,
+        locked,
+        cancelled,
+        memory,
+        lent.automatic,
+        lent.word,
+        &numbers,
+        orders,
+    );
     let n = b.orders;
-    let p = code_line(out, at, totals.beats.0 + 1, b.code, n);
-    let end = order_lines(out, p, &orders, n);
-    let after: State = b.state;
+    let p = code_line(out, at, counts.beats.0 + 1, b.code, n);
+    let end = order_lines(out, p, orders, n);
     Tallied {
-        totals: count(totals, b.code, n, after),
+        counts: count(counts, b.code, n),
         end: end,
     }
 }

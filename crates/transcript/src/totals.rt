@@ -3,9 +3,10 @@ ghost use mathlib.Core.Path.{_≡_};
 ghost use Prim.Native.Nat.{_+_, _≤_, _<_};
 ghost use Rattle.engine.specs.Order.{maxOrders};
 ghost use Rattle.values.specs.PutAt.{IsPut};
-ghost use Rattle.transcript.specs.Output.{errorLine, outSize};
-ghost use Rattle.transcript.specs.Totals.{noTotals, ended, oneIf, areFit, counting, maxBeats};
-ghost use Rattle.transcript.specs.TotalsLaws.{FitTotals};
+ghost use Rattle.transcript.specs.Output.{errorLine, endLine, outSize};
+ghost use Rattle.transcript.specs.Totals.{noTotals, oneIf, areFit, maxBeats};
+ghost use Rattle.transcript.specs.InPlace.{countsOf, totalsOf, countsAfter};
+ghost use Rattle.transcript.specs.InPlaceLaws.{FitCounts};
 use crate::printing::end_line;
 use crate::printing::error_line;
 use engine::State;
@@ -26,6 +27,14 @@ pub struct Totals {
     pub orders: u32,
 }
 
+// The same without the state, which is held by its arrays while a piece of input is worked.
+pub struct Counts {
+    pub lines: u32,
+    pub beats: Beats,
+    pub coded: u32,
+    pub orders: u32,
+}
+
 // Before the first beat.
 pub fn no_totals() -> Totals
     ensures { λ x. ⌜ x ≡ noTotals ⌝ }
@@ -36,6 +45,31 @@ pub fn no_totals() -> Totals
         beats: Beats(0),
         coded: 0,
         orders: 0,
+    }
+}
+
+pub fn counts_of(totals: Totals) -> Counts
+    ensures { λ x. ⌜ x ≡ countsOf totals ⌝ }
+{
+    let beats = totals.beats;
+    Counts {
+        lines: totals.lines,
+        beats: beats,
+        coded: totals.coded,
+        orders: totals.orders,
+    }
+}
+
+pub fn totals_of(counts: Counts, state: State) -> Totals
+    ensures { λ x. ⌜ x ≡ totalsOf counts state ⌝ }
+{
+    let beats = counts.beats;
+    Totals {
+        state: state,
+        lines: counts.lines,
+        beats: beats,
+        coded: counts.coded,
+        orders: counts.orders,
     }
 }
 
@@ -63,34 +97,33 @@ fn one_if(code: u8) -> u32
     if code == 0 { 0 } else { 1 }
 }
 
-// The totals with a line and its beat, of this code and so many orders, that leaves this state.
-pub fn count(totals: Totals, code: u8, orders: u32, state: State) -> Totals
-    requires { ⌜ FitTotals totals × (orders ≤ maxOrders) ⌝ }
-    ensures { λ x. ⌜ x ≡ counting totals code orders state ⌝ }
+// The counts with a line and its beat, of this code and so many orders.
+pub fn count(counts: Counts, code: u8, orders: u32) -> Counts
+    requires { ⌜ FitCounts counts × (orders ≤ maxOrders) ⌝ }
+    ensures { λ x. ⌜ x ≡ countsAfter counts code orders ⌝ }
 {
-    let beats = totals.beats.0;
+    let beats = counts.beats.0;
     let coded = one_if(code);
-    Totals {
-        state: state,
-        lines: totals.lines + 1,
+    Counts {
+        lines: counts.lines + 1,
         beats: Beats(beats + 1),
-        coded: totals.coded + coded,
-        orders: totals.orders + orders,
+        coded: counts.coded + coded,
+        orders: counts.orders + orders,
     }
 }
 
 // END
-pub fn put_end(totals: Totals, out: &mut [u8], at: usize) -> usize
+pub fn put_end(counts: Counts, out: &mut [u8], at: usize) -> usize
     requires { ⌜ at ≤ outSize ⌝ }
-    ensures { λ x. ⌜ IsPut (now (out .entry)) at (ended totals) (now (out .exit)) x ⌝ }
+    ensures { λ x. ⌜ IsPut (now (out .entry)) at (endLine (counts .beats .0) (counts .coded) (counts .orders)) (now (out .exit)) x ⌝ }
 {
-    end_line(out, at, totals.beats.0, totals.coded, totals.orders)
+    end_line(out, at, counts.beats.0, counts.coded, counts.orders)
 }
 
 // E of the line behind those that were taken.
-pub fn put_error(totals: Totals, out: &mut [u8], at: usize) -> usize
-    requires { ⌜ (totals .lines < maxBeats) × (at ≤ outSize) ⌝ }
-    ensures { λ x. ⌜ IsPut (now (out .entry)) at (errorLine (totals .lines + 1)) (now (out .exit)) x ⌝ }
+pub fn put_error(counts: Counts, out: &mut [u8], at: usize) -> usize
+    requires { ⌜ (counts .lines < maxBeats) × (at ≤ outSize) ⌝ }
+    ensures { λ x. ⌜ IsPut (now (out .entry)) at (errorLine (counts .lines + 1)) (now (out .exit)) x ⌝ }
 {
-    error_line(out, at, totals.lines + 1)
+    error_line(out, at, counts.lines + 1)
 }

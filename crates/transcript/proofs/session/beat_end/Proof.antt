@@ -1,6 +1,7 @@
 -- `session::beat_end` meets its contract: by what the line lends.
 use borrow.Author.Needs.{needs}
 use native.Mathlib.Omega.{arith}
+use Rattle.engine.specs.State.{powerOn}
 use Rattle.transcript.proofs.StepLaws.{fed, fed-as, beat-good, beat-ill}
 use Rattle.transcript.proofs.session.beat_end.Statement.{statement}
 use Rattle.transcript.proofs.session.beat_end.Tie as tie
@@ -9,10 +10,10 @@ pub beat-end-spec : {M : Type 1} → statement M
 beat-end-spec =
     tie.close
     (tie.spec
-    (λ c κs. c .before .before .before .pre)
-    (λ c. search needs)
-    (λ c t. let p = c .before .before in fed-as (beat-good t _ _ _ (p .before .before .if1 .taken)) (p .work-beat .ensures t))
-    (λ c κs. let p = c .before .before .before .before .pre in (omega (arith, p .0 .beats, p .0 .lines), omega (arith, p .1)))
     (λ c κs. search needs)
     (λ c. search needs)
-    (λ c t. let p = c .before .before .before in fed (beat-ill t _ _ _ (p .before .before .before .if1 .left) (c .stop-session .ensures)) (p .put-error .ensures)))
+    (λ c t. let p = c .before .before in fed-as (beat-good t _ _ _ (p .before .before .before .before .before .before .before .before .if1 .taken)) (p .work-beat .ensures t))
+    (λ c κs. let p = c .before .before .before .pre .1 in let f = p .0 powerOn in (omega (arith, f .beats, f .lines), omega (arith, p .1)))
+    (λ c κs. search needs)
+    (λ c. search needs)
+    (λ c t. let p = c .before .before .before in fed (beat-ill t _ _ _ (p .before .before .if1 .left) (c .stop .ensures)) (p .put-error .ensures)))

@@ -1,19 +1,16 @@
--- `session::finish` meets its contract: by what the end of input brings.
+-- `session::finish` meets its contract: the session is taken apart, and what the end of input brings is worked.
 use borrow.Author.Needs.{needs}
 use native.Mathlib.Omega.{arith}
 use borrow.Author.Tests.{not-true, not-false}
 use mathlib.Core.Path.{_≡_, sym, _∙_}
 use mathlib.Core.Bool.{true}
-use mathlib.Core.List.{[]}
-use lib.ListN.{length}
-use lib.Seq.{length-take-le}
-use denote.Ref.{now}
 use Rattle.transcript.specs.Machine.{isFit}
-use Rattle.transcript.specs.SetText.{keptSize}
-use Rattle.transcript.specs.SessionRoomLaws.{fit-parts, opened-room, beat-end-room}
+use Rattle.transcript.specs.Intake.{inputOver}
+use Rattle.transcript.specs.InPlaceLaws.{fit-counts, totals-apart}
+use Rattle.transcript.specs.SessionRoomLaws.{fit-parts, arrival-room}
 use Rattle.transcript.proofs.StepLaws.{input-told}
 use Rattle.values.specs.PutLaws.{put-nothing}
-use Rattle.transcript.proofs.WorkLaws.{put-whole, put-after, end-has-room, finish-unfit, finish-nothing, finish-text, finish-beat}
+use Rattle.transcript.proofs.WorkLaws.{put-whole, put-after, end-has-room, finish-unfit, finish-fit}
 use Rattle.transcript.proofs.session.finish.Statement.{statement}
 use Rattle.transcript.proofs.session.finish.Tie as tie
 
@@ -27,20 +24,26 @@ finish-spec =
     (λ c κs. search needs)
     (λ c. put-whole (finish-unfit _ _ _ (sym (c .before .is-fit .ensures) ∙ not-true _ (c .if1 .taken))) put-nothing)
     (λ c κs. search needs)
-    (λ c. search needs)
     (λ c κs. search needs)
-    (λ c. search needs)
     (λ c κs. search needs)
+    (λ c κs. search needs)
+    (λ c κs.
+    let k = c .before .before .before .before .before .before .before .before .before .before in
+    let b = k .before in
+    let l = b .before .before .before .before .before .before .before .before .before .before .before .before in
+    let f = fit-parts _ (fit (l .before .before .before .before)) in
+    (l .read-lines .ensures, (record { kept = input-told _ (f .intake) (b .end-input .ensures); counts = λ h y. rw (k .counts-of .ensures) (fit-counts (f .totals) y) }, omega arith)))
+    (λ c κs.
+    let w = c .before .before .before in
+    let b = w .before .before .before .before .before .before .before .before .before .before .before .before in
+    let x = b .before .before .before .before .before .before .before .before .before .before .before .before .before .before .before .before .before .before .args .session in
+    end-has-room (w .work-arrival .ensures .1 (inputOver (x .intake)) (b .end-input .ensures)) (arrival-room _ _))
     (λ c.
-    let i = c .before .before .before .before .before .before .before .before in
-    let t = now (i .before .before .args .text) in
-    let e : length t ≡ keptSize = search needs in
-    sym (length-take-le _ t (omega (arith, input-told _ (fit-parts _ (fit i) .intake) (c .before .before .before .before .before .before .end-input .ensures)))))
-    (λ c κs. search needs)
-    (λ c κs. end-has-room (c .before .before .open-set .ensures [] []) (opened-room _ _))
-    (λ c. search needs)
-    (λ c κs. (fit-parts _ (fit (c .before .before .before .before .before .before .before)) .totals, omega arith))
-    (λ c κs. end-has-room (c .before .before .beat-end .ensures []) (beat-end-room _ _))
-    (λ c. put-whole (finish-nothing _ _ _ (fit (c .before .before .before .before .before .before .before)) (c .before .before .before .before .before .end-input .ensures) (c .before .before .enum-told .given .1)) (c .put-last .ensures))
-    (λ c. put-after (finish-text _ _ _ (fit (c .before .before .before .before .before .before .before .before .before .before .before .before .before .before)) (c .before .before .before .before .before .before .before .before .before .before .before .before .end-input .ensures) (c .before .before .before .before .before .before .before .before .before .enum-told2 .given .1)) (c .before .before .before .open-set .ensures _ _) (c .put-last2 .ensures))
-    (λ c. put-after (finish-beat _ _ _ (fit (c .before .before .before .before .before .before .before .before .before .before .before)) (c .before .before .before .before .before .before .before .before .before .end-input .ensures) (c .before .before .before .before .before .before .enum-told3 .given .1)) (c .before .before .before .beat-end .ensures _) (c .put-last3 .ensures)))
+    let w = c .before .before .before .before in
+    let k = w .before .before .before .before .before .before .before .before .before .before .before in
+    let b = k .before in
+    let p = b .before .before .before .before .before .before in
+    let i = p .before .before .before .before .before .before .before .before .before .before in
+    let x = i .before .before .args .session in
+    put-after (finish-fit _ _ _ (fit i) (totals-apart (x .totals) (k .counts-of .ensures) (p .spread-cells .ensures)))
+    (w .work-arrival .ensures .1 (inputOver (x .intake)) (b .end-input .ensures)) (c .put-last .ensures _)))

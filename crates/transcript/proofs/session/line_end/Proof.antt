@@ -1,12 +1,10 @@
--- `session::line_end` meets its contract: by what the end of the line brings.
+-- `session::line_end` meets its contract: what the end of the line brings is worked.
 use borrow.Author.Needs.{needs}
-use native.Mathlib.Omega.{arith}
-use mathlib.Core.Path.{_≡_, sym}
-use lib.ListN.{length}
-use lib.Seq.{length-take-le}
-use Rattle.transcript.specs.SetText.{keptSize}
-use Rattle.transcript.proofs.StepLaws.{fed, fed-as, line-told, line-nothing, line-text, line-beat, line-totals}
-use Rattle.values.specs.PutLaws.{put-nothing}
+use Rattle.engine.specs.State.{powerOn}
+use Rattle.transcript.specs.Intake.{lineOver}
+use Rattle.transcript.specs.InPlace.{sessionIn}
+use Rattle.transcript.specs.InPlaceLaws.{fit-counts}
+use Rattle.transcript.proofs.StepLaws.{fed-as, line-told, line-as, line-totals}
 use Rattle.transcript.proofs.session.line_end.Statement.{statement}
 use Rattle.transcript.proofs.session.line_end.Tie as tie
 
@@ -14,19 +12,16 @@ pub line-end-spec : {M : Type 1} → statement M
 line-end-spec =
     tie.close
     (tie.spec
-    (λ c κs. c .before .before .before .pre .0 .intake)
-    (λ c. search needs)
+    (λ c κs. c .before .before .pre .1 .0 powerOn .intake)
+    (λ c κs.
+    let l = c .before .before .before .before .before .before .before .before .before .before in
+    let s = l .before .before .before in
+    let v = s .pre .1 .0 powerOn in
+    let b = l .end-line .ensures .0 in
+    (s .pre .0, (record { kept = line-told (s .args .intake) (v .intake) b; counts = λ h. fit-counts (line-totals {x = sessionIn (s .args .intake) (s .args .counts) powerOn} v b h) }, s .pre .1 .1)))
     (λ c. search needs)
     (λ c.
-    let l = c .before .before .before .before .before .before in
-    let t = l .end-line .last .1 .0 in
-    let e : length t ≡ keptSize = search needs in
-    sym (length-take-le _ t (omega (arith, line-told _ (l .before .before .before .before .pre .0 .intake) (l .end-line .ensures .0)))))
-    (λ c κs. search needs)
-    (λ c. search needs)
-    (λ c κs. let p = c .before .before .before .before .before .before .before .before .before .before .pre in (line-totals (p .0) (c .before .before .before .before .before .before .end-line .ensures .0) (c .before .before .before .enum-told3 .given .1), p .1))
-    (λ c. let e = c .before .before .before .end-line .ensures in fed (line-nothing _ _ _ (e .0) (e .1) (c .enum-told .given .1)) put-nothing)
-    (λ c. search needs)
-    (λ c. let e = c .before .before .before .before .before .before .before .before .before .before .before .end-line .ensures in fed-as (line-text _ _ _ (e .0) (e .1) (c .before .before .before .before .before .before .before .before .enum-told2 .given .1)) (c .before .before .open-set .ensures _ _))
-    (λ c. search needs)
-    (λ c. let e = c .before .before .before .before .before .before .before .before .before .end-line .ensures in fed-as (line-beat _ _ _ (e .0) (e .1) (c .before .before .before .before .before .before .enum-told3 .given .1)) (c .before .before .beat-end .ensures _)))
+    let w = c .before .before in
+    let l = w .before .before .before .before .before .before .before .before .before .before .before in
+    let s = l .before .before .before in
+    (w .work-arrival .ensures .0, fed-as (line-as _ _ _ (l .end-line .ensures .1)) (w .work-arrival .ensures .1 (lineOver (s .args .intake)) (l .end-line .ensures .0)))))

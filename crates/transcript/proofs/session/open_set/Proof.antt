@@ -1,5 +1,6 @@
 -- `session::open_set` meets its contract: by the code of the load.
 use borrow.Author.Needs.{needs}
+use Rattle.transcript.specs.SessionAnswers.{sessionOf}
 use Rattle.transcript.proofs.StepLaws.{fed, opens, opens-not}
 use Rattle.values.specs.PutLaws.{put-nothing}
 use Rattle.transcript.proofs.session.open_set.Statement.{statement}
@@ -12,10 +13,19 @@ open-set-spec =
     (λ c κs. search needs)
     (λ c κs. search needs)
     (λ c κs. search needs)
+    (λ c κs. search needs)
     (λ c. search needs)
-    (λ c m s.
+    (λ c.
     let p = c .before .before .before in
     let i = p .before .before in
-    let l = i .before .load in
-    fed (opens-not m s _ _ (l .ensures .0) (l .ensures .1) (i .if1 .taken) (c .stop-session .ensures)) (p .load-line .ensures))
-    (λ c m s. let l = c .before .load in fed (opens m s _ _ (l .ensures .0) (l .ensures .1) (c .if1 .left)) put-nothing))
+    let l = i .before .before .before .before in
+    let a = l .before .before .before .before .args in (
+      i .before .read-lines .ensures,
+      λ m s n. fed (opens-not m s (sessionOf (a .intake) n) _ (l .load .ensures .0) (l .load .ensures .1) (i .if1 .taken) (c .stop .ensures)) (p .load-line .ensures),
+    ))
+    (λ c.
+    let l = c .before .before .before .before in
+    let a = l .before .before .before .before .args in (
+      c .before .read-lines .ensures,
+      λ m s n. fed (opens m s (sessionOf (a .intake) n) _ (l .load .ensures .0) (l .load .ensures .1) (c .if1 .left)) put-nothing,
+    )))

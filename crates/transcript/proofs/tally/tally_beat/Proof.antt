@@ -1,39 +1,54 @@
--- `tally::tally_beat` meets its contract: what the beat answers, printed and counted.
+-- `tally::tally_beat` meets its contract: what the beat in place answers, printed and counted.
 use borrow.Author.Needs.{needs}
 use native.Mathlib.Omega.{arith}
+use mathlib.Core.Path.{_≡_}
+use Prim.Native.Nat.{_≤_}
+use lib.ListN.{length}
 use denote.Ref.{now}
+use Rattle.engine.specs.Beat.{bufferSize}
+use Rattle.engine.specs.Held.{Held, heldIn}
+use Rattle.engine.specs.Order.{maxOrders}
+use Rattle.engine.specs.State.{powerOn}
 use Rattle.transcript.specs.MaybeLent.{lentIn}
 use Rattle.transcript.proofs.TallyBeatLaws.{code-near, few-orders, beat-counted, beat-put}
 use Rattle.transcript.proofs.tally.tally_beat.Statement.{statement}
 use Rattle.transcript.proofs.tally.tally_beat.Tie as tie
+
+-- what the beat is lent
+abbrev held : tie.Start → Held
+held s = let a = s .args in heldIn (now (a .r)) (now (a .cells)) (now (a .runs)) (now (a .locked)) (now (a .memory)) (now (a .orders))
+
+size : (c : tie.After-beat-over) → length (now (c .before .before .before .before .before .before .before .before .before .before .args .orders)) ≡ bufferSize
+size c = search needs
+
+few : (c : tie.After-beat-over) → c .beat-over .result .orders ≤ maxOrders
+few c =
+    let s = c .before .before .before .before .before .before .before .before .before .before in
+    let a = s .args in
+    few-orders (now (a .set)) (a .counts) (lentIn (a .lent)) (now (a .cancelled)) (held s) (s .pre .0) (size c) (c .beat-over .ensures)
 
 pub tally-beat-spec : {M : Type 1} → statement M
 tally-beat-spec =
     tie.close
     (tie.spec
     (λ c. search needs)
-    (λ c. search needs)
     (λ c κs. search needs)
-    (λ c. let f = c .before .before .before .before .before .before .before .before .before .pre .0 in omega (arith, f .beats))
-    (λ c κs. let w = c .before .before .before .before .before .before .before .before .before .pre .1 in omega arith)
-    (λ c. search needs)
+    (λ c. let f = c .before .before .before .before .before .before .before .before .before .before .before .before .pre .1 .0 powerOn in omega (arith, f .beats))
+    (λ c κs. let w = c .before .before .before .before .before .before .before .before .before .before .before .before .pre .1 .1 in omega arith)
     (λ c κs.
-    let l = c .before .before .before .before in
-    let b = l .before .before .before .before in
-    let s = b .before .before .before .before .before .before in
-    let few = few-orders (now (s .args .set)) (s .args .totals) (lentIn (s .args .lent)) (b .beat .ensures .0) in
+    let l = c .before .before .before .before .before in
+    let b = l .before .before .before in
+    let n = few b in
     let near = code-near _ _ _ (l .code-line .ensures) in
-    (omega (arith, s .pre .1), few))
-    (λ c κs.
-    let b = c .before .before .before .before .before .before .before .before .before .before .before .before in
-    let s = b .before .before .before .before .before .before in
-    (s .pre .0, few-orders (now (s .args .set)) (s .args .totals) (lentIn (s .args .lent)) (b .beat .ensures .0)))
+    (omega (arith, b .before .before .before .before .before .before .before .before .before .before .pre .1 .1), n))
+    (λ c κs. let b = c .before .before .before .before .before .before .before .before .before .before .before in (b .before .before .before .before .before .before .before .before .before .before .pre .1 .0, few b))
     (λ c. search needs)
     (λ c.
-    let o = c .before .before .before .before in
-    let l = o .before .before .before .before .before in
-    let b = l .before .before .before .before in
-    let a = b .before .before .before .before .before .before .args in (
-      beat-counted (now (a .set)) (a .totals) (lentIn (a .lent)) (b .beat .ensures .0) (c .count .ensures),
-      beat-put (now (a .set)) (a .totals) (lentIn (a .lent)) (b .beat .ensures .0) (b .beat .ensures .1) (l .code-line .ensures) (o .order-lines .ensures),
+    let o = c .before .before .before in
+    let l = o .before .before .before .before .before .before in
+    let b = l .before .before .before in
+    let s = b .before .before .before .before .before .before .before .before .before .before in
+    let a = s .args in (
+      beat-counted (now (a .set)) (a .counts) (lentIn (a .lent)) (now (a .cancelled)) (held s) (s .pre .0) (size b) (b .beat-over .ensures) (c .count .ensures),
+      beat-put (now (a .set)) (a .counts) (lentIn (a .lent)) (now (a .cancelled)) (held s) (s .pre .0) (size b) (b .beat-over .ensures) (l .code-line .ensures) (o .order-lines .ensures),
     )))

@@ -1,0 +1,39 @@
+-- `session::work_arrival` meets its contract: by what was brought.
+use borrow.Author.Needs.{needs}
+use native.Mathlib.Omega.{arith}
+use mathlib.Core.Path.{_≡_, sym}
+use lib.ListN.{length}
+use lib.Seq.{length-take-le}
+use denote.Ref.{now}
+use Rattle.transcript.specs.SetText.{keptSize}
+use Rattle.transcript.proofs.StepLaws.{fed, fed-as, came-nothing, came-text, came-beat}
+use Rattle.values.specs.PutLaws.{put-nothing}
+use Rattle.transcript.proofs.session.work_arrival.Statement.{statement}
+use Rattle.transcript.proofs.session.work_arrival.Tie as tie
+
+pub work-arrival-spec : {M : Type 1} → statement M
+work-arrival-spec =
+    tie.close
+    (tie.spec
+    (λ c. search needs)
+    (λ c. search needs)
+    (λ c.
+    let s = c .before .before .before .before .before .before in
+    let t = now (s .args .text) in
+    let e : length t ≡ keptSize = search needs in
+    sym (length-take-le _ t (omega (arith, s .pre .1 .0 .kept))))
+    (λ c κs. search needs)
+    (λ c. search needs)
+    (λ c κs.
+    let b = c .before .before .before .before .before .before .before .before .before .before in
+    let p = b .before .before .before .before .pre in
+    (p .0, (p .1 .0 .counts (b .enum-told3 .given .1), p .1 .1)))
+    (λ c. (c .before .before .before .before .pre .0, λ a e. fed (came-nothing _ _ _ a e (c .enum-told .given .1)) put-nothing))
+    (λ c. search needs)
+    (λ c.
+    let o = c .before .before .before in
+    (o .open-set .ensures .0, λ a e. fed-as (came-text _ _ _ a e (o .before .before .before .before .before .before .enum-told2 .given .1)) (o .open-set .ensures .1 _ _ _)))
+    (λ c. search needs)
+    (λ c.
+    let b = c .before .before in
+    (b .before .before .before .before .before .before .before .before .before .before .before .before .before .before .before .pre .0, λ a e. fed-as (came-beat _ _ _ a e (b .before .before .before .before .before .before .before .before .before .before .before .enum-told3 .given .1)) (b .beat-end .ensures _))))
