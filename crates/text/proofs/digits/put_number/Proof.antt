@@ -1,7 +1,7 @@
 -- `digits::put_number` meets its contract: past the buffer's end nothing is put.
 use borrow.Author.Needs.{needs}
 use native.Mathlib.Omega.{arith}
-use mathlib.Core.Path.{sym, ap, _∙_}
+use mathlib.Core.Path.{_≡_, sym, ap, _∙_}
 use mathlib.Core.List.{List}
 use lib.ListN.{length}
 use Prim.Native.Nat.{ℕ}
@@ -12,6 +12,12 @@ use Rattle.values.specs.PutAt.{putAt}
 use Rattle.values.specs.PutLaws.{put-within}
 use Rattle.text.proofs.digits.put_number.Statement.{statement}
 use Rattle.text.proofs.digits.put_number.Tie as tie
+
+-- the place within the buffer is as good as the given one
+placed : (w : tie.After-within) → let a = w .before .before .before .before .args in putAt (now (a .out)) (w .within .result) (decimal (a .n)) ≡ putAt (now (a .out)) (a .at) (decimal (a .n))
+placed w =
+    let a = w .before .before .before .before .args in
+    ap (λ (y : ℕ). putAt (now (a .out)) y (decimal (a .n))) (w .within .ensures) ∙ put-within (decimal (a .n)) (now (a .out)) (a .at)
 
 pub put-number-spec : {M : Type 1} → statement M
 put-number-spec =
@@ -28,11 +34,10 @@ put-number-spec =
     (ap (λ (l : List ℕ). length l) (sym e), p .put .ensures ∙ ap (λ (l : List ℕ). putAt (now (a .out)) (a .at) l) (sym e)))
     (λ c κs. search needs)
     (λ c κs. search needs)
-    (λ c. omega (arith, c .before .before .put-digits .ensures .behind))
+    (λ c. omega (arith, c .within .ensures))
+    (λ c κs. let w = c .before .before in (w .before .digit-count .ensures, omega (arith, w .within .ensures)))
     (λ c. search needs)
-    (λ c.
-    let d = c .before .before in
-    let w = d .before .before in
-    let a = w .before .before .before .args in
-    let e = d .put-digits .ensures in
-    (omega (arith, e .behind), e .put ∙ ap (λ (y : ℕ). putAt (now (a .out)) y (decimal (a .n))) (w .within .ensures) ∙ put-within (decimal (a .n)) (now (a .out)) (a .at))))
+    (λ c. let d = c .before .before in let w = d .before .before .before in (w .before .digit-count .ensures, d .fill-digits .ensures ∙ placed w))
+    (λ c κs. search needs)
+    (λ c. search needs)
+    (λ c. let d = c .before .before in let w = d .before .before .before in (w .before .digit-count .ensures, d .put-digits .ensures .put ∙ placed w)))
