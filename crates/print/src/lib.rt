@@ -1,0 +1,1 @@
+// The print of a loaded set (document 02, Req 01).
