@@ -1,6 +1,9 @@
--- The print of a set (document 02, Req 01): TokenText how a token and a line are written, ReadBack what is read back of a token. Definitions; their laws are in ..Laws.
+-- The print of a set (document 02, Req 01): TokenText how a token and a line are written, PrintText the print of a set and what the call answers, ReadBack what is read back of a token. Definitions; their laws are in ..Laws.
+-- Theorems: LineBack that a line is read back, LineShorter that it takes no more bytes than it was read from, SpaceNeeded that a space is printed just where it is needed.
 pub mod TokenText
+pub mod PrintText
 pub mod ReadBack
+mod TokenTable
 pub mod DecimalLaws
 pub mod NumberBackLaws
 pub mod TokenBackLaws
@@ -8,3 +11,7 @@ pub mod LineBack
 pub mod NumberShorterLaws
 pub mod ToldLaws
 pub mod LineShorter
+pub mod TokenBytesLaws
+pub mod SpaceNeeded
+pub mod RoomLaws
+pub mod PrintLaws

@@ -119,6 +119,10 @@ pub neither : (a b : Bool) → (a || b) ≡ false → (a ≡ false) × (b ≡ fa
 neither true b h = contrary refl h
 neither false b h = (refl, h)
 
+pub or-none : (b : Bool) → (b || false) ≡ b
+or-none true = refl
+or-none false = refl
+
 not-first : (a b : Bool) → (a && b) ≡ false → b ≡ true → a ≡ false
 not-first true b h g = contrary g h
 not-first false b h g = refl
@@ -129,7 +133,7 @@ starts-no-sign c h = (λ e. contrary h (rw e), λ e. contrary h (rw e))
 digit-no-sign : (c : ℕ) → isDigit c ≡ true → (c ≡ 61 → ⊥) × (c ≡ 62 → ⊥)
 digit-no-sign c h = let (l, u) = digit-bounds c h in (λ e. omega arith, λ e. omega arith)
 
-number-follows : (u : ℕ) → isNumber u ≡ true → isFollowing u ≡ true
+pub number-follows : (u : ℕ) → isNumber u ≡ true → isFollowing u ≡ true
 number-follows u h = let l = leb-true NUMBER u h in rw (number-goes u h, lt-leb u 43 (omega arith), and-false (leb 32 u))
 
 -- where no space is needed before a token, the token before it stops there

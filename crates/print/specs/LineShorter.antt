@@ -18,7 +18,7 @@ use Rattle.print.specs.LineBack.{Printables, gap-none, gap-some}
 use Rattle.print.specs.ToldLaws.{Left, side-by-side, Told, first-told}
 
 -- by the first byte: none, a space, no token, or a token of a byte and k more
-by-bytes : (P : List ℕ → Type 0) (t : List ℕ) → P [] → ((b : ℕ) (bs : List ℕ) → isSpace b ≡ true → tokensOf (b ∷ bs) ≡ tokensOf bs → P (b ∷ bs)) → ((b : ℕ) (bs : List ℕ) → tokensOf (b ∷ bs) .good ≡ false → P (b ∷ bs)) →
+pub by-bytes : (P : List ℕ → Type 0) (t : List ℕ) → P [] → ((b : ℕ) (bs : List ℕ) → isSpace b ≡ true → tokensOf (b ∷ bs) ≡ tokensOf bs → P (b ∷ bs)) → ((b : ℕ) (bs : List ℕ) → tokensOf (b ∷ bs) .good ≡ false → P (b ∷ bs)) →
     ((b : ℕ) (bs : List ℕ) (k : ℕ) → k ≤ length bs → Told b bs (firstToken (b ∷ bs) .token) k → tokensOf (b ∷ bs) ≡ withToken (firstToken (b ∷ bs) .token) (tokensOf (drop k bs)) → P (b ∷ bs)) → P t
 by-bytes P [] none space bad one = none
 by-bytes P (b ∷ bs) none space bad one =

@@ -38,11 +38,11 @@ scan-first (b ∷ bs) rest t l s h =
 -- ---- names
 
 -- every byte passes a test, computed
-abbrev each : (ℕ → Bool) → List ℕ → Bool
+abbrev pub each : (ℕ → Bool) → List ℕ → Bool
 each p [] = true
 each p (b ∷ bs) = p b && each p bs
 
-each-all : (p : ℕ → Bool) (bs : List ℕ) → each p bs ≡ true → All p bs
+pub each-all : (p : ℕ → Bool) (bs : List ℕ) → each p bs ≡ true → All p bs
 each-all p [] h = tt
 each-all p (b ∷ bs) h = let (x, y) = both (p b) (each p bs) h in (x, each-all p bs y)
 
@@ -183,11 +183,11 @@ by-token P t num sig wor =
     decide P (isNumber t) (λ e. num e (chosen _ _ _ e)) λ e.
     decide P (goesOn t) (λ g. wor e g (refused _ _ _ e)) (λ g. sig e g (refused _ _ _ e))
 
-back-number : (t : ℕ) → isNumber t ≡ true → readBack t ≡ NUMBER + (thousandths (numberCarried t) * 2 + mark (thousandths (numberCarried t) % unit))
+pub back-number : (t : ℕ) → isNumber t ≡ true → readBack t ≡ NUMBER + (thousandths (numberCarried t) * 2 + mark (thousandths (numberCarried t) % unit))
 unfolding readBack
 back-number t e = chosen _ _ _ e
 
-back-other : (t : ℕ) → isNumber t ≡ false → readBack t ≡ t
+pub back-other : (t : ℕ) → isNumber t ≡ false → readBack t ≡ t
 unfolding readBack
 back-other t e = refused _ _ _ e
 

@@ -53,9 +53,9 @@ goesOn t = leb ID t
 abbrev pub isFollowing : ℕ → Bool
 isFollowing t = goesOn t && not (isVariable t)
 
--- = < > and a sign behind it that would be read as one sign with it, or in part
+-- a sign and the one behind it that would be read as one, or as others: = < or > before = or ==, and < before > or >=
 abbrev pub isOneSign : ℕ → ℕ → Bool
-isOneSign t u = (eqb t EQUALS || (eqb t LESS || eqb t MORE)) && (between EQUALS SAME u || (eqb t LESS && (eqb u MORE || eqb u ATLEAST)))
+isOneSign t u = ((eqb t EQUALS || (eqb t LESS || eqb t MORE)) && between EQUALS SAME u) || (eqb t LESS && (eqb u MORE || eqb u ATLEAST))
 
 -- without a space they would not read as they stand
 unfoldable pub needsSpace : ℕ → ℕ → Bool

@@ -59,7 +59,7 @@ no-sign t k h u = let l = leb-true 16 t h in ne-eqb t k (λ e. omega arith)
 pub no-sign-one : (t u : ℕ) → goesOn u ≡ true → isOneSign t u ≡ false
 no-sign-one t u h =
     let l = leb-true 16 u h in
-    rw (lt-leb u 2 (omega arith), and-false (leb 1 u), no-sign u 5 h (omega arith), no-sign u 7 h (omega arith), and-false (eqb t 4)) (and-false (eqb t 1 || (eqb t 4 || eqb t 5)))
+    rw (lt-leb u 2 (omega arith), and-false (leb 1 u), and-false (eqb t 1 || (eqb t 4 || eqb t 5)), no-sign u 5 h (omega arith), no-sign u 7 h (omega arith)) (and-false (eqb t 4))
 
 pub one-no-sign : (t u : ℕ) → goesOn t ≡ true → isOneSign t u ≡ false
 one-no-sign t u h = rw (no-sign t 1 h (omega arith), no-sign t 4 h (omega arith), no-sign t 5 h (omega arith))

@@ -1,1 +1,6 @@
-// The print of a loaded set (document 02, Req 01).
+// The print of a loaded set: what the control really holds, as text that loads to the same set (document 02, Req 01).
+//
+// No public call asks anything of its caller.
+mod set_print;
+
+pub use set_print::Printed;

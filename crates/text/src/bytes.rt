@@ -15,7 +15,7 @@ pub const SPACE: u8 = 32;
 pub(crate) const DOLLAR: u8 = 36;
 
 // .
-pub(crate) const POINT: u8 = 46;
+pub const POINT: u8 = 46;
 
 // ; begins a comment
 const COMMENT: u8 = 59;

@@ -1,41 +1,17 @@
 -- Text put at a place of a buffer, field by field and order by order.
-use mathlib.Core.Path.{_≡_, refl, sym, ap, _∙_}
+use mathlib.Core.Path.{_≡_, sym, ap, _∙_}
 use mathlib.Core.List.{List, [], _∷_, _++_, append-assoc, append-nil}
 use Prim.Native.Nat.{ℕ, suc, _+_, _-_, _*_, _≤_, _<_}
 use native.Mathlib.Omega.{arith}
 use native.Mathlib.Numerals.{add-one}
-use lib.ListN.{length, getD, drop, length-append, drop-of-length-le}
+use lib.ListN.{length, getD, drop, drop-of-length-le}
 use lib.Seq.{drop-cons, getD-drop, drop-drop}
 use Rattle.engine.specs.Order.{orderSize}
 use Rattle.text.specs.Byte.{bytes, LF, SPACE}
 use Rattle.text.specs.Digits.{decimal, signedText}
-use Rattle.values.specs.PutAt.{putAt, IsPut}
-use Rattle.values.specs.PutLaws.{put-join}
+use Rattle.values.specs.PutAt.{IsPut}
 use Rattle.transcript.specs.OutputLaws.{fields-room}
 use Rattle.transcript.specs.Output.{spaced, printedLine, decimals, fourOf, orderLine, orderLines}
-
--- ---- what is left to put
-
--- l from place `at` on comes to `rest` from place p on
-pub record Left (s : List ℕ) (at : ℕ) (l out : List ℕ) (p : ℕ) (rest : List ℕ) : Type 0 where
-  pub put : putAt out p rest ≡ putAt s at l
-  pub behind : p + length rest ≡ at + length l
-
-module _ {s : List ℕ} {at : ℕ} {l : List ℕ} where
-  pub left-all : {rest : List ℕ} → rest ≡ l → Left s at l s at rest
-  left-all e = rw e (record { put = refl; behind = refl })
-
-  -- behind a text that is put
-  pub left-after : {out t : List ℕ} {p q : ℕ} {rest a : List ℕ} (b : List ℕ) → Left s at l out p rest → rest ≡ a ++ b → IsPut out p a t q → Left s at l t q b
-  left-after {out} {t} {p} {q} {rest} {a} b h e g =
-      record {
-        put = ap (λ (x : List ℕ). putAt x q b) (g .put) ∙ sym (put-join a b out p q (sym (g .behind))) ∙ ap (putAt out p) (sym e) ∙ h .put;
-        behind = let f = g .behind in let k = h .behind in let m = ap length e ∙ length-append a b in omega arith;
-      }
-
-  pub left-none : {out : List ℕ} {p : ℕ} {rest : List ℕ} → Left s at l out p rest → rest ≡ [] → IsPut s at l out p
-  left-none {out} {p} {rest} h e =
-      record { put = sym (ap (putAt out p) e) ∙ h .put; behind = let k = h .behind in let m = ap length e in omega arith }
 
 -- ---- fields
 

@@ -1,4 +1,4 @@
--- Document 01's codes ("Codes"), each named once; 0 is success. Definitions only.
+-- The codes of document 01 ("Codes") and document 02, each named once; 0 is success. Definitions only.
 use Prim.Native.Nat.{ℕ}
 
 -- text above 4,096 bytes
@@ -60,6 +60,10 @@ wrongNumbers = 21
 -- set or state not sound
 abbrev pub unsound : ℕ
 unsound = 22
+
+-- print buffer under 4,096 bytes, or too short for the print
+abbrev pub shortPrint : ℕ
+shortPrint = 24
 
 -- a result outside the values
 abbrev pub outOfRange : ℕ

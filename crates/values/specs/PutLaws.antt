@@ -1,4 +1,4 @@
--- Laws of a list that is put into an array: its length, what stands before it, past the end, and two lists put as one. Assumes nothing.
+-- Laws of a list that is put into an array: its length, what stands before it, past the end, two lists put as one, and what is left to put. Assumes nothing.
 use mathlib.Core.Path.{_≡_, refl, sym, ap, _∙_}
 use mathlib.Core.List.{List, [], _∷_, _++_}
 use Prim.Native.Nat.{ℕ, _+_, min, _≤_, _<_}
@@ -72,3 +72,26 @@ put-both {s} {t} {u} {a} {b} {p} {q} {r} h g =
 -- a text by another name
 pub put-as : {s a b t : List ℕ} {p q : ℕ} → b ≡ a → IsPut s p a t q → IsPut s p b t q
 put-as e h = rw e h
+
+-- ---- what is left to put
+
+-- l from place `at` on comes to `rest` from place p on
+pub record Left (s : List ℕ) (at : ℕ) (l out : List ℕ) (p : ℕ) (rest : List ℕ) : Type 0 where
+  pub put : putAt out p rest ≡ putAt s at l
+  pub behind : p + length rest ≡ at + length l
+
+module _ {s : List ℕ} {at : ℕ} {l : List ℕ} where
+  pub left-all : {rest : List ℕ} → rest ≡ l → Left s at l s at rest
+  left-all e = rw e (record { put = refl; behind = refl })
+
+  -- behind a text that is put
+  pub left-after : {out t : List ℕ} {p q : ℕ} {rest a : List ℕ} (b : List ℕ) → Left s at l out p rest → rest ≡ a ++ b → IsPut out p a t q → Left s at l t q b
+  left-after {out} {t} {p} {q} {rest} {a} b h e g =
+      record {
+        put = ap (λ (x : List ℕ). putAt x q b) (g .put) ∙ sym (put-join a b out p q (sym (g .behind))) ∙ ap (putAt out p) (sym e) ∙ h .put;
+        behind = let f = g .behind in let k = h .behind in let m = ap length e ∙ length-append a b in omega arith;
+      }
+
+  pub left-none : {out : List ℕ} {p : ℕ} {rest : List ℕ} → Left s at l out p rest → rest ≡ [] → IsPut s at l out p
+  left-none {out} {p} {rest} h e =
+      record { put = sym (ap (putAt out p) e) ∙ h .put; behind = let k = h .behind in let m = ap length e in omega arith }

@@ -1,4 +1,4 @@
-// Document 01's codes, each named once; 0 is success.
+// The codes of documents 01 and 02, each named once; 0 is success.
 
 // Text above 4,096 bytes.
 pub const TOO_LONG: u8 = 1;
@@ -44,6 +44,9 @@ pub const WRONG_NUMBERS: u8 = 21;
 
 // Set or state not sound.
 pub const UNSOUND: u8 = 22;
+
+// Print buffer under 4,096 bytes, or too short for the print.
+pub const SHORT_PRINT: u8 = 24;
 
 // A result outside the values.
 pub(crate) const OUT_OF_RANGE: u8 = 30;

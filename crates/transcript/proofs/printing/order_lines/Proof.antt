@@ -5,9 +5,10 @@ use Prim.Native.Nat.{_+_, _-_, _*_, _≤_}
 use lib.ListN.{length, drop}
 use denote.Ref.{now}
 use Rattle.engine.specs.Order.{orderSize}
+use Rattle.values.specs.PutLaws.{Left, left-all, left-after, left-none}
 use Rattle.transcript.specs.Output.{orderLines, orderRoom}
 use Rattle.transcript.specs.OutputLaws.{order-room}
-use Rattle.transcript.proofs.OutLaws.{Left, left-all, left-after, left-none, ordersLeft, all-left, none-left, one-less}
+use Rattle.transcript.proofs.OutLaws.{ordersLeft, all-left, none-left, one-less}
 use Rattle.transcript.proofs.printing.order_lines.Statement.{statement}
 use Rattle.transcript.proofs.printing.order_lines.Tie as tie
 

@@ -7,9 +7,9 @@ use lib.ListN.{length, getD, drop}
 use denote.Ref.{now}
 use Rattle.text.specs.Digits.{decimal}
 use Rattle.text.specs.DigitsLaws.{decimal-room}
-use Rattle.values.specs.PutLaws.{put-byte, put-sized, put-both}
+use Rattle.values.specs.PutLaws.{put-byte, put-sized, put-both, Left, left-all, left-after, left-none}
 use Rattle.transcript.specs.Output.{spaced, decimals}
-use Rattle.transcript.proofs.OutLaws.{Left, left-all, left-after, left-none, field-next, fields-over}
+use Rattle.transcript.proofs.OutLaws.{field-next, fields-over}
 use Rattle.transcript.proofs.printing.put_numbers.Statement.{statement}
 use Rattle.transcript.proofs.printing.put_numbers.Tie as tie
 
