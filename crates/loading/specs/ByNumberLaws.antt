@@ -144,6 +144,10 @@ module _ (rs : List Row) (few : length rs ≤ maxLines) (apart : Apart rs) where
   pub by-rank : (i : ℕ) → i < length rs → (k : ℕ) × (k < length (byNumber rs)) × (getD (byNumber rs) k noRow ≡ getD rs i noRow)
   by-rank i l = rising-rank (length rs) 0 (count-all rs apart) i l (apart-number rs i apart l)
 
+  -- with the same sum,
+  pub by-sum : (f : Row → ℕ) → sumOf f (byNumber rs) ≡ sumOf f rs
+  by-sum f = sym (rising-sum f (length rs) 0 (count-all rs apart)) ∙ sum-all f rs apart
+
   -- in the same room
   pub by-total : total (byNumber rs) ≡ total rs
-  by-total = total-sum (byNumber rs) ∙ sym (rising-sum places (length rs) 0 (count-all rs apart)) ∙ sum-all places rs apart ∙ sym (total-sum rs)
+  by-total = total-sum (byNumber rs) ∙ by-sum places ∙ sym (total-sum rs)

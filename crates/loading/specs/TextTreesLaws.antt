@@ -267,7 +267,7 @@ trees-taken (l ∷ ls) rs (x ∷ xs) few g d =
 abbrev named : List Name → List ℕ
 named ms = map (λ (m : Name). m .number) ms
 
-each-one : (ns : List ℕ) (l : List Name) → eachKnown (lockTable ns) l ≡ true → (n : ℕ) → OneOf n (named l) → isKnown ns n ≡ true
+pub each-one : (ns : List ℕ) (l : List Name) → eachKnown (lockTable ns) l ≡ true → (n : ℕ) → OneOf n (named l) → isKnown ns n ≡ true
 unfolding eachKnown
 each-one ns (m ∷ l) h n (inl e) = rw (← e) (both (isKnown ns (m .number)) (eachKnown (lockTable ns) l) h .0)
 each-one ns (m ∷ l) h n (inr o) = each-one ns l (both (isKnown ns (m .number)) (eachKnown (lockTable ns) l) h .1) n o
@@ -319,7 +319,7 @@ actions-positive kw (b ∷ r) a n f h =
     let (x, y) = lower-zero (actionFault kw a) (actionsFault kw b r) f in
     ⊎-elim (action-positive kw a n x) (actions-positive kw r b n y) (one-split n (named (actionNames a)) (named (actionsNames b r)) (rw (map-append (λ (m : Name). m .number) (actionNames a) (actionsNames b r)) at h))
 
-line-positive : (x : Line) (n : ℕ) → lineFault x ≡ 0 → OneOf n (numbersNamed x) → 1 ≤ n
+pub line-positive : (x : Line) (n : ℕ) → lineFault x ≡ 0 → OneOf n (numbersNamed x) → 1 ≤ n
 unfolding lineFault namesIn
 line-positive (line w v m c a r) n f h = actions-positive (keywordOf c) r a n (lower-zero _ _ (lower-zero _ _ f .1) .0) h
 

@@ -53,16 +53,16 @@ module _ (s : List ℕ) (size : length s ≤ setSize) (sound : soundLines s .sou
     tree-found = let c = clean in let (l, q, h) = line-found s (startOf s k) (λ e. omega arith) (λ e. omega arith) in (l, (q, h))
 
     module _ (l : Line) (t : TreeAt s k l) where
-      tree-faultless : lineFault l ≡ 0
+      pub tree-faultless : lineFault l ≡ 0
       tree-faultless = sym (line-fault s size l (startOf s k) (t .0) (not-deep s (startOf s k) clean) (t .1)) ∙ clean
 
       tree-parts : lineOf s k ≡ partsFrom (startOf s k) l
       tree-parts = line-parts s size l (startOf s k) (t .0) (not-deep s (startOf s k) clean) (t .1) tree-faultless .0
 
-      tree-number : treeNumber l ≡ getD (soundLines s .numbers) k 0
+      pub tree-number : treeNumber l ≡ getD (soundLines s .numbers) k 0
       tree-number = sym (lines-lined s .listed sound .number k inside ∙ ap (λ (x : Told). x .number) tree-parts ∙ parts-number (startOf s k) l)
 
-      tree-short : length (lineTokens l) ≤ suc setSize
+      pub tree-short : length (lineTokens l) ≤ suc setSize
       tree-short = let z = line-fits s l (startOf s k) (t .0) (t .1) in omega arith
 
       tree-names : LineNames (Known (soundLines s .numbers)) l
@@ -81,7 +81,7 @@ module _ (s : List ℕ) (size : length s ≤ setSize) (sound : soundLines s .sou
   pub sound-trees : (ls : List Line) × TreesOf s ls
   sound-trees = let (ls, m, ts) = trees-from (soundLines s .count) 0 (omega arith) in (ls, record { count = m; trees = ts })
 
-  numbers-at : (ls : List Line) (k j : ℕ) → TreesFrom s k ls → k + length ls ≤ soundLines s .count → j < length ls → getD (map treeNumber ls) j 0 ≡ getD (soundLines s .numbers) (k + j) 0
+  pub numbers-at : (ls : List Line) (k j : ℕ) → TreesFrom s k ls → k + length ls ≤ soundLines s .count → j < length ls → getD (map treeNumber ls) j 0 ≡ getD (soundLines s .numbers) (k + j) 0
   numbers-at [] k j t c h = absurd (omega arith)
   numbers-at (l ∷ ls) k zero t c h = let z : k + 0 ≡ k = omega arith in rw z (tree-number k (omega arith) l (t .0))
   numbers-at (l ∷ ls) k (suc j) t c h = let z : k + suc j ≡ k + 1 + j = omega arith in rw z (numbers-at ls (k + 1) j (t .1) (omega arith) (omega arith))
