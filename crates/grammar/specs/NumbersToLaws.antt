@@ -15,7 +15,7 @@ use Rattle.tokens.specs.Descent.{Answer, good, stop, _>>=_, Meaning}
 use Rattle.tokens.specs.SingleFault.{bracketsOpen, opensTooMany, numberFault}
 use Rattle.checking.specs.Fault.{sight}
 use Rattle.working.specs.Working.{valueOver}
-use Rattle.grammar.specs.Tree.{Operand, number, variable, position, truth, bracket, minus, not, Product, product, Factors, noFactor, factor, Sum, sum, Terms, noTerm, term, Expression, single, compare, row, Sums, last, next, Action, assign, assignPosition, drive, code, call, Condition, always, under, Line, line, operandTokens, productTokens, factorsTokens, sumTokens, termsTokens, expressionTokens, sumsTokens, actionTokens, actionsTokens, conditionTokens, lineTokens}
+use Rattle.grammar.specs.Tree.{Operand, number, variable, position, truth, bracket, minus, not, Product, product, Factors, noFactor, factor, Sum, sum, Terms, noTerm, term, Expression, single, compare, row, Sums, last, next, Action, assign, assignPosition, drive, code, call, Condition, always, under, Line, line, treeNumber, operandTokens, productTokens, factorsTokens, sumTokens, termsTokens, expressionTokens, sumsTokens, actionTokens, actionsTokens, conditionTokens, lineTokens}
 use Rattle.grammar.specs.Meaning.{operandMeaning, productMeaning, factorsMeaning, sumMeaning, termsMeaning, expressionMeaning, sumsMeaning}
 use Rattle.grammar.specs.TreeFault.{rightFault, isFifoZero, isAlone, isRemovalTree, assignedFault, actionFault, actionsFault, keywordOf, conditionFault, lineFault}
 use Rattle.grammar.specs.TreeNames.{actionNames, actionsNames, namesIn}
@@ -286,7 +286,11 @@ module _ (f : ℕ → ℕ) (keeps : Keeps f) where
       let (k, g) = condition-same c in
       rw (k, g, actions-same (keywordOf c) r a, length-map r (actionTo f))
 
--- ---- what a line names stays
+-- ---- a line's number stays, and what it names
+
+pub to-line-number : (f : ℕ → ℕ) (l : Line) → treeNumber (numbersTo f l) ≡ treeNumber l
+unfolding numbersTo
+to-line-number f (line w v n c a r) = refl
 
 action-names-to : (f : ℕ → ℕ) (a : Action) → actionNames (actionTo f a) ≡ actionNames a
 unfolding actionTo

@@ -7,8 +7,8 @@ use Prim.Native.Nat.{ℕ, zero, suc, _≤_, _<_}
 use native.Mathlib.Omega.{arith}
 use lib.Dec.{ltb}
 use lib.ListN.{length, getD}
-use borrow.Author.Tests.{ltb-true, ltb-false}
-use Rattle.values.specs.Choice.{decide}
+use borrow.Author.Tests.{ltb-true, ltb-false, lt-ltb}
+use Rattle.values.specs.Choice.{decide, chosen}
 use Rattle.tokens.specs.Token.{maxLines}
 use Rattle.grammar.specs.Tree.{Line, lineTokens, treeNumber}
 use Rattle.engine.specs.Set.{withEnd}
@@ -90,6 +90,26 @@ module _ {A : Type 0} (f : A → ℕ) where
       let a = p x (inl refl) in
       put-rises x (inOrder f xs) 0 (omega arith) (order-rises xs (d .1) (λ z o. p z (inr o)))
       (λ z o e. d .0 (subst (λ (n : ℕ). OneOf n (map f xs)) e (one-number xs z (order-one xs z o))))
+
+  -- what rises from above n on is above n, so no two numbers are equal,
+  rises-number : (xs : List A) (n m : ℕ) → RisesBy f n xs → OneOf m (map f xs) → n < m
+  rises-number (x ∷ xs) n m h (inl e) = let l = h .0 in omega arith
+  rises-number (x ∷ xs) n m h (inr o) = let l = h .0 in let i = rises-number xs (f x) m (h .1) o in omega arith
+
+  pub rises-distinct : (xs : List A) (n : ℕ) → RisesBy f n xs → Distinct (map f xs)
+  rises-distinct [] n h = tt
+  rises-distinct (x ∷ xs) n h = ((λ o. let l = rises-number xs (f x) (f x) (h .1) o in omega arith), rises-distinct xs (f x) (h .1))
+
+  -- and it is by rising number
+  put-first : (x : A) (xs : List A) → RisesBy f (f x) xs → put f x xs ≡ x ∷ xs
+  unfolding put
+  put-first x [] h = refl
+  put-first x (y ∷ ys) h = chosen _ _ _ (lt-ltb (f x) (f y) (h .0))
+
+  pub rises-order : (xs : List A) (n : ℕ) → RisesBy f n xs → inOrder f xs ≡ xs
+  unfolding inOrder
+  rises-order [] n h = refl
+  rises-order (x ∷ xs) n h = rw (rises-order xs (f x) (h .1)) (put-first x xs (h .1))
 
   -- ---- nothing else is so
 

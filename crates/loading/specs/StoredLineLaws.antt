@@ -6,7 +6,7 @@ use Prim.Native.Nat.{ℕ, _≤_}
 use native.Mathlib.Omega.{arith}
 use lib.ListN.{length}
 use Rattle.tokens.specs.Token.{END, setSize}
-use Rattle.grammar.specs.Tree.{Line, line, lineTokens, treeNumber, WrittenAs}
+use Rattle.grammar.specs.Tree.{Line, lineTokens, treeNumber, WrittenAs}
 use Rattle.checking.specs.declared.line.Line.{Line as Parts}
 use Rattle.grammar.specs.Meaning.{Stands}
 use Rattle.tokens.specs.SingleFault.{opensTooMany}
@@ -15,8 +15,7 @@ use Rattle.grammar.specs.TreeFault.{lineFault, partsFrom}
 use Rattle.grammar.specs.TreeNames.{namesIn, eachKnown}
 use Rattle.grammar.specs.TreeOf.{treeOf}
 use Rattle.grammar.specs.TreeOfLaws.{tree-of-tokens}
-use Rattle.grammar.specs.NumbersTo.{numbersTo}
-use Rattle.grammar.specs.NumbersToLaws.{to-opens, to-names-in}
+use Rattle.grammar.specs.NumbersToLaws.{to-opens, to-line-number, to-names-in}
 use Rattle.grammar.specs.ClosedTokens.{line-fits}
 use Rattle.grammar.specs.StandsLaws.{opens-stands}
 use Rattle.grammar.specs.AgreementLine.{line-fault, line-parts, parts-number}
@@ -54,10 +53,6 @@ written ts fine =
     let w = faultless ts fine in
     record { tree = w .tree; tokens = tree-of-tokens ts (w .tree) .0 (w .found); faultless = w .clean; shallow = w .shallow; number = rw (w .found); names = rw (w .found) }
 
-unmarked-number : (l : Line) → treeNumber (unmarkedTree l) ≡ treeNumber l
-unfolding numbersTo
-unmarked-number (line w v n c a r) = refl
-
 module _ (ts : List ℕ) (w : Written ts) where
   -- the tokens without marks are those of the tree without marks
   held-tokens : withEnd (map withoutMark ts) ≡ lineTokens (unmarkedTree (w .tree))
@@ -74,7 +69,7 @@ module _ (ts : List ℕ) (w : Written ts) where
         let o = opens-stands s (map withoutMark ts) p q 0 h ∙ opens-unmarked ts 0 ∙ w .shallow in
         let f = unmarked-fault (w .tree) ∙ w .faultless in
         let (x, y) = line-parts s size l p q o stands f in
-        (stands, line-fault s size l p q o stands ∙ f, ap (λ (z : Parts). z .number) x ∙ parts-number p l ∙ unmarked-number (w .tree), x)
+        (stands, line-fault s size l p q o stands ∙ f, ap (λ (z : Parts). z .number) x ∙ parts-number p l ∙ to-line-number unmarked (w .tree), x)
 
     -- and it names only what is known, if it named only such as is known
     pub names-held : (known known′ : ℕ → ℕ → Bool) → ((w n : ℕ) → known′ w n ≡ true → known w n ≡ true) → eachKnown known′ (namesOfTree (treeOf ts)) ≡ true → namesKnown s known setSize p ≡ true

@@ -1,6 +1,6 @@
 -- The room of a text: the lines that are taken from it, one place more for the end of each, fit one place more than its bytes. Assumes nothing.
 use mathlib.Core.Path.{_≡_}
-use mathlib.Core.List.{List, [], _∷_, _++_}
+use mathlib.Core.List.{List, [], _∷_, _++_, map}
 use Prim.Native.Nat.{ℕ, suc, _+_, _≤_}
 use native.Mathlib.Omega.{arith}
 use lib.ListN.{length}
@@ -20,18 +20,30 @@ unfoldable pub roomOf : List Numbered → ℕ
 roomOf [] = 0
 roomOf (l ∷ ls) = length (tokensOf (l .body) .list) + 1 + roomOf ls
 
-numbered-room : (bs : List (List ℕ)) (k : ℕ) → roomOf (numbered k bs) ≤ room bs
-unfolding roomOf numbered
+-- the bodies of some lines with tokens
+abbrev pub bodiesOf : List Numbered → List (List ℕ)
+bodiesOf ls = map (λ (l : Numbered). l .body) ls
+
+numbered-room : (bs : List (List ℕ)) (k : ℕ) → room (bodiesOf (numbered k bs)) ≤ room bs
+unfolding numbered
 numbered-room [] k = omega arith
 numbered-room (b ∷ bs) k =
     let i = numbered-room bs (suc k) in
-    let w = tokens-within b in
     decide _ (isBlank b) (λ t. rw (t, numbered) (omega arith)) (λ t. rw (t, numbered) (omega arith))
 
--- the tokens of a text, one place more for the end of each line, take one place more than its bytes at most
-pub text-room : (t : List ℕ) → roomOf (tokenLines t) ≤ length t + 1
+-- they take one byte more than the text at most, with one more each
+pub bodies-room : (t : List ℕ) → room (bodiesOf (tokenLines t)) ≤ length t + 1
 unfolding tokenLines
-text-room t = let n = numbered-room (bodies (textLines t)) 1 in let l = lines-room t in omega arith
+bodies-room t = let n = numbered-room (bodies (textLines t)) 1 in let l = lines-room t in omega arith
+
+tokens-room : (ls : List Numbered) → roomOf ls ≤ room (bodiesOf ls)
+unfolding roomOf
+tokens-room [] = omega arith
+tokens-room (l ∷ ls) = let i = tokens-room ls in let w = tokens-within (l .body) in omega arith
+
+-- so do the tokens of a text, one place more for the end of each line
+pub text-room : (t : List ℕ) → roomOf (tokenLines t) ≤ length t + 1
+text-room t = let n = tokens-room (tokenLines t) in let l = bodies-room t in omega arith
 
 pub total-last : (rs : List Row) (r : Row) → total (rs ++ (r ∷ [])) ≡ total rs + length (r .tokens) + 1
 unfolding total

@@ -12,3 +12,4 @@ pub mod PrintFits
 pub mod PrintTakenLaws
 pub mod PrintLoad
 pub mod PrintOfText
+mod RoundTripTable

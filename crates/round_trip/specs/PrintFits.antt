@@ -1,16 +1,16 @@
 -- A SET THAT CAME FROM TEXT PRINTS IN AT MOST 4,096 BYTES (document 02, Req 01): each line takes no more bytes than the text had for it. Theorem; nothing is assumed.
 use mathlib.Core.Path.{_≡_, refl, ap, subst}
 use mathlib.Core.List.{List, [], _∷_, map}
-use Prim.Native.Nat.{ℕ, suc, _+_, _≤_}
+use Prim.Native.Nat.{ℕ, _+_, _≤_}
 use native.Mathlib.Omega.{arith}
 use lib.ListN.{length, length-append}
-use Rattle.values.specs.Choice.{decide}
 use Rattle.tokens.specs.Token.{textSize}
-use Rattle.text.specs.Lines.{Numbered, textLines, bodies, isBlank, numbered, tokenLines}
-use Rattle.text.specs.LinesLaws.{room, lines-room}
+use Rattle.text.specs.Lines.{Numbered, tokenLines}
+use Rattle.text.specs.LinesLaws.{room}
 use Rattle.reader.specs.Row.{Row, byNumber}
 use Rattle.reader.specs.Load.{taken, rowOf, outcome, loadSet}
 use Rattle.reader.specs.RisingLaws.{sumOf}
+use Rattle.reader.specs.RoomLaws.{bodiesOf, bodies-room}
 use Rattle.loading.specs.LoadAnswers.{refused-empty, by-outcome}
 use Rattle.loading.specs.StoredLineLaws.{written}
 use Rattle.loading.specs.TakenLaws.{All, AllTokens, Fine, taking, taken-rows, taken-tokens, taken-fine}
@@ -53,27 +53,13 @@ held-room (r ∷ rs) = rw (line-unmarked (r .tokens), held-room rs)
 fine-prints : (r : Row) → Fine r → Printables (r .tokens)
 fine-prints r f = let w = written (r .tokens) (f .clean) in subst Printables (written-front (w .tree) (r .tokens) (w .tokens)) (line-prints (w .tree) (w .faultless))
 
-abbrev body : Numbered → List ℕ
-body l = l .body
-
-printed-room : (ls : List Numbered) → AllTokens ls → All Fine (map rowOf ls) → sumOf printed (map rowOf ls) ≤ room (map body ls)
+printed-room : (ls : List Numbered) → AllTokens ls → All Fine (map rowOf ls) → sumOf printed (map rowOf ls) ≤ room (bodiesOf ls)
 unfolding sumOf
 printed-room [] g f = omega arith
 printed-room (l ∷ ls) g f =
     let i = printed-room ls (g .1) (f .1) in
     let s = line-shorter (l .body) (g .0) (fine-prints (rowOf l) (f .0)) in
     omega arith
-
-numbered-room : (bs : List (List ℕ)) (k : ℕ) → room (map body (numbered k bs)) ≤ room bs
-unfolding numbered
-numbered-room [] k = omega arith
-numbered-room (b ∷ bs) k =
-    let i = numbered-room bs (suc k) in
-    decide _ (isBlank b) (λ t. rw (t, numbered) (omega arith)) (λ t. rw (t, numbered) (omega arith))
-
-text-room : (t : List ℕ) → room (map body (tokenLines t)) ≤ length t + 1
-unfolding tokenLines
-text-room t = let n = numbered-room (bodies (textLines t)) 1 in let l = lines-room t in omega arith
 
 -- ---- the theorem
 
@@ -83,7 +69,7 @@ taken-fits t rs h =
     let (apart, few) = rows-apart t rs h in
     let e = taken-rows t rs h in
     let a = printed-room (tokenLines t) (taken-tokens t rs h) (subst (All Fine) e (taken-fine t rs h)) in
-    let b = text-room t in
+    let b = bodies-room t in
     let c = ap (sumOf printed) e in
     let d = by-sum rs few apart printed in
     let g = held-room (byNumber rs) in

@@ -1,30 +1,27 @@
 -- Laws of the print of lines without a fault, by rising number, that name only each other: it passes each loading check but that of its length; if it is short enough, it is taken, and the set that it gives holds these lines. Nothing is assumed.
 use mathlib.Core.Path.{_≡_, refl, sym, ap, subst, _∙_}
 use mathlib.Core.List.{List, [], _∷_, map}
-use mathlib.Core.Logic.{inl, inr}
-use Prim.Native.Nat.{ℕ, suc, _≤_, _<_}
+use Prim.Native.Nat.{ℕ, suc, _≤_}
 use native.Mathlib.Omega.{arith}
 use lib.ListN.{length}
-use borrow.Author.Tests.{lt-ltb}
-use Rattle.values.specs.Choice.{chosen}
 use Rattle.tokens.specs.Token.{textSize}
-use Rattle.grammar.specs.Tree.{Line, line, treeNumber}
+use Rattle.grammar.specs.Tree.{Line, treeNumber}
 use Rattle.grammar.specs.TreeNames.{Name}
 use Rattle.grammar.specs.ClosedTokens.{front, front-end}
 use Rattle.grammar.specs.NumbersTo.{numbersTo}
-use Rattle.grammar.specs.NumbersToLaws.{to-opens, to-fault, to-names-in}
+use Rattle.grammar.specs.NumbersToLaws.{to-opens, to-fault, to-line-number, to-names-in}
 use Rattle.engine.specs.Set.{withoutMark, withEnd}
 use Rattle.soundness.specs.AnswerCodes.{OneOf}
 use Rattle.text.specs.Tokens.{Tokens, tokensOf}
 use Rattle.text.specs.Lines.{Numbered}
 use Rattle.reader.specs.Row.{Row, byNumber, setOf}
 use Rattle.reader.specs.Load.{taken, rowOf, outcome, loadSet}
-use Rattle.loading.specs.TextTrees.{Distinct, put, inOrder, RisesBy, GoodLine, GoodLines, AllNameOnly, Takes}
+use Rattle.loading.specs.TextTrees.{RisesBy, GoodLine, GoodLines, AllNameOnly, Takes}
 use Rattle.loading.specs.TextTreesLaws.{numbers, number-row}
 use Rattle.loading.specs.TextByTrees.{trees-rows, takes-rows}
 use Rattle.loading.specs.LoadAnswers.{taken-answer}
 use Rattle.loading.specs.LoadedLaws.{rows-apart}
-use Rattle.loading.specs.RisingTreesLaws.{by-order}
+use Rattle.loading.specs.RisingTreesLaws.{rises-distinct, rises-order, by-order}
 use Rattle.print.specs.TokenText.{lineText}
 use Rattle.print.specs.PrintText.{rowsText}
 use Rattle.print.specs.ReadBack.{readBack}
@@ -54,10 +51,6 @@ good-line k x g =
       faultless = to-fault remarked remarked-keeps x ∙ g .faultless;
     }
 
-same-number : (x : Line) → treeNumber (remarkedTree x) ≡ treeNumber x
-unfolding numbersTo
-same-number (line w v n c a r) = refl
-
 -- ---- all lines
 
 good-lines : (xs : List Line) (k : ℕ) → GoodTrees xs → GoodLines (printedLines k xs) (map remarkedTree xs)
@@ -66,40 +59,21 @@ good-lines (x ∷ xs) k g = (good-line k x (g .0), good-lines xs (suc k) (g .1))
 
 same-numbers : (xs : List Line) → map treeNumber (map remarkedTree xs) ≡ map treeNumber xs
 same-numbers [] = refl
-same-numbers (x ∷ xs) = rw (same-number x, same-numbers xs)
+same-numbers (x ∷ xs) = rw (to-line-number remarked x, same-numbers xs)
 
 same-named : (ns : List ℕ) (xs : List Line) → AllNameOnly ns xs → AllNameOnly ns (map remarkedTree xs)
 same-named ns [] h = tt
 same-named ns (x ∷ xs) h = ((λ n o. h .0 n (subst (λ (l : List Name). OneOf n (map (λ (m : Name). m .number) l)) (to-names-in remarked x) o)), same-named ns xs (h .1))
-
-rises-above : (xs : List Line) (n m : ℕ) → RisesBy treeNumber n xs → OneOf m (map treeNumber xs) → n < m
-rises-above (x ∷ xs) n m h (inl e) = let l = h .0 in omega arith
-rises-above (x ∷ xs) n m h (inr o) = let l = h .0 in let i = rises-above xs (treeNumber x) m (h .1) o in omega arith
-
-rises-distinct : (xs : List Line) (n : ℕ) → RisesBy treeNumber n xs → Distinct (map treeNumber xs)
-rises-distinct [] n h = tt
-rises-distinct (x ∷ xs) n h = ((λ o. let l = rises-above xs (treeNumber x) (treeNumber x) (h .1) o in omega arith), rises-distinct xs (treeNumber x) (h .1))
 
 -- ---- by rising number
 
 abbrev number : Row → ℕ
 number r = r .number
 
--- rows that rise are by rising number
-put-first : (r : Row) (rs : List Row) → RisesBy number (number r) rs → put number r rs ≡ r ∷ rs
-unfolding put
-put-first r [] h = refl
-put-first r (q ∷ rs) h = chosen _ _ _ (lt-ltb (number r) (number q) (h .0))
-
-in-order : (rs : List Row) (n : ℕ) → RisesBy number n rs → inOrder number rs ≡ rs
-unfolding inOrder
-in-order [] n h = refl
-in-order (r ∷ rs) n h = rw (in-order rs (number r) (h .1)) (put-first r rs (h .1))
-
 rows-rise : (xs : List Line) (k n : ℕ) → GoodTrees xs → RisesBy treeNumber n xs → RisesBy number n (map rowOf (printedLines k xs))
 rows-rise [] k n g h = tt
 rows-rise (x ∷ xs) k n g h =
-    let e : rowOf (record { place = k; body = lineText (front x) }) .number ≡ treeNumber x = number-row _ (remarkedTree x) (good-line k x (g .0)) ∙ same-number x in
+    let e : rowOf (record { place = k; body = lineText (front x) }) .number ≡ treeNumber x = number-row _ (remarkedTree x) (good-line k x (g .0)) ∙ to-line-number remarked x in
     rw e (h .0, rows-rise xs (suc k) (treeNumber x) (g .1) (h .1))
 
 -- ---- the print passes
@@ -131,7 +105,7 @@ module _ (xs : List Line) (trees : SoundTrees xs) where
       record {
         few = rw e (omega arith);
         good = rw e (good-lines xs 1 good);
-        distinct = rw m (rises-distinct xs 0 rising);
+        distinct = rw m (rises-distinct treeNumber xs 0 rising);
         named = rw m (same-named (map treeNumber xs) xs (trees .named));
       }
 
@@ -151,7 +125,7 @@ module _ (xs : List Line) (trees : SoundTrees xs) where
         let (apart, n) = rows-apart text rows print-taken in
         let d = trees-rows text (map remarkedTree xs) (text-takes .lines) .1 in
         let e : numbers rows ≡ map treeNumber xs = ap (λ (l : List Numbered). numbers (map rowOf l)) (sym (print-lines xs good)) ∙ d ∙ same-numbers xs in
-        by-order rows n apart (rw e (rises-distinct xs 0 rising)) ∙ in-order rows 0 (rows-rise xs 1 0 good rising)
+        by-order rows n apart (rw e (rises-distinct treeNumber xs 0 rising)) ∙ rises-order number rows 0 (rows-rise xs 1 0 good rising)
 
     -- so the set is made of them
     pub print-set : loadSet text ≡ setOf rows
