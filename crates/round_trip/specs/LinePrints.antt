@@ -13,7 +13,7 @@ use Rattle.tokens.specs.Token.{NUMBER, EQUALS, MINUS, OPEN, CLOSE, LEFT, RIGHT,
 use Rattle.tokens.specs.Descent.{Answer, good, stop, read, _>>=_, upTo}
 use Rattle.tokens.specs.Index.{isInside, lastIndex}
 use Rattle.tokens.specs.IndexLaws.{last-inside}
-use Rattle.tokens.specs.SingleFault.{numberFault, readFault, writeFault, codeFault, idFault, callFault}
+use Rattle.tokens.specs.SingleFault.{lower, unless, numberFault, readFault, writeFault, codeFault, idFault, callFault}
 use Rattle.checking.specs.Fault.{Sight, joinSights, sight, faultFor}
 use Rattle.grammar.specs.Tree.{Operand, number, variable, position, truth, bracket, minus, not, Product, product, Factors, noFactor, factor, Sum, sum, Terms, noTerm, term, Expression, single, compare, row, Sums, last, next, Action, assign, assignPosition, drive, code, call, Condition, always, under, Line, line, operandTokens, productTokens, factorsTokens, sumTokens, termsTokens, expressionTokens, sumsTokens, actionTokens, actionsTokens, conditionTokens}
 use Rattle.grammar.specs.Meaning.{operandMeaning, productMeaning, factorsMeaning, sumMeaning, termsMeaning, expressionMeaning, sumsMeaning}
@@ -75,60 +75,77 @@ axis-in : (t : ℕ) → X ≤ t → t ≤ W → Printable t
 unfolding hasName
 axis-in t l u = names-in X 6 t (omega arith) refl l (omega arith)
 
--- ---- indices
+-- ---- an index
 
-inside-small : (w i : ℕ) → isInside w i ≡ true → i ≤ 163
+-- no variable has a greater one
+abbrev greatest : ℕ
+greatest = 163
+
+inside-small : (w i : ℕ) → isInside w i ≡ true → i ≤ greatest
 inside-small w i h =
     let l = last-inside w i h in
-    let P : ℕ → Type 0 = λ n. n ≤ 163 in
-    let m : lastIndex w ≤ 163 =
+    let P : ℕ → Type 0 = λ n. n ≤ greatest in
+    let m : lastIndex w ≤ greatest =
     either-cond P (eqb w R) 163 _ (omega arith) (either-cond P (between MARKER PARAM w) 31 _ (omega arith) (either-cond P (eqb w TIMER) 7 _ (omega arith)
     (either-cond P (isFifo w) 4 _ (omega arith) (either-cond P (eqb w INA) 8 _ (omega arith) (either-cond P (eqb w IM) 6 _ (omega arith)
     (either-cond P (eqb w IN) 16 _ (omega arith) (either-cond P (eqb w OUT) 16 0 (omega arith) (omega arith)))))))) in
     omega arith
 
+index-fits : (w i k : ℕ) → lower (unless (isInside w i) outside) k ≡ 0 → Printable (wholeToken i)
+index-fits w i k h = let n = inside-small w i (unless-zero (isInside w i) outside (lower-zero _ k h .0) (omega arith)) in whole-fits i (omega arith)
+
+-- a variable, POS, FA or MOV and its index
+index-in : (w t : ℕ) (l : List ℕ) → Printable w → Printable t → Printables l → Printables (w ∷ LEFT ∷ t ∷ RIGHT ∷ l)
+index-in w t l a b c = (a, (sign-in LEFT (omega arith) (omega arith), (b, (sign-in RIGHT (omega arith) (omega arith), c))))
+
 -- ---- expressions
 
+-- the check sees no fault in it
 abbrev Clean : Answer Sight → Type 0
 Clean (good a) = a .fault ≡ 0
 Clean (stop k) = ⊥
 
+-- none in what is worked first and in what is worked behind it,
 clean-on : (P Q : Type 0) (m : Answer Sight) (f : Sight → Answer Sight) → Clean (m >>= f) → ((a : Sight) → Clean (f a) → (a .fault ≡ 0) × Q) → (Clean m → P) → P × Q
 clean-on P Q (good a) f c g h = let (z, q) = g a c in (h z, q)
 clean-on P Q (stop k) f c g h = absurd c
 
+-- behind a sign,
+clean-signed : (P : Type 0) (m : Answer Sight) (f : Sight → Answer Sight) → Clean (m >>= f) → ((a : Sight) → Clean (f a) → a .fault ≡ 0) → (Clean m → P) → P
+clean-signed P m f c g h = clean-on P (Unit {0}) m f c (λ a d. (g a d, tt)) h .0
+
+-- on both sides of an operator,
 join-clean : (o : ℕ) (a b : Sight) → Clean (sight .join o a b) → (b .fault ≡ 0) × (a .fault ≡ 0)
 unfolding sight joinSights
 join-clean o a b c = let (x, y) = lower-zero _ _ c in let (p, q) = lower-zero (a .fault) (b .fault) y in (q, p)
 
+clean-join : (P : Type 0) (o : ℕ) (x : Sight) (m : Answer Sight) → Clean (m >>= sight .join o x) → (Clean m → P) → P × (x .fault ≡ 0)
+clean-join P o x m c h = clean-on P (x .fault ≡ 0) m _ c (λ y d. join-clean o x y d) h
+
+-- and in a row
+clean-row : (P Q : Type 0) (o : ℕ) (x : Sight) (m : Answer Sight) (f : Sight → Answer Sight) → Clean (m >>= sight .join o x >>= f) → ((y : Sight) → Clean (f y) → (y .fault ≡ 0) × Q) → (Clean m → P) → (P × (x .fault ≡ 0)) × Q
+clean-row P Q o x m f c g h = clean-on (P × (x .fault ≡ 0)) Q (m >>= sight .join o x) f c g (λ d. clean-join P o x m d h)
+
 prints-join : (l m : List ℕ) → Printables l → Printables m → Printables (l ++ m)
 prints-join [] m h g = g
 prints-join (t ∷ l) m h g = (h .0, prints-join l m (h .1) g)
-
--- a word and its index
-index-in : (w t : ℕ) (l : List ℕ) → Printable w → Printable t → Printables l → Printables (w ∷ LEFT ∷ t ∷ RIGHT ∷ l)
-index-in w t l a b c = (a, (sign-in LEFT (omega arith) (omega arith), (b, (sign-in RIGHT (omega arith) (omega arith), c))))
-
-read-clean : (w i : ℕ) → readFault w i ≡ 0 → Printable (wholeToken i)
-unfolding readFault
-read-clean w i h = let (a, b) = lower-zero _ _ h in let n = inside-small w i (unless-zero (isInside w i) outside a (omega arith)) in whole-fits i (omega arith)
 
 number-clean : (n : ℕ) → numberFault n ≡ 0 → thousandths n ≤ top
 unfolding numberFault
 number-clean n h = leb-true (thousandths n) top (unless-zero (leb (thousandths n) top) outside h (omega arith))
 
 mutual
-  unfolding operandMeaning operandTokens sight
+  unfolding operandMeaning operandTokens sight readFault
 
   clean-operand : (x : Operand) → Clean (operandMeaning sight x) → Printables (operandTokens x)
   clean-operand (number n) c = (number-fits n (number-clean n c), tt)
-  clean-operand (variable w v i) c = let b = bounds IN FIFO4 w v in index-in w (wholeToken i) [] (variable-in w (omega arith) (omega arith)) (read-clean w i c) tt
+  clean-operand (variable w v i) c = let b = bounds IN FIFO4 w v in index-in w (wholeToken i) [] (variable-in w (omega arith) (omega arith)) (index-fits w i _ c) tt
   clean-operand (position x v) c = let b = bounds X W x v in index-in IM x [] (variable-in IM (omega arith) (omega arith)) (axis-in x (omega arith) (omega arith)) tt
   clean-operand (truth true) c = (keyword-in TRUE (omega arith) (omega arith), tt)
   clean-operand (truth false) c = (keyword-in FALSE (omega arith) (omega arith), tt)
   clean-operand (bracket e) c = (sign-in OPEN (omega arith) (omega arith), prints-join (expressionTokens e) (CLOSE ∷ []) (clean-expression e c) (sign-in CLOSE (omega arith) (omega arith), tt))
-  clean-operand (minus a) c = (sign-in MINUS (omega arith) (omega arith), clean-on (Printables (operandTokens a)) (Unit {0}) (operandMeaning sight a) _ c (λ x d. (lower-zero _ _ d .1, tt)) (λ d. clean-operand a d) .0)
-  clean-operand (not a) c = (keyword-in NOT (omega arith) (omega arith), clean-on (Printables (operandTokens a)) (Unit {0}) (operandMeaning sight a) _ c (λ x d. (lower-zero _ _ d .1, tt)) (λ d. clean-operand a d) .0)
+  clean-operand (minus a) c = (sign-in MINUS (omega arith) (omega arith), clean-signed (Printables (operandTokens a)) (operandMeaning sight a) _ c (λ x d. lower-zero _ _ d .1) (λ d. clean-operand a d))
+  clean-operand (not a) c = (keyword-in NOT (omega arith) (omega arith), clean-signed (Printables (operandTokens a)) (operandMeaning sight a) _ c (λ x d. lower-zero _ _ d .1) (λ d. clean-operand a d))
 
   clean-product : (x : Product) → Clean (productMeaning sight x) → Printables (productTokens x)
   clean-product (product a r) c =
@@ -139,8 +156,7 @@ mutual
   clean-factors noFactor x c = (c, tt)
   clean-factors (factor o v a r) x c =
       let b = bounds TIMES OVER o v in
-      let (p, q) = clean-on ((Printables (operandTokens a)) × (x .fault ≡ 0)) (Printables (factorsTokens r)) (operandMeaning sight a >>= sight .join o x) _ c (λ y d. clean-factors r y d)
-      (λ d. clean-on (Printables (operandTokens a)) (x .fault ≡ 0) (operandMeaning sight a) _ d (λ y e. join-clean o x y e) (λ e. clean-operand a e)) in
+      let (p, q) = clean-row (Printables (operandTokens a)) (Printables (factorsTokens r)) o x (operandMeaning sight a) _ c (λ y d. clean-factors r y d) (λ d. clean-operand a d) in
       (p .1, (sign-in o (omega arith) (omega arith), prints-join (operandTokens a) (factorsTokens r) (p .0) q))
 
   clean-sum : (x : Sum) → Clean (sumMeaning sight x) → Printables (sumTokens x)
@@ -152,8 +168,7 @@ mutual
   clean-terms noTerm x c = (c, tt)
   clean-terms (term o v a r) x c =
       let b = bounds PLUS MINUS o v in
-      let (p, q) = clean-on ((Printables (productTokens a)) × (x .fault ≡ 0)) (Printables (termsTokens r)) (productMeaning sight a >>= sight .join o x) _ c (λ y d. clean-terms r y d)
-      (λ d. clean-on (Printables (productTokens a)) (x .fault ≡ 0) (productMeaning sight a) _ d (λ y e. join-clean o x y e) (λ e. clean-product a e)) in
+      let (p, q) = clean-row (Printables (productTokens a)) (Printables (termsTokens r)) o x (productMeaning sight a) _ c (λ y d. clean-terms r y d) (λ d. clean-product a d) in
       (p .1, (sign-in o (omega arith) (omega arith), prints-join (productTokens a) (termsTokens r) (p .0) q))
 
   clean-expression : (x : Expression) → Clean (expressionMeaning sight x) → Printables (expressionTokens x)
@@ -161,7 +176,7 @@ mutual
   clean-expression (compare o v a b) c =
       let d = bounds SAME ATLEAST o v in
       let (p, q) = clean-on (Printables (sumTokens a)) (Printables (sumTokens b)) (sumMeaning sight a) _ c
-      (λ x e. let (y, z) = clean-on (Printables (sumTokens b)) (x .fault ≡ 0) (sumMeaning sight b) _ e (λ y f. join-clean o x y f) (λ f. clean-sum b f) in (z, y)) (λ e. clean-sum a e) in
+      (λ x e. let (y, z) = clean-join (Printables (sumTokens b)) o x (sumMeaning sight b) e (λ f. clean-sum b f) in (z, y)) (λ e. clean-sum a e) in
       prints-join (sumTokens a) (o ∷ sumTokens b) p (sign-in o (omega arith) (omega arith), q)
   clean-expression (row o v a r) c =
       let b = bounds AND XOR o v in
@@ -170,11 +185,10 @@ mutual
 
   clean-sums : (r : Sums) (o : ℕ) (x : Sight) → Printable o → Clean (sumsMeaning sight o r x) → (x .fault ≡ 0) × Printables (sumsTokens o r)
   clean-sums (last a) o x k c =
-      let (p, q) = clean-on (Printables (sumTokens a)) (x .fault ≡ 0) (sumMeaning sight a) _ c (λ y d. join-clean o x y d) (λ d. clean-sum a d) in
+      let (p, q) = clean-join (Printables (sumTokens a)) o x (sumMeaning sight a) c (λ d. clean-sum a d) in
       (q, (k, p))
   clean-sums (next a r) o x k c =
-      let (p, q) = clean-on ((Printables (sumTokens a)) × (x .fault ≡ 0)) (Printables (sumsTokens o r)) (sumMeaning sight a >>= sight .join o x) _ c (λ y d. clean-sums r o y k d)
-      (λ d. clean-on (Printables (sumTokens a)) (x .fault ≡ 0) (sumMeaning sight a) _ d (λ y e. join-clean o x y e) (λ e. clean-sum a e)) in
+      let (p, q) = clean-row (Printables (sumTokens a)) (Printables (sumsTokens o r)) o x (sumMeaning sight a) _ c (λ y d. clean-sums r o y k d) (λ d. clean-sum a d) in
       (p .1, (k, prints-join (sumTokens a) (sumsTokens o r) (p .0) q))
 
 -- ---- actions
@@ -220,10 +234,6 @@ assigned-clean : (a : Sum) → assignedFault a ≡ 0 → Printables (sumTokens a
 unfolding assignedFault
 assigned-clean a h = decide _ (isRemovalTree a) (λ e. removal-prints a e) (λ e. right-clean a (rw e at h))
 
-write-clean : (w i : ℕ) → writeFault w i ≡ 0 → Printable (wholeToken i)
-unfolding writeFault
-write-clean w i h = let (a, b) = lower-zero _ _ h in let n = inside-small w i (unless-zero (isInside w i) outside a (omega arith)) in whole-fits i (omega arith)
-
 equals : Printable EQUALS
 equals = sign-in EQUALS (omega arith) (omega arith)
 
@@ -243,11 +253,11 @@ unfolding codeFault
 code-clean kw n h = leb-true n 99 (unless-zero (leb n 99) outside (lower-zero _ _ h .0) (omega arith))
 
 action-clean : (kw : ℕ) (a : Action) → actionFault kw a ≡ 0 → Printables (actionTokens a)
-unfolding actionFault actionTokens
+unfolding actionFault actionTokens writeFault
 action-clean kw (assign w v i a) h =
     let (x, y) = lower-zero _ _ h in
     let b = bounds IN FIFO4 w v in
-    index-in w (wholeToken i) (EQUALS ∷ sumTokens a) (variable-in w (omega arith) (omega arith)) (write-clean w i x) (equals, assigned-clean a y)
+    index-in w (wholeToken i) (EQUALS ∷ sumTokens a) (variable-in w (omega arith) (omega arith)) (index-fits w i _ x) (equals, assigned-clean a y)
 action-clean kw (assignPosition x v a) h =
     let (p, y) = lower-zero _ _ h in
     let b = bounds X W x v in
