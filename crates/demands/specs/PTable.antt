@@ -8,7 +8,7 @@ use Prim.Native.String.{String}
 use lib.IntN.{ℤ, pos, negsuc}
 use lib.ListN.{length, getD, take, replicate}
 use Rattle.values.specs.Codes.{outOfRange, zeroDivisor, fifoFull}
-use Rattle.values.specs.Value.{inRange, valued, sumOf, differenceOf, productOf, quotientOf, negationOf, lessThan, equalTo, wholeUnits, outputOf, feedOf, signOf}
+use Rattle.values.specs.Value.{inRange, valued, sumOf, differenceOf, productOf, quotientOf, negationOf, lessThan, equalTo, wholeUnits, nearestUnits, markerOf, outputOf, feedOf, signOf}
 use Rattle.values.specs.Time.{millisOf, grownTimer, writtenTimer}
 use Rattle.values.specs.Fifo.{fits, appendAnswer, appended, shifted, removeAnswer, removed, oldestOf, newestOf, sumFirst, sumAll, totalOf, countOf, cleared, emptyAnswer, emptied}
 use Rattle.engine.specs.Order.{fourBytes, orderBytes}
@@ -118,7 +118,7 @@ undone = "ID=1 WHEN $A_IN[1]==1 DO $R[1]=$R[1]+1 POS[X]=$R[1] M=7\nID=2 WHENEVER
 
 -- 1/3 is 0.333, -1/3 is -0.333; 0.001*0.5 is 0
 -- 1000000*1 passes; 1000000+0.001 gives 30; 1/0 gives 31
--- marker from 1.999: 1; from -1.999: -1
+-- marker from 1.999: 2; from -1.999: -2 (document 02)
 -- EVERY (bit 1) on inputs 1 1 0 1 acts in beats 1 and 4; WHEN (2) in 1; FROM (4) in 1 to 4; WHENEVER (8) in 1, 2, 4
 -- EVERY, true, then locked three beats with the input still high, then unlocked: no second act
 -- WHEN acts, a later line raises 31: the beat is undone, its write to $R[1] and its orders too; it acts in the next good beat, on $R[1] as it was
@@ -130,7 +130,7 @@ cases =
     ∷ record { text = "ID=1 DO POS[X]=1000000*1"; calls = on 0 ∷ []; gives = gives 0 1 ((1, 1, 1, pos 1000000000) ∷ []) ∷ []; r1 = pos 0 }
     ∷ record { text = "ID=1 DO POS[X]=1000000+0.001"; calls = on 0 ∷ []; gives = gives outOfRange 0 [] ∷ []; r1 = pos 0 }
     ∷ record { text = "ID=1 DO POS[X]=1/0"; calls = on 0 ∷ []; gives = gives zeroDivisor 0 [] ∷ []; r1 = pos 0 }
-    ∷ record { text = "ID=1 DO $AC_MARKER[0]=1.999 $AC_MARKER[1]=-1.999 POS[X]=$AC_MARKER[0] POS[Y]=$AC_MARKER[1]"; calls = on 0 ∷ []; gives = gives 0 1 ((1, 1, 1, pos 1000) ∷ (1, 1, 2, negsuc 999) ∷ []) ∷ []; r1 = pos 0 }
+    ∷ record { text = "ID=1 DO $AC_MARKER[0]=1.999 $AC_MARKER[1]=-1.999 POS[X]=$AC_MARKER[0] POS[Y]=$AC_MARKER[1]"; calls = on 0 ∷ []; gives = gives 0 1 ((1, 1, 1, pos 2000) ∷ (1, 1, 2, negsuc 1999) ∷ []) ∷ []; r1 = pos 0 }
     ∷ record {
       text = "ID=1 EVERY $A_IN[1]==1 DO $R[1]=1\nID=2 WHEN $A_IN[1]==1 DO $R[1]=1\nID=3 FROM $A_IN[1]==1 DO $R[1]=1\nID=4 WHENEVER $A_IN[1]==1 DO $R[1]=1";
       calls = on 1 ∷ on 1 ∷ on 0 ∷ on 1 ∷ [];
@@ -164,7 +164,7 @@ cases =
     }
     ∷ []
 
--- THE TABLE: each case gives what document 01 says
+-- THE TABLE: each case gives what document 01 says, markers by document 02
 pub table : map outcomeOf cases ≡ map expected cases
-unfolding joinLogic beatCount fifoValue fifoAt fits appendAnswer appended shifted removeAnswer removed oldestOf newestOf sumFirst sumAll totalOf countOf cleared emptyAnswer emptied millisOf writtenTimer sumOf differenceOf productOf quotientOf negationOf feedOf signOf inRange valued lessThan equalTo wholeUnits outputOf grownTimer twosComplement fourBytes orderBytes isIndex indexOf isIndexed indexAt joined more readProduct readSum readRest readExpression readVariable operandFrom readOperand readClose readTruth sumAt expressionAt isInside cellOf variableValue lower opensTooMany wantingFault numberFault readFault joinSights sight isWritable writeFault codeFault idFault callFault countFault numberOf isRemoval assignedAt assignmentAt commandAt actionAt actionsAt lineParts bodyAt restAt lineAt joinTruths joinValues valueOver conditionValue rightValue linesFrom linesRead rankIn namesKnown allKnown namedLines soundLines emptySet powerOn grownCells inputCells beatCells allRanged isCell areCells allZero isFifoSound isFlag areFlags stateSound isSound changeAnswer changed changeFifo writeFifo writeCell writeInside writeTo alarmOf driveOrder driveOf lockOf takenAt assignmentOf commandOf actionOf actionsOf tries acts remembers takesTurn doTurn tryTurn turnOf turnsFrom areInputs beatBegun beatEnded wholeBeat beatAnswer beatBuffer foundAt found called lockedCall lockCall unlockCall cancelCall resetCancelled zeroed resetState resetCall run wordToken written isFit numberToken wordFirst behindPoint numberWith numberFirst signFirst firstToken tokensFrom tokensOf split withoutReturn withoutComment bodies isBlank numbered tokenLines numbersOf leastFrom leastAbove rising withoutMark placed setOf factorsGuess productGuess termsGuess sumGuess sumsGuess expressionGuess operandFirst operandGuess actionGuess actionsGuess conditionGuess lineGuess sameTokens ifWritten treeOf operandTokens actionTokens actionsTokens conditionTokens lineTokens operandMeaning rightFault isRemovalTree assignedFault actionFault actionsFault lineFault actionsNames namesIn eachKnown faultOf tokensFault faultBelow rowsFrom firstNot named outcome loadAnswer loadSet step runFrom cases areFifos withLine
+unfolding joinLogic beatCount fifoValue fifoAt fits appendAnswer appended shifted removeAnswer removed oldestOf newestOf sumFirst sumAll totalOf countOf cleared emptyAnswer emptied millisOf writtenTimer sumOf differenceOf productOf quotientOf negationOf feedOf signOf inRange valued lessThan equalTo wholeUnits nearestUnits markerOf outputOf grownTimer twosComplement fourBytes orderBytes isIndex indexOf isIndexed indexAt joined more readProduct readSum readRest readExpression readVariable operandFrom readOperand readClose readTruth sumAt expressionAt isInside cellOf variableValue lower opensTooMany wantingFault numberFault readFault joinSights sight isWritable writeFault codeFault idFault callFault countFault numberOf isRemoval assignedAt assignmentAt commandAt actionAt actionsAt lineParts bodyAt restAt lineAt joinTruths joinValues valueOver conditionValue rightValue linesFrom linesRead rankIn namesKnown allKnown namedLines soundLines emptySet powerOn grownCells inputCells beatCells allRanged isCell areCells allZero isFifoSound isFlag areFlags stateSound isSound changeAnswer changed changeFifo writeFifo writeCell writeInside writeTo alarmOf driveOrder driveOf lockOf takenAt assignmentOf commandOf actionOf actionsOf tries acts remembers takesTurn doTurn tryTurn turnOf turnsFrom areInputs beatBegun beatEnded wholeBeat beatAnswer beatBuffer foundAt found called lockedCall lockCall unlockCall cancelCall resetCancelled zeroed resetState resetCall run wordToken written isFit numberToken wordFirst behindPoint numberWith numberFirst signFirst firstToken tokensFrom tokensOf split withoutReturn withoutComment bodies isBlank numbered tokenLines numbersOf leastFrom leastAbove rising withoutMark placed setOf factorsGuess productGuess termsGuess sumGuess sumsGuess expressionGuess operandFirst operandGuess actionGuess actionsGuess conditionGuess lineGuess sameTokens ifWritten treeOf operandTokens actionTokens actionsTokens conditionTokens lineTokens operandMeaning rightFault isRemovalTree assignedFault actionFault actionsFault lineFault actionsNames namesIn eachKnown faultOf tokensFault faultBelow rowsFrom firstNot named outcome loadAnswer loadSet step runFrom cases areFifos withLine
 table = refl

@@ -6,9 +6,10 @@ use lib.Dec.{eqb}
 use lib.IntN.{ℤ, pos}
 use lib.ListN.{getD, set, take, drop}
 use Rattle.values.specs.Codes.{unsound}
-use Rattle.values.specs.Value.{wholeUnits, outputOf}
+use Rattle.values.specs.Value.{markerOf, outputOf}
 use Rattle.values.specs.Time.{timer, writtenTimer}
 use Rattle.values.specs.Fifo.{places, movedCode, appendAnswer, appended, removeAnswer, removed, emptyAnswer, emptied}
+use Rattle.values.specs.declared.arithmetic.Worked.{Worked}
 use Rattle.values.specs.declared.fifo.Moved.{Moved}
 use Rattle.values.specs.declared.fifo.Moved.the-variants as M
 use Rattle.tokens.specs.Token.{OUT, MARKER, PARAM, R, TIMER, M, isFifo}
@@ -74,17 +75,21 @@ writeTimer c runs at i v =
     let t = writtenTimer (timer (getD c at (pos 0)) (getD runs i false)) v in
     record { cells = set c at (t .time .0); runs = set runs i (t .runs) }
 
--- markers hold whole units, parameters any value, outputs 0 or 1
+-- what a target made of a value goes into a cell; its alarm ends the write
+abbrev pub putCell : List ℤ → List Bool → ℕ → Worked → Answer Celled
+putCell c runs at made = fromWorked made >>= λ u. good (record { cells = set c at u; runs = runs })
+
+-- a marker takes the nearest whole unit, a parameter any value, an output 0 or 1
 unfoldable pub writeCell : List ℤ → List Bool → ℕ → ℕ → ℤ → Answer Celled
 writeCell c runs w i v =
     elim (eqb w MARKER) [
-      | true ↦ good (record { cells = set c (cellOf w i) (wholeUnits v); runs = runs })
+      | true ↦ putCell c runs (cellOf w i) (markerOf v)
       | false ↦
           elim (eqb w PARAM) [
             | true ↦ good (record { cells = set c (cellOf w i) v; runs = runs })
             | false ↦
                 elim (eqb w OUT) [
-                  | true ↦ fromWorked (outputOf v) >>= λ u. good (record { cells = set c (cellOf w i) u; runs = runs })
+                  | true ↦ putCell c runs (cellOf w i) (outputOf v)
                   | false ↦ elim (eqb w TIMER) [ true ↦ good (writeTimer c runs (cellOf w i) i v) | false ↦ stop unsound ]
                 ]
           ]

@@ -10,7 +10,7 @@ ghost use Rattle.tokens.specs.Token.{isFifo};
 ghost use Rattle.tokens.specs.Index.{isInside};
 ghost use Rattle.tokens.specs.Descent.{good};
 ghost use Rattle.working.specs.Variables.{cellCount, timerCount, runAt, run};
-ghost use Rattle.engine.specs.Write.{changeAnswer, changed, withRun, changeFifo, writeFifo, writeTimer, writeCell, writeTo};
+ghost use Rattle.engine.specs.Write.{changeAnswer, changed, withRun, changeFifo, writeFifo, writeTimer, putCell, writeCell, writeTo};
 ghost use Rattle.values.specs.Fifo.{places};
 ghost use Rattle.engine.specs.WriteAnswers.{varsOf, IsChanged, IsCelled, IsWritten};
 use tokens::index::is_inside;
@@ -22,8 +22,8 @@ use tokens::token::R;
 use tokens::token::TIMER;
 use tokens::token::is_fifo;
 use values::arithmetic::Worked;
+use values::arithmetic::marker;
 use values::arithmetic::output;
-use values::arithmetic::whole_units;
 use values::codes::UNSOUND;
 use values::fifo::Moved;
 use values::fifo::PLACES;
@@ -162,6 +162,20 @@ fn write_timer(
     written_so()
 }
 
+// What a target made of a value goes into the cell at `at`; with an alarm the cell stays.
+fn put(cells: &mut [i32; CELLS], at: usize, made: Worked) -> Wrote
+    requires { ⌜ at < cellCount ⌝ }
+    ensures { λ x. ⌜ ((runs : List Bool) → IsCelled x (now (cells .exit)) runs (putCell (now (cells .entry)) runs at made)) ⌝ }
+{
+    match made {
+        Worked::Value(u) => {
+            cells[at] = u;
+            written_so()
+        }
+        Worked::Alarm(a) => not_written(a),
+    }
+}
+
 // Outputs, markers, parameters and timers, each by its own rule.
 fn write_cell(cells: &mut [i32; CELLS], runs: &mut [bool; TIMERS], w: u32, i: u32, v: i32) -> Wrote
     requires { ⌜ (isInside w i ≡ true) × ((isFifo w ≡ false) × (w ≡ T.R → ⊥)) ⌝ }
@@ -169,21 +183,14 @@ fn write_cell(cells: &mut [i32; CELLS], runs: &mut [bool; TIMERS], w: u32, i: u3
 {
     let at = cell_of(w, i);
     if w == MARKER {
-        cells[at] = whole_units(v);
-        return written_so();
+        return put(cells, at, marker(v));
     }
     if w == PARAM {
         cells[at] = v;
         return written_so();
     }
     if w == OUT {
-        return match output(v) {
-            Worked::Value(u) => {
-                cells[at] = u;
-                written_so()
-            }
-            Worked::Alarm(a) => not_written(a),
-        };
+        return put(cells, at, output(v));
     }
     if w != TIMER {
         return not_written(UNSOUND);

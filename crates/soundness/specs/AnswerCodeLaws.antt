@@ -9,7 +9,7 @@ use lib.IntN.{ℤ, pos, natAbs}
 use lib.ListN.{length, getD}
 use Rattle.values.specs.Codes.{unsound, outOfRange, zeroDivisor, fifoEmpty, fifoFull, notAllowed}
 use Rattle.values.specs.Choice.{either, either-cond, ifNot}
-use Rattle.values.specs.Value.{unit, inRange, lessThan, equalTo, valued, sumOf, differenceOf, productOf, quotientOf, negationOf, outputOf, feedOf}
+use Rattle.values.specs.Value.{unit, inRange, lessThan, equalTo, valued, sumOf, differenceOf, productOf, quotientOf, negationOf, markerOf, outputOf, feedOf}
 use Rattle.values.specs.Fifo.{places, fits, asFifoValue, appendAnswer, removeAnswer, emptyAnswer, sumFirst, oldestOf, newestOf, totalOf, countOf}
 use Rattle.values.specs.declared.arithmetic.Worked.{Worked}
 use Rattle.values.specs.declared.arithmetic.Worked.the-variants as W
@@ -245,7 +245,7 @@ unfolding changeFifo
 fifo-change-by r c op w v = moved-by r c (fifoOf w) _ (changeAnswer op (run r (fifoOf w)) (beatCount c (fifoOf w)) v) (change-by op (run r (fifoOf w)) (beatCount c (fifoOf w)) v)
 
 write-by : (x : Vars) (w i : ℕ) (v : ℤ) → StopsBy TurnCode (writeTo x w i v)
-unfolding writeTo writeInside writeFifo writeCell outputOf
+unfolding writeTo writeInside writeFifo writeCell markerOf outputOf
 write-by x w i v =
     let P : Answer Vars → Type 0 = StopsBy TurnCode in
     let C : Answer Celled → Type 0 = StopsBy TurnCode in
@@ -255,7 +255,7 @@ write-by x w i v =
     (λ e. either P (eqb i 0) (λ e. stops-then TurnCode (changeFifo (x .r) (x .cells) 0 w v) _ (fifo-change-by (x .r) (x .cells) 0 w v) (λ a. tt)) λ e.
     either P (eqb i 4) (λ e. stops-then TurnCode (changeFifo (x .r) (x .cells) 2 w v) _ (fifo-change-by (x .r) (x .cells) 2 w v) (λ a. tt)) (λ e. is-22)) λ e.
     stops-then TurnCode (writeCell (x .cells) (x .runs) w i v) _
-    (either C (eqb w MARKER) (λ e. tt) λ e. either C (eqb w PARAM) (λ e. tt) λ e.
+    (either C (eqb w MARKER) (λ e. stops-then TurnCode (fromWorked (markerOf v)) _ (from-worked (markerOf v) (either-cond WorkedBy (inRange v) _ _ tt is-30)) (λ u. tt)) λ e. either C (eqb w PARAM) (λ e. tt) λ e.
     either C (eqb w OUT) (λ e. stops-then TurnCode (fromWorked (outputOf v)) _ (from-worked (outputOf v) (either-cond WorkedBy (equalTo v (pos 0) || equalTo v (pos unit)) _ _ tt is-34)) (λ u. tt)) λ e.
     either C (eqb w TIMER) (λ e. tt) (λ e. is-22)) (λ a. tt))
     (λ e. is-22)

@@ -12,8 +12,9 @@ use lib.Seq.{length-take-le, drop-set-add, getD-drop}
 use borrow.Author.Tests.{eqb-true, eqb-false, leb-true, ltb-true}
 use Rattle.values.specs.Codes.{outside, readOnly, notAllowed}
 use Rattle.values.specs.Choice.{either, ifNot, either-cond, both}
-use Rattle.values.specs.Value.{unit, inRange, equalTo, wholeUnits, outputOf}
-use Rattle.values.specs.ValueLaws.{abs-range, whole-in-range, whole-whole, output-either, output-same}
+use Rattle.values.specs.Value.{unit, inRange, equalTo, nearestUnits, markerOf, outputOf}
+use Rattle.values.specs.ValueLaws.{abs-range, output-either, output-same}
+use Rattle.values.specs.MarkerLaws.{marker-in-range, marker-ranged, marker-whole}
 use Rattle.values.specs.Time.{timer}
 use Rattle.values.specs.TimeLaws.{written-keeps}
 use Rattle.values.specs.Fifo.{places, Unused, countAfter, fits, appendAnswer, appended, removeAnswer, removed, emptyAnswer, emptied}
@@ -24,13 +25,12 @@ use Rattle.values.specs.declared.arithmetic.Worked.the-variants as W
 use Rattle.values.specs.declared.fifo.Moved.{Moved}
 use Rattle.values.specs.declared.fifo.Moved.the-variants as M
 use Rattle.tokens.specs.Token.{OUT, MARKER, PARAM, R, TIMER, FIFO1, isFifo}
-use Rattle.tokens.specs.Descent.{good, _>>=_}
 use Rattle.tokens.specs.Index.{firstIndex, lastIndex, isInside}
 use Rattle.working.specs.Variables.{fifos, runAt, rCount, markerAt, paramAt, timerAt, countAt, stateCells, inputCount, cellCount, cellOf, fifoOf, run, asCount, countIn, beatCount}
 use Rattle.tokens.specs.SingleFault.{lower, unless, isWritable, writeFault}
 use Rattle.working.specs.Operators.{fromWorked}
 use Rattle.engine.specs.Sound.{isCell, isOutput}
-use Rattle.engine.specs.Write.{Vars, Changed, Celled, withRun, moved, writeTimer, changeAnswer, changed, changeFifo, writeFifo, writeCell, writeInside, writeTo}
+use Rattle.engine.specs.Write.{Vars, Changed, Celled, withRun, moved, writeTimer, changeAnswer, changed, changeFifo, writeFifo, putCell, writeCell, writeInside, writeTo}
 use Rattle.tokens.specs.IndexLaws.{last-inside}
 use Rattle.soundness.specs.GoodAnswers.{Not22, Holds, holds-then}
 use Rattle.soundness.specs.CellSoundLaws.{cell-ranged, timer-cell, count-cell, right-output, right-marker, right-parameter, right-timer, CellsSound, run-ranged, replaced-length, r-keeps, cell-keeps, fifo-keeps}
@@ -256,16 +256,18 @@ abbrev pub CellSound : List ℤ → Celled → Type 0
 CellSound r a = BeatSound r (a .cells)
 
 module _ (r c : List ℤ) (runs : List Bool) (h : BeatSound r c) (i : ℕ) (v : ℤ) (e : inRange v ≡ true) where
-  marker-keeps : i ≤ lastIndex MARKER → BeatSound r (set c (cellOf MARKER i) (wholeUnits v))
+  marker-keeps : i ≤ lastIndex MARKER → Holds (CellSound r) (putCell c runs (cellOf MARKER i) (markerOf v))
   unfolding cellOf
   marker-keeps l =
-      beat-cell r c h _ (markerAt + i) (wholeUnits v) (omega arith) (omega arith) (right-marker (markerAt + i) _ (omega arith) (omega arith) (whole-in-range v e) (whole-whole v))
+      let t = marker-in-range v e in
+      rw t
+      (beat-cell r c h _ (markerAt + i) (nearestUnits v) (omega arith) (omega arith) (right-marker (markerAt + i) _ (omega arith) (omega arith) (marker-ranged v _ t) (marker-whole v _ t)))
 
   parameter-keeps : i ≤ lastIndex PARAM → BeatSound r (set c (cellOf PARAM i) v)
   unfolding cellOf
   parameter-keeps l = beat-cell r c h _ (paramAt + i) v (omega arith) (omega arith) (right-parameter (paramAt + i) v (omega arith) (omega arith) e)
 
-  output-keeps : firstIndex OUT ≤ i → i ≤ lastIndex OUT → Holds (CellSound r) (fromWorked (outputOf v) >>= λ u. good (record { cells = set c (cellOf OUT i) u; runs = runs }))
+  output-keeps : firstIndex OUT ≤ i → i ≤ lastIndex OUT → Holds (CellSound r) (putCell c runs (cellOf OUT i) (outputOf v))
   unfolding cellOf
   output-keeps l m =
       holds-then (λ u. (outputOf v ≡ W.Value u)) (CellSound r) (fromWorked (outputOf v)) _ (worked-holds _ (outputOf v) (λ u g. g) (output-alarm v)) λ u g.

@@ -11,7 +11,7 @@ use lib.IntN.{ℤ, pos}
 use lib.ListN.{getD, replicate}
 use Rattle.values.specs.Codes.{zeroDivisor}
 use Rattle.values.specs.Complement.{twosComplement}
-use Rattle.values.specs.Value.{inRange, valued, sumOf, differenceOf, productOf, quotientOf, lessThan, equalTo, wholeUnits}
+use Rattle.values.specs.Value.{inRange, valued, sumOf, differenceOf, productOf, quotientOf, lessThan, equalTo, nearestUnits, markerOf}
 use Rattle.values.specs.Fifo.{fits, appendAnswer, appended, shifted, removeAnswer, removed, countOf}
 use Rattle.tokens.specs.Token.{SAME, ATLEAST, MORE, MINUS, PLUS, TIMES, OVER, ID, IDS, WHEN, WHENEVER, EVERY, IN, MARKER, R, FIFO1, POS, LOCK, UNLOCK, X, maxLines}
 use Rattle.tokens.specs.Descent.{Answer, good, stop, _>>=_}
@@ -104,5 +104,5 @@ abbrev pub expected : Case → Answer Shown
 expected c = c .outcome
 
 pub turn-table : map outcomeOf turnCases ≡ map expected turnCases
-unfolding turnCases fourLines turnsTree turnTree takesTree tryTree doTree actionsTree actionTree lockTree assignTree conditionTree takenTree isRemovalTree operandMeaning valueOver variableValue isInside cellOf beatCount fifoValue fifoAt joinLogic joinTruths joinValues inRange valued sumOf differenceOf productOf quotientOf lessThan equalTo wholeUnits fits appendAnswer appended shifted removeAnswer removed countOf changeAnswer changed changeFifo writeFifo writeCell writeInside writeTo driveOrder twosComplement fourBytes orderBytes rankIn powerOn grownCells inputCells beatCells beatBegun acts remembers tries
+unfolding turnCases fourLines turnsTree turnTree takesTree tryTree doTree actionsTree actionTree lockTree assignTree conditionTree takenTree isRemovalTree operandMeaning valueOver variableValue isInside cellOf beatCount fifoValue fifoAt joinLogic joinTruths joinValues inRange valued sumOf differenceOf productOf quotientOf lessThan equalTo nearestUnits markerOf fits appendAnswer appended shifted removeAnswer removed countOf changeAnswer changed changeFifo writeFifo writeCell writeInside writeTo driveOrder twosComplement fourBytes orderBytes rankIn powerOn grownCells inputCells beatCells beatBegun acts remembers tries
 turn-table = refl

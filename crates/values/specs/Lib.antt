@@ -1,9 +1,12 @@
 -- What the promises mean: values, time, FIFOs and the two's complement, document 01's codes, a list written into an array, and the laws that follow from them.
 pub mod Codes
+pub mod Size
 pub mod Value
 pub mod Choice
 pub mod Numbers
+pub mod SizeLaws
 pub mod ValueLaws
+pub mod MarkerLaws
 pub mod Unique
 mod ValueTable
 pub mod Time

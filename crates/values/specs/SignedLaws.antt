@@ -1,17 +1,19 @@
 -- Signed numbers in the code: each is read back from its bits, and what two of them give fits twice the width.
 use mathlib.Core.Path.{_≡_, sym, ap, _∙_}
 use mathlib.Core.Bool.{true, false}
-use Prim.Native.Nat.{suc, _<_}
+use Prim.Native.Nat.{ℕ, suc, _≤_, _<_}
 use native.Mathlib.Omega.{arith}
-use lib.Dec.{eqb, lit<}
-use lib.IntN.{ℤ, pos, negsuc, natAbs, negℤ, ℤ-discrete, _+ℤ_, _-ℤ_, _*ℤ_}
-use lib.Signed.{ltZ, quotZ}
+use lib.Dec.{T, eqb, lit<}
+use lib.IntN.{ℤ, pos, negsuc, natAbs, negℤ, ℤ-discrete, _+ℤ_, _-ℤ_, _*ℤ_, +ℤ-idl}
+use lib.Signed.{ltZ, quotZ, nonNeg}
 use mir.Syntax.{Width, w32, w64}
-use mir.Val.{SFits, toZ, ofZ}
-use mir.ValLaws.{toZ-ofZ}
+use mir.Val.{Fits, SFits, toZ, ofZ}
+use mir.ValLaws.{toZ-ofZ, toZ-pos}
 use borrow.Author.Tests.{ltb-true, ltb-false, lt-leb, le-leb, eq-eqb, ne-eqb}
+use Rattle.values.specs.Size.{isNegative}
 use Rattle.values.specs.Value.{top, unit, inRange, equalTo}
 use Rattle.values.specs.Numbers.{clash, abs-neg, abs-add, product-abs, quotient-abs, fits-abs, abs32, abs-zero}
+use Rattle.values.specs.SizeLaws.{below-zero}
 use Rattle.values.specs.ValueLaws.{same-equal, other-equal}
 
 -- ---- reading back
@@ -115,3 +117,40 @@ between (negsuc n) h k = le-leb (suc n) top (omega (arith, ltb-false 999999999 n
 -- two signed numbers, read back from their bits
 pub both : {B : Type 0} (f : ℤ → ℤ → B) {a b : ℤ} → SFits w32 a → SFits w32 b → f (toZ w32 (ofZ w32 a)) (toZ w32 (ofZ w32 b)) ≡ f a b
 both f ha hb = rw (back w32 ha, back w32 hb)
+
+-- ---- sign and size
+
+-- the negative of an i32, as an i64
+turned : {z : ℤ} → SFits w32 z → pos 0 -ℤ Wide z ≡ negℤ z
+turned {z} h = rw (wide h) (+ℤ-idl (negℤ z))
+
+pub turned-fits : {z : ℤ} → SFits w32 z → SFits w64 (pos 0 -ℤ Wide z)
+turned-fits {z} h = rw (turned h) (fits-abs w64 (negℤ z) (omega (arith, abs32 h, abs-neg z)))
+
+pub turned-back : {z : ℤ} → SFits w32 z → toZ w64 (ofZ w64 (pos 0 -ℤ Wide z)) ≡ negℤ z
+turned-back h = back w64 (turned-fits h) ∙ turned h
+
+-- a number that is its size may be cast to a u64
+pub size-cast : (z : ℤ) (n : ℕ) → z ≡ pos n → n ≤ 2147483648 → T (nonNeg z) × Fits w64 (natAbs z)
+size-cast z n e h = rw e (tt, record { fits = omega arith })
+
+-- a size up to the top, as an i32, and its negative
+pub size-back : (n : ℕ) → n ≤ top → toZ w32 n ≡ pos n
+size-back n h = toZ-pos w32 n (omega arith)
+
+negative : (n : ℕ) → n ≤ top → pos 0 -ℤ toZ w32 n ≡ negℤ (pos n)
+negative n h = rw (size-back n h) (+ℤ-idl (negℤ (pos n)))
+
+pub negative-fits : (n : ℕ) → n ≤ top → SFits w32 (pos 0 -ℤ toZ w32 n)
+negative-fits n h = rw (negative n h) (fits-abs w32 (negℤ (pos n)) (omega (arith, abs-neg (pos n))))
+
+pub negative-back : (n : ℕ) → n ≤ top → toZ w32 (ofZ w32 (pos 0 -ℤ toZ w32 n)) ≡ negℤ (pos n)
+negative-back n h = back w32 (negative-fits n h) ∙ negative n h
+
+-- the test of a sign
+pub sign-back : {z : ℤ} → SFits w32 z → ltZ (toZ w32 (ofZ w32 z)) (pos 0) ≡ isNegative z
+sign-back {z} h = rw (back w32 h) (below-zero z)
+
+-- what `size_of` gives is the number's size
+pub size-is : {z : ℤ} {n : ℕ} → SFits w32 z → n ≡ natAbs (toZ w32 (ofZ w32 z)) → n ≡ natAbs z
+size-is h e = e ∙ ap natAbs (back w32 h)

@@ -1,11 +1,12 @@
--- Values: whole numbers of thousandths, and the working with them (document 01, "Values and time").
--- Definitions only; ValueLaws has what follows from them.
+-- Values: whole numbers of thousandths, and the working with them (document 01, "Values and time"; document 02, Req 02).
+-- Definitions only; ValueLaws and MarkerLaws have what follows from them.
 use mathlib.Core.Bool.{Bool, cond, _||_}
-use Prim.Native.Nat.{ℕ}
+use Prim.Native.Nat.{ℕ, _+_, _*_, _/_}
 use lib.Dec.{eqb, leb}
 use lib.IntN.{ℤ, pos, negsuc, natAbs, negℤ, _+ℤ_, _-ℤ_, _*ℤ_}
 use lib.Signed.{ltZ, quotZ}
 use Rattle.values.specs.Codes.{outOfRange, zeroDivisor, notAllowed}
+use Rattle.values.specs.Size.{isNegative, signedNumber}
 use Rattle.values.specs.declared.arithmetic.Worked.{Worked}
 use Rattle.values.specs.declared.arithmetic.Worked.the-variants.{Value, Alarm}
 
@@ -16,6 +17,10 @@ top = 1000000000
 -- the thousandths of a unit
 abbrev pub unit : ℕ
 unit = 1000
+
+-- half a unit
+abbrev pub half : ℕ
+half = 500
 
 -- document 01's code of an answer: 0 is success
 abbrev pub codeOf : Worked → ℕ
@@ -54,9 +59,21 @@ lessThan a b = ltZ a b
 unfoldable pub equalTo : ℤ → ℤ → Bool
 equalTo a b = eqb (natAbs (a -ℤ b)) 0
 
--- what a marker keeps of a written value: whole units, a fraction is cut toward zero
+-- the whole units in a value, without its fraction; a value is whole that is these
 unfoldable pub wholeUnits : ℤ → ℤ
 wholeUnits v = quotZ v (pos unit) *ℤ pos unit
+
+-- a size to the nearest whole unit, halves up
+abbrev pub nearestSize : ℕ → ℕ
+nearestSize n = (n + half) / unit * unit
+
+-- a number to the nearest whole unit, halves away from zero: its size so, then its sign
+unfoldable pub nearestUnits : ℤ → ℤ
+nearestUnits v = signedNumber (isNegative v) (nearestSize (natAbs v))
+
+-- what a marker takes of a written value; a number that is no value gives alarm 30
+unfoldable pub markerOf : ℤ → Worked
+markerOf v = cond (inRange v) (Value (nearestUnits v)) (Alarm outOfRange)
 
 -- what an output takes: only 0 or 1, else alarm 34
 unfoldable pub outputOf : ℤ → Worked

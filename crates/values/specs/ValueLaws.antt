@@ -1,20 +1,19 @@
 -- Laws of values: what follows from the definitions of Value.
-use mathlib.Core.Path.{_≡_, refl, ap, _∙_}
+use mathlib.Core.Path.{_≡_, refl, _∙_}
 use mathlib.Core.Bool.{Bool, true, false, cond, _||_}
 use mathlib.Core.Logic.{_⊎_, inl, inr}
-use Prim.Native.Nat.{ℕ, zero, suc, _*_, _/_, _≤_}
+use Prim.Native.Nat.{_≤_}
 use native.Mathlib.Omega.{arith}
 use lib.Dec.{eqb}
-use lib.IntN.{ℤ, pos, negsuc, natAbs, negℤ, _-ℤ_, _*ℤ_, +ℤ-invr}
-use lib.Signed.{quotZ}
+use lib.IntN.{ℤ, pos, negsuc, natAbs, negℤ, _-ℤ_, +ℤ-invr}
 use mir.Syntax.{w32}
 use mir.Val.{SFits}
 use borrow.Author.Tests.{eqb-true, eq-eqb, ne-eqb, leb-true, le-leb}
 use Rattle.values.specs.Codes.{zeroDivisor, notAllowed}
 use Rattle.values.specs.declared.arithmetic.Worked.{Worked}
 use Rattle.values.specs.declared.arithmetic.Worked.the-variants.{Value, Alarm}
-use Rattle.values.specs.Value.{top, unit, inRange, valued, sumOf, differenceOf, productOf, quotientOf, negationOf, lessThan, equalTo, wholeUnits, outputOf, feedOf, signOf}
-use Rattle.values.specs.Numbers.{clash, abs-neg, abs-mul, abs-quot, no-difference, fits-abs}
+use Rattle.values.specs.Value.{top, unit, inRange, valued, sumOf, differenceOf, productOf, quotientOf, negationOf, lessThan, equalTo, outputOf, feedOf, signOf}
+use Rattle.values.specs.Numbers.{clash, abs-neg, no-difference, fits-abs}
 
 -- ---- equality is what it says
 
@@ -100,26 +99,6 @@ negation-in-range a = valued-in-range _
 pub negation-value : (a : ℤ) → inRange a ≡ true → negationOf a ≡ Value (negℤ a)
 unfolding negationOf
 negation-value a h = valued-value (negℤ a) (abs-range (negℤ a) (rw (abs-neg a) (range-abs a h)))
-
--- ---- whole units
-
--- cutting brings a value no further from zero, so a marker stays in range
-pub whole-in-range : (v : ℤ) → inRange v ≡ true → inRange (wholeUnits v) ≡ true
-unfolding wholeUnits
-whole-in-range v h = abs-range _ (omega (arith, range-abs v h, abs-mul (quotZ v (pos unit)) (pos unit), abs-quot v (pos unit)))
-
-negative-quotient : (m : ℕ) → quotZ (negℤ (pos m)) (pos unit) ≡ negℤ (pos (m / unit))
-negative-quotient zero = refl
-negative-quotient (suc m) = refl
-
-units-quotient : (q : ℤ) → quotZ (q *ℤ pos unit) (pos unit) ≡ q
-units-quotient (pos n) = let e : n * unit / unit ≡ n = omega arith in ap pos e
-units-quotient (negsuc n) = let e : suc n * unit / unit ≡ suc n = omega arith in negative-quotient (suc n * unit) ∙ ap (λ (m : ℕ). negℤ (pos m)) e
-
--- a marker is whole: cutting it again changes nothing
-pub whole-whole : (v : ℤ) → wholeUnits (wholeUnits v) ≡ wholeUnits v
-unfolding wholeUnits
-whole-whole v = ap (λ (q : ℤ). q *ℤ pos unit) (units-quotient (quotZ v (pos unit)))
 
 -- ---- what the targets make of a value
 

@@ -1,6 +1,9 @@
 // The working with values: sum, difference, product, quotient, negation, comparison, and what the targets make of a value.
 ghost use mathlib.Core.Path.{_≡_};
-ghost use Rattle.values.specs.Value.{inRange, valued, sumOf, differenceOf, productOf, quotientOf, negationOf, lessThan, equalTo, wholeUnits, outputOf, feedOf, signOf};
+ghost use Prim.Native.Nat.{_≤_};
+ghost use lib.IntN.{natAbs};
+ghost use Rattle.values.specs.Size.{signedNumber};
+ghost use Rattle.values.specs.Value.{inRange, valued, sumOf, differenceOf, productOf, quotientOf, negationOf, lessThan, equalTo, wholeUnits, markerOf, outputOf, feedOf, signOf};
 use crate::codes::NOT_ALLOWED;
 use crate::codes::OUT_OF_RANGE;
 use crate::codes::ZERO_DIVISOR;
@@ -9,6 +12,8 @@ use crate::codes::ZERO_DIVISOR;
 pub const TOP: i32 = 1000000000;
 // The thousandths of a unit.
 pub const UNIT: i32 = 1000;
+// Half a unit.
+const HALF: u64 = 500;
 
 // What working gives: a value, or the number of an alarm.
 pub enum Worked {
@@ -40,6 +45,30 @@ pub(crate) fn value_of(x: i64) -> Worked
         return Worked::Alarm(OUT_OF_RANGE);
     }
     Worked::Value(x as i32)
+}
+
+// The size of a number, without its sign.
+fn size_of(v: i32) -> u64
+    ensures { λ r. ⌜ (r ≡ natAbs v) × (r ≤ 2147483648) ⌝ }
+{
+    if v < 0 {
+        return (-(v as i64)) as u64;
+    }
+    v as u64
+}
+
+// A size with its sign put back, as a value, or alarm 30.
+fn signed(negative: bool, size: u64) -> Worked
+    ensures { λ r. ⌜ r ≡ valued (signedNumber negative size) ⌝ }
+{
+    if (TOP as u64) < size {
+        return Worked::Alarm(OUT_OF_RANGE);
+    }
+    let v = size as i32;
+    if negative {
+        return Worked::Value(-v);
+    }
+    Worked::Value(v)
 }
 
 pub fn sum(a: i32, b: i32) -> Worked
@@ -87,11 +116,22 @@ pub fn is_equal(a: i32, b: i32) -> bool
     a == b
 }
 
-// What a marker keeps of a value.
+// The whole units in a value, without its fraction.
 pub fn whole_units(v: i32) -> i32
     ensures { λ r. ⌜ r ≡ wholeUnits v ⌝ }
 {
     v / UNIT * UNIT
+}
+
+// What a marker takes: the nearest whole unit, halves away from zero; of a number that is no value alarm 30.
+pub fn marker(v: i32) -> Worked
+    ensures { λ r. ⌜ r ≡ markerOf v ⌝ }
+{
+    if !in_range(v) {
+        return Worked::Alarm(OUT_OF_RANGE);
+    }
+    let units = (size_of(v) + HALF) / UNIT as u64;
+    signed(v < 0, units * UNIT as u64)
 }
 
 // What an output takes: 0 or 1, else alarm 34.

@@ -1,11 +1,12 @@
 -- `write::write_cell` meets its contract: an index inside lies below the last cell; each return by the tests that led to it.
 use borrow.Author.Needs.{needs}
 use borrow.Author.Tests.{ne-eqb}
-use mathlib.Core.Path.{refl, sym, ap, _∙_}
+use mathlib.Core.Path.{refl, ap, _∙_}
 use Prim.Native.Nat.{_<_}
 use native.Mathlib.Omega.{arith}
+use denote.Ref.{now}
 use mir.Syntax.{w32}
-use Rattle.values.specs.Value.{wholeUnits, outputOf}
+use Rattle.values.specs.Value.{markerOf, outputOf}
 use Rattle.values.specs.SignedLaws.{back}
 use Rattle.tokens.specs.IndexLaws.{last-inside}
 use Rattle.working.specs.Variables.{cellCount, timerCount}
@@ -27,41 +28,29 @@ write-cell-spec =
     (tie.spec
     (λ c κs. search needs)
     (λ c κs. search needs)
-    (λ c. omega (arith, cell-fits (c .before .before)))
-    (λ c. cell-fits (c .before .before))
-    (λ c κs. search needs)
+    (λ c κs. cell-fits (c .before .before .before))
     (λ c.
     let m = c .before in
-    let s = m .before .before in
-    let e = back w32 (record { sfits = m .whole-units .ok }) ∙ m .whole-units .ensures ∙ ap wholeUnits (back w32 (s .before .fits .v)) in
-    rw (c .written-so .ensures, e, s .cell-of .ensures, m .before .if1 .taken) (refl, (refl, refl)))
+    let s = m .before .before .before in
+    let e = m .marker .ensures ∙ ap markerOf (back w32 (s .before .fits .v)) in
+    rw (m .before .before .if1 .taken) (rw (s .cell-of .ensures, e, m .before .before .if1 .taken) at (c .put .ensures (now (s .before .args .runs)))))
     (λ c. omega (arith, cell-fits (c .before .before)))
     (λ c. cell-fits (c .before .before))
     (λ c κs. search needs)
     (λ c.
     let s = c .before .before .before in
-    rw (c .written-so2 .ensures, back w32 (s .before .fits .v), s .cell-of .ensures, c .before .if2 .taken) (refl, (refl, refl)))
+    rw (c .written-so .ensures, back w32 (s .before .fits .v), s .cell-of .ensures, c .before .if2 .taken) (refl, (refl, refl)))
     (λ c κs. search needs)
-    (λ c. search needs)
-    (λ c. omega (arith, cell-fits (c .before .before .before .before .before .before .before)))
-    (λ c. cell-fits (c .before .before .before .before .before .before .before))
-    (λ c κs. search needs)
-    (λ c. search needs)
-    (λ c κs. search needs)
+    (λ c κs. cell-fits (c .before .before .before .before .before))
     (λ c.
-    let o = c .before .before .before .before in
-    let s = o .before .before .before .before in
-    let e = sym (c .before .before .u .given .1) ∙ o .output .ensures ∙ ap outputOf (back w32 (s .before .fits .v)) in
-    rw (c .written-so3 .ensures, back w32 (record { sfits = c .before .known-told .given .0 .1 }), s .cell-of .ensures, o .before .if3 .taken, ← e) (refl, (refl, refl)))
-    (λ c.
-    let o = c .before .before .before .before in
-    let s = o .before .before .before .before in
-    let e = sym (c .before .before .a .given .1) ∙ o .output .ensures ∙ ap outputOf (back w32 (s .before .fits .v)) in
-    rw (o .before .if3 .taken, ← e, c .not-written .ensures) (refl, refl))
+    let m = c .before in
+    let s = m .before .before .before .before .before in
+    let e = m .output .ensures ∙ ap outputOf (back w32 (s .before .fits .v)) in
+    rw (m .before .before .if3 .taken) (rw (s .cell-of .ensures, e, m .before .before .if3 .taken) at (c .put2 .ensures (now (s .before .args .runs)))))
     (λ c κs. search needs)
     (λ c.
     let s = c .before .before .before .before in
-    simp (writeCell, ne-eqb _ _ (s .if1 .left), ne-eqb _ _ (c .before .before .before .if2 .left), ne-eqb _ _ (c .before .before .if3 .left), ne-eqb _ _ (c .before .if4 .taken), c .not-written2 .ensures) (refl, refl))
+    simp (writeCell, ne-eqb _ _ (s .if1 .left), ne-eqb _ _ (c .before .before .before .if2 .left), ne-eqb _ _ (c .before .before .if3 .left), ne-eqb _ _ (c .before .if4 .taken), c .not-written .ensures) (refl, refl))
     (λ c κs. let e = c .before .before in (cell-fits (e .before .before .before .before), timer-fits e))
     (λ c.
     let e = c .before .before .before in
