@@ -1,4 +1,4 @@
-//! The cases: files NAME.in and NAME.out in the folders `cases` and `host-cases`.
+//! The cases: files NAME.in and NAME.out in the folders `cases`, `host-cases` and `print-cases`.
 
 use crate::runner::Form;
 use std::fs;
@@ -12,11 +12,12 @@ pub struct Case {
     pub expected: Vec<u8>,
 }
 
-/// Every case of both folders, by name.
+/// Every case of the folders, by name.
 pub fn all() -> io::Result<Vec<Case>> {
     let home = Path::new(env!("CARGO_MANIFEST_DIR"));
     let mut cases = folder(&home.join("cases"), Form::Synrun)?;
     cases.extend(folder(&home.join("host-cases"), Form::Host)?);
+    cases.extend(folder(&home.join("print-cases"), Form::Print)?);
     Ok(cases)
 }
 

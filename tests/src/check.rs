@@ -34,7 +34,7 @@ fn demand(holds: bool, code: Code) -> Result<(), Code> {
 }
 
 /// The most brackets `(` open anywhere in the line; a `)` with none open counts nothing.
-fn depth(tokens: &[Token]) -> usize {
+pub fn depth(tokens: &[Token]) -> usize {
     let mut open: usize = 0;
     let mut most = 0;
     for token in tokens {

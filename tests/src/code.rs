@@ -1,4 +1,4 @@
-//! The codes of document 01, by name. `number` gives the figure that is printed.
+//! The codes of documents 01 and 02, by name. `number` gives the figure that is printed.
 
 #[derive(Clone, Copy, PartialEq, Eq, PartialOrd, Ord, Debug)]
 pub enum Code {
@@ -18,6 +18,7 @@ pub enum Code {
     BufferTooShort = 20,
     BadNumbers = 21,
     NotSound = 22,
+    PrintTooShort = 24,
     ValueOutOfRange = 30,
     ZeroDivisor = 31,
     FifoEmpty = 32,

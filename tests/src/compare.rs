@@ -4,11 +4,15 @@
 use crate::cases::Case;
 use crate::generate;
 use crate::report::{difference, shown, Report};
+use crate::reprint;
 use crate::runner::{reference, watched, External, Form};
 use crate::shrink::shrink;
 use crate::slip::Slip;
 use std::ops::Range;
 use std::thread;
+
+/// Room for trees as deep as set text can make them.
+const STACK: usize = 64 << 20;
 
 /// Every case, by the reference and by the external programs.
 pub fn compare_cases(report: &mut Report, cases: &[Case], external: &External) {
@@ -25,6 +29,7 @@ pub fn compare_cases(report: &mut Report, cases: &[Case], external: &External) {
                 format!("{} case {} by the program: {difference}", case.form.name(), case.name)
             });
         }
+        reprint::test(report, &format!("{} case {}", case.form.name(), case.name), &case.input, external);
     }
 }
 
@@ -35,7 +40,8 @@ pub fn compare_seeds(report: &mut Report, form: Form, seeds: Range<u64>, externa
     thread::scope(|scope| {
         let share = |first| {
             let seeds = (seeds.start + first..seeds.end).step_by(shares as usize);
-            scope.spawn(move || compare_share(form, seeds, external))
+            let work = move || compare_share(form, seeds, external);
+            thread::Builder::new().stack_size(STACK).spawn_scoped(scope, work).expect("a thread for a share")
         };
         let started: Vec<_> = (0..shares).map(share).collect();
         for share in started {
@@ -44,7 +50,8 @@ pub fn compare_seeds(report: &mut Report, form: Form, seeds: Range<u64>, externa
     });
 }
 
-/// The reference keeps its set and state sound, its history decides as its flags do, and the program prints the same.
+/// The reference keeps its set and state sound, its history decides as its flags do, the program prints the same, and so
+/// does the program that prints sets.
 fn compare_share(form: Form, seeds: impl Iterator<Item = u64>, external: &External) -> Report {
     let mut report = Report::default();
     for seed in seeds {
@@ -54,9 +61,11 @@ fn compare_share(form: Form, seeds: impl Iterator<Item = u64>, external: &Extern
         if form == Form::Synrun {
             report.test(!unsound(&expected), || format!("seed {seed}: the reference answers 22"));
         }
-        if let Some(found) = external.output(form, &input) {
+        let program = if form == Form::Print { None } else { external.output(form, &input) };
+        if let Some(found) = program {
             report.test(found == expected, || explain(form, seed, &input, external));
         }
+        reprint::test(&mut report, &format!("{} seed {seed}", form.name()), &input, external);
     }
     report
 }

@@ -2,6 +2,7 @@
 
 use crate::control::Control;
 use crate::generate;
+use crate::print_seen::{Printed, PATHS};
 use crate::report::Report;
 use crate::runner::{work, Form, Seeds};
 use crate::seen::Seen;
@@ -29,6 +30,9 @@ impl Coverage {
             for seed in seeds.of(form) {
                 coverage.input(form, &generate::input(form, seed), &mut control);
             }
+            if form == Form::Print {
+                continue;
+            }
             for (event, count) in control.seen.counts() {
                 *coverage.counts.entry(group(form).to_owned() + event).or_default() += count;
             }
@@ -43,7 +47,11 @@ impl Coverage {
     fn input(&mut self, form: Form, input: &[u8], control: &mut Control) {
         let mut output = Vec::new();
         work(form, input, control, &mut output).expect("writing to memory");
-        let script: Vec<&[u8]> = text::lines(text::split_at_star(input).1).collect();
+        let (set_text, script) = text::split_at_star(input);
+        let script: Vec<&[u8]> = text::lines(script).collect();
+        if form == Form::Print && !output.starts_with(b"L ") {
+            return self.print_of(&Printed::new(set_text, &output));
+        }
         let output = String::from_utf8_lossy(&output);
         for line in output.lines() {
             self.output_line(form, line, &script);
@@ -51,8 +59,16 @@ impl Coverage {
         if form == Form::Synrun && !output.starts_with("L ") {
             self.note("load 0".into());
         }
-        if form != Form::Synrun {
+        if [Form::Host, Form::Long].contains(&form) {
             script.iter().for_each(|line| self.note(format!("{} line {}", form.name(), host_form(line))));
+        }
+    }
+
+    /// A set text that is taken, and its print.
+    fn print_of(&mut self, printed: &Printed) {
+        self.note("print load 0".into());
+        for (name, _) in PATHS.iter().filter(|(_, is_there)| is_there(printed)) {
+            self.note(format!("print {name}"));
         }
     }
 
@@ -98,6 +114,7 @@ fn group(form: Form) -> &'static str {
     match form {
         Form::Synrun | Form::Host => "",
         Form::Long => "long ",
+        Form::Print => "print ",
     }
 }
 
@@ -128,5 +145,7 @@ fn expected() -> Vec<String> {
         names.extend(["E", "END"].map(|end| format!("{form} ends with {end}")));
     }
     names.extend(["long load 0".into(), "long ends with END".into()]);
+    names.extend((0..=12).map(|code| format!("print load {code}")));
+    names.extend(PATHS.iter().map(|(name, _)| format!("print {name}")));
     names
 }

@@ -1,8 +1,8 @@
 //! An independent interpreter of set text and beats, and what compares a control with it.
 //!
 //! The interpreter: `token`, `parse`, `tree`, `check`, `load`, `set`, `state`, `fifo`, `beat`, `evaluate`,
-//! `variables`, `control`. Its flags are held against `history` by `witness`.
-//! The programs: `synrun`, `host_session`. The rest makes inputs for them and compares what they print.
+//! `variables`, `control`, `print`. Its flags are held against `history` by `witness`.
+//! The programs: `synrun`, `synprint`, `host_session`. The rest makes inputs for them and compares what they print.
 
 pub mod beat;
 pub mod beat_line;
@@ -26,8 +26,11 @@ pub mod listing;
 pub mod load;
 pub mod order;
 pub mod parse;
+pub mod print;
+pub mod print_seen;
 pub mod random;
 pub mod report;
+pub mod reprint;
 pub mod runner;
 pub mod seen;
 pub mod set;
@@ -35,6 +38,7 @@ pub mod shrink;
 pub mod slip;
 pub mod slips;
 pub mod state;
+pub mod synprint;
 pub mod synrun;
 pub mod text;
 pub mod token;

@@ -25,6 +25,7 @@ fn name(case: &Case) -> String {
     match case.form {
         Form::Synrun => case.name.clone(),
         Form::Host | Form::Long => format!("host/{}", case.name),
+        Form::Print => format!("print/{}", case.name),
     }
 }
 

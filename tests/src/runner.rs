@@ -3,7 +3,7 @@
 use crate::control::Control;
 use crate::seen::Seen;
 use crate::slip::Slip;
-use crate::{host_calls, host_session, synrun};
+use crate::{host_calls, host_session, synprint, synrun};
 use std::io::{self, Read, Write};
 use std::ops::Range;
 use std::path::PathBuf;
@@ -24,16 +24,19 @@ pub enum Form {
     Host,
     /// A host session of thousands of steps over a full set.
     Long,
+    /// What `synprint` reads, which is what `synrun` reads.
+    Print,
 }
 
 impl Form {
-    pub const ALL: [Form; 3] = [Form::Synrun, Form::Host, Form::Long];
+    pub const ALL: [Form; 4] = [Form::Synrun, Form::Host, Form::Long, Form::Print];
 
     pub fn name(self) -> &'static str {
         match self {
             Form::Synrun => "synrun",
             Form::Host => "host",
             Form::Long => "long",
+            Form::Print => "print",
         }
     }
 
@@ -48,6 +51,7 @@ pub struct Seeds {
     pub synrun: Range<u64>,
     pub host: Range<u64>,
     pub long: Range<u64>,
+    pub print: Range<u64>,
 }
 
 impl Seeds {
@@ -56,6 +60,7 @@ impl Seeds {
             Form::Synrun => self.synrun.clone(),
             Form::Host => self.host.clone(),
             Form::Long => self.long.clone(),
+            Form::Print => self.print.clone(),
         }
     }
 
@@ -64,6 +69,7 @@ impl Seeds {
             Form::Synrun => self.synrun = seeds,
             Form::Host => self.host = seeds,
             Form::Long => self.long = seeds,
+            Form::Print => self.print = seeds,
         }
     }
 }
@@ -73,6 +79,7 @@ pub fn work(form: Form, input: &[u8], control: &mut Control, out: &mut dyn Write
     match form {
         Form::Synrun => synrun::run(input, control, out),
         Form::Host | Form::Long => host_session::run(input, control, out),
+        Form::Print => synprint::run(input, control, out),
     }
 }
 
@@ -96,6 +103,7 @@ pub fn watched(form: Form, input: &[u8], slip: Slip) -> (Vec<u8>, Option<String>
 pub struct External {
     pub synrun: Option<PathBuf>,
     pub host: Option<PathBuf>,
+    pub print: Option<PathBuf>,
 }
 
 impl External {
@@ -104,6 +112,7 @@ impl External {
         let program = match form {
             Form::Synrun => self.synrun.as_ref()?,
             Form::Host | Form::Long => self.host.as_ref()?,
+            Form::Print => self.print.as_ref()?,
         };
         Some(
             answered(program, form, input)
@@ -119,7 +128,7 @@ fn answered(program: &PathBuf, form: Form, input: &[u8]) -> io::Result<Vec<u8>> 
     let stdout = child.stdout.take().ok_or(io::ErrorKind::BrokenPipe)?;
     let watch = Watch::over(child);
     let mut printed = match form {
-        Form::Synrun => fed(stdin, stdout, input.to_vec()),
+        Form::Synrun | Form::Print => fed(stdin, stdout, input.to_vec()),
         Form::Host | Form::Long => host_calls::run(input, stdin, stdout),
     };
     printed.extend(watch.failure()?.into_bytes());

@@ -58,6 +58,11 @@ impl Set {
         &self.written
     }
 
+    /// Both hold the same lines as written.
+    pub fn is_same(&self, other: &Set) -> bool {
+        self.written == other.written && self.count == other.count
+    }
+
     /// Damages the set by `change` and looks anew whether it is sound.
     pub fn damage(&mut self, change: impl FnOnce(&mut Vec<Vec<Token>>, &mut usize)) {
         change(&mut self.written, &mut self.count);

@@ -25,6 +25,14 @@ pub enum Slip {
     CutAwayFromZero,
     /// Code 12 is looked for before code 5.
     TwelveBeforeFive,
+    /// A print keeps zeros at the end of a fraction.
+    PrintKeepsZeros,
+    /// A print has a space between a word or number and a variable.
+    PrintSpacesDollar,
+    /// A print leaves out pairs of minus signs.
+    PrintShortensChains,
+    /// A print has an LF behind its last line.
+    PrintEndsInLf,
     /// The rule of the history looks back past a reset.
     PastReset,
     /// It looks back for conditions to the line's last release only.
@@ -37,7 +45,7 @@ pub enum Slip {
 
 impl Slip {
     /// In what the control prints.
-    pub const PRINTED: [Slip; 9] = [
+    pub const PRINTED: [Slip; 13] = [
         Slip::EveryByLevel,
         Slip::MemoryClearedAtUnlock,
         Slip::MemoryClearedAtSkip,
@@ -47,6 +55,10 @@ impl Slip {
         Slip::ReadAtBeatStart,
         Slip::CutAwayFromZero,
         Slip::TwelveBeforeFive,
+        Slip::PrintKeepsZeros,
+        Slip::PrintSpacesDollar,
+        Slip::PrintShortensChains,
+        Slip::PrintEndsInLf,
     ];
     /// In the flags of lines, or in the history or its rule, so that the two part.
     pub const PARTING: [Slip; 9] = [
@@ -61,9 +73,18 @@ impl Slip {
         Slip::TextLocksNotWritten,
     ];
 
-    /// Whether `synrun`, which has no reset, can show it.
+    /// Whether programs of this form can show it: `synrun` has no reset, and `synprint` no beat.
     pub fn shows_in(self, form: Form) -> bool {
-        self != Slip::MemoryKeptAtReset || form != Form::Synrun
+        match form {
+            Form::Synrun => !self.is_in_prints() && self != Slip::MemoryKeptAtReset,
+            Form::Host | Form::Long => !self.is_in_prints(),
+            Form::Print => self.is_in_prints() || [Slip::TextOrder, Slip::TwelveBeforeFive].contains(&self),
+        }
+    }
+
+    fn is_in_prints(self) -> bool {
+        [Slip::PrintKeepsZeros, Slip::PrintSpacesDollar, Slip::PrintShortensChains, Slip::PrintEndsInLf]
+            .contains(&self)
     }
 
     /// The cut of products and quotients.

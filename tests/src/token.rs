@@ -166,6 +166,11 @@ pub const SIGNS: [(&str, Token); 15] = [
 
 /// The tokens of a line without its comment, or None if a byte or word makes no token.
 pub fn tokens(line: &[u8]) -> Option<Vec<Token>> {
+    Some(pieces(line)?.into_iter().map(|(token, _)| token).collect())
+}
+
+/// The tokens, each with the bytes that write it.
+pub fn pieces(line: &[u8]) -> Option<Vec<(Token, &[u8])>> {
     let mut found = Vec::new();
     let mut rest = line;
     loop {
@@ -174,7 +179,7 @@ pub fn tokens(line: &[u8]) -> Option<Vec<Token>> {
             return Some(found);
         }
         let (token, length) = first(rest)?;
-        found.push(token);
+        found.push((token, &rest[..length]));
         rest = &rest[length..];
     }
 }

@@ -1,4 +1,4 @@
-//! Random inputs by seed: set text with beats, and host sessions, short and long.
+//! Random inputs by seed: set text with beats, host sessions, short and long, and set text for prints.
 
 mod beats;
 mod expression;
@@ -7,6 +7,7 @@ mod host;
 mod layout;
 mod line;
 mod long;
+mod print;
 mod steady;
 
 use crate::load::TEXT;
@@ -24,10 +25,11 @@ struct RandomSet {
 /// The input of this form that the seed gives.
 pub fn input(form: Form, seed: u64) -> Vec<u8> {
     match form {
-        Form::Synrun if seed % 10 == 0 => long_synrun_input(&mut Random::new(3 * seed)),
-        Form::Synrun => synrun_input(&mut Random::new(3 * seed)),
-        Form::Host => host::session(&mut Random::new(3 * seed + 1)),
-        Form::Long => long::session(&mut Random::new(3 * seed + 2)),
+        Form::Synrun if seed % 10 == 0 => long_synrun_input(&mut Random::new(4 * seed)),
+        Form::Synrun => synrun_input(&mut Random::new(4 * seed)),
+        Form::Host => host::session(&mut Random::new(4 * seed + 1)),
+        Form::Long => long::session(&mut Random::new(4 * seed + 2)),
+        Form::Print => print::input(&mut Random::new(4 * seed + 3)),
     }
 }
 
@@ -55,6 +57,12 @@ fn long_synrun_input(random: &mut Random) -> Vec<u8> {
 
 /// A set that has near misses in `percent` of a hundred.
 fn random_set(random: &mut Random, percent: usize) -> RandomSet {
+    let set = random_lines(random, percent);
+    RandomSet { text: layout::set_text(random, &set.lines), ..set }
+}
+
+/// Such a set without its text.
+fn random_lines(random: &mut Random, percent: usize) -> RandomSet {
     let count = if random.chance(4) { random.below(33) } else { random.between(1, 9) as usize };
     let numbers = distinct_numbers(random, count);
     let mut lines: Vec<String> = numbers.iter().map(|number| line::line(random, *number, &numbers)).collect();
@@ -70,8 +78,7 @@ fn random_set(random: &mut Random, percent: usize) -> RandomSet {
     if faulty {
         fault::add_faults(random, &mut lines, &numbers);
     }
-    let text = layout::set_text(random, &lines);
-    RandomSet { numbers, lines, text, faulty }
+    RandomSet { numbers, lines, text: Vec::new(), faulty }
 }
 
 /// Distinct line numbers in no order, mostly small, the highest first so that a watching line comes last.
