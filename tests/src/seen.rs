@@ -8,13 +8,15 @@ use std::cmp::Ordering;
 use std::collections::BTreeMap;
 
 /// What is counted by itself.
-const EVENTS: [&str; 34] = [
+const EVENTS: [&str; 42] = [
     "read $A_IN", "read $A_INA", "read $AA_IM", "read $A_OUT", "read $AC_MARKER", "read $AC_PARAM",
     "read $R", "read $R run", "read $AC_TIMER", "read $AC_FIFO[0]", "read $AC_FIFO[1]", "read $AC_FIFO[2]",
     "read $AC_FIFO[3]", "read $AC_FIFO[4]", "write $A_OUT", "write $AC_MARKER", "write $AC_PARAM",
     "write $R", "write $AC_TIMER run", "write $AC_TIMER stop", "write $AC_FIFO[0]", "write $AC_FIFO[4]",
     "order POS", "order FA", "order MOV", "order M", "order SETAL", "lock", "unlock", "lock self",
-    "lock later line", "lock earlier line", "unlock cancelled", "lock cancelled",
+    "lock later line", "lock earlier line", "unlock cancelled", "lock cancelled", "marker from 0.499",
+    "marker from 0.500", "marker from 0.501", "marker from -0.499", "marker from -0.500",
+    "marker from -0.501", "marker to the top", "marker to the bottom",
 ];
 /// What is counted for each keyword; the bare word is for lines without.
 const BY_KEYWORD: [(&str, &[&str]); 8] = [
@@ -58,6 +60,14 @@ impl Seen {
     pub fn variable(&mut self, way: &str, variable: Variable) {
         if self.counts.is_some() {
             self.note(&format!("{way} {}", label(variable)));
+        }
+    }
+
+    /// Notes a fraction, in thousandths, that is written to a marker and lies at a half or just beside.
+    pub fn fraction(&mut self, thousandths: i64) {
+        if self.counts.is_some() && (499..=501).contains(&thousandths.abs()) {
+            let sign = if thousandths < 0 { "-" } else { "" };
+            self.note(&format!("marker from {sign}0.{}", thousandths.abs()));
         }
     }
 

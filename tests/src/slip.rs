@@ -1,7 +1,7 @@
 //! Deliberate slips. Cases and random inputs, or the history, must find every one of them; see `slips.rs`.
 
 use crate::runner::Form;
-use crate::value::Cut;
+use crate::value::{Cut, Rounding};
 
 #[derive(Clone, Copy, PartialEq, Eq, Debug, Default)]
 pub enum Slip {
@@ -25,6 +25,10 @@ pub enum Slip {
     CutAwayFromZero,
     /// Code 12 is looked for before code 5.
     TwelveBeforeFive,
+    /// A fraction written to a marker is cut toward zero.
+    MarkersCut,
+    /// A half written to a marker goes up, also below zero.
+    MarkerHalvesUp,
     /// A print keeps zeros at the end of a fraction.
     PrintKeepsZeros,
     /// A print has a space between a word or number and a variable.
@@ -45,7 +49,7 @@ pub enum Slip {
 
 impl Slip {
     /// In what the control prints.
-    pub const PRINTED: [Slip; 13] = [
+    pub const PRINTED: [Slip; 15] = [
         Slip::EveryByLevel,
         Slip::MemoryClearedAtUnlock,
         Slip::MemoryClearedAtSkip,
@@ -55,6 +59,8 @@ impl Slip {
         Slip::ReadAtBeatStart,
         Slip::CutAwayFromZero,
         Slip::TwelveBeforeFive,
+        Slip::MarkersCut,
+        Slip::MarkerHalvesUp,
         Slip::PrintKeepsZeros,
         Slip::PrintSpacesDollar,
         Slip::PrintShortensChains,
@@ -92,6 +98,15 @@ impl Slip {
         match self {
             Slip::CutAwayFromZero => Cut::AwayFromZero,
             _ => Cut::TowardZero,
+        }
+    }
+
+    /// The rounding of what is written to markers.
+    pub fn rounding(self) -> Rounding {
+        match self {
+            Slip::MarkersCut => Rounding::TowardZero,
+            Slip::MarkerHalvesUp => Rounding::HalvesUp,
+            _ => Rounding::Nearest,
         }
     }
 }

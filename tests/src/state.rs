@@ -1,7 +1,7 @@
 //! The state of the control: variables, timers, FIFOs, and what is known of each line.
 
 use crate::set::LINES;
-use crate::value::{in_range, whole_units, Value, TOP, UNIT};
+use crate::value::{in_range, Value, TOP, UNIT};
 
 /// Thousandths that a running timer grows by in a beat.
 const GROWTH: Value = 4;
@@ -63,7 +63,7 @@ impl State {
     /// The state's part of what sound means, for a set of `lines` lines.
     pub fn is_sound(&self, lines: usize) -> bool {
         self.outputs.iter().all(|value| [0, UNIT].contains(value))
-            && self.markers.iter().all(|value| in_range(*value) && whole_units(*value) == *value)
+            && self.markers.iter().all(|value| in_range(*value) && *value % UNIT == 0)
             && self.params.iter().chain(&self.r).all(|value| in_range(*value))
             && self.timers.iter().all(|timer| (0..=TOP).contains(&timer.value))
             && (1..=4).all(|fifo| self.fifo_is_sound(fifo))

@@ -49,9 +49,25 @@ pub fn ranged(value: Value) -> Result<Value, Code> {
     }
 }
 
-/// Cuts a fraction of a whole unit toward zero, as a marker does.
-pub fn whole_units(value: Value) -> Value {
-    value / UNIT * UNIT
+/// Which way a fraction goes that is written to a marker; other than to the nearest unit only in a slip.
+#[derive(Clone, Copy, PartialEq, Eq)]
+pub enum Rounding {
+    /// Halves away from zero.
+    Nearest,
+    TowardZero,
+    HalvesUp,
+}
+
+impl Rounding {
+    /// The whole units that a marker holds once `value`, which is in range, is written to it.
+    pub fn units(self, value: Value) -> Value {
+        let units = match self {
+            Rounding::Nearest => value.signum() * ((value.abs() + UNIT / 2) / UNIT),
+            Rounding::TowardZero => value / UNIT,
+            Rounding::HalvesUp => (value + UNIT / 2).div_euclid(UNIT),
+        };
+        units * UNIT
+    }
 }
 
 fn divide(dividend: i64, divisor: i64, cut: Cut) -> i64 {

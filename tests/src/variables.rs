@@ -4,7 +4,7 @@ use crate::beat::Beat;
 use crate::code::Code;
 use crate::token::Name;
 use crate::tree::Variable;
-use crate::value::{whole_units, Value, UNIT};
+use crate::value::{Value, TOP, UNIT};
 
 impl Beat<'_> {
     pub fn read(&mut self, variable: Variable) -> Result<Value, Code> {
@@ -32,7 +32,7 @@ impl Beat<'_> {
         match variable.name {
             Name::Out if ![0, UNIT].contains(&value) => return Err(Code::ValueNotAllowed),
             Name::Out => self.state.outputs[index - 1] = value,
-            Name::Marker => self.state.markers[index] = whole_units(value),
+            Name::Marker => self.write_marker(index, value),
             Name::Param => self.state.params[index] = value,
             Name::R => self.state.r[index] = value,
             Name::Timer => return self.write_timer(index, value),
@@ -41,6 +41,15 @@ impl Beat<'_> {
         }
         self.seen.variable("write", variable);
         Ok(())
+    }
+
+    fn write_marker(&mut self, index: usize, value: Value) {
+        let units = self.slip.rounding().units(value);
+        self.state.markers[index] = units;
+        if value != units && units.abs() == TOP {
+            self.seen.note(if value > 0 { "marker to the top" } else { "marker to the bottom" });
+        }
+        self.seen.fraction(value % UNIT);
     }
 
     fn write_timer(&mut self, index: usize, value: Value) -> Result<(), Code> {

@@ -12,6 +12,13 @@ const EDGES: [&str; 12] = [
     "99990.001 * 10.001", "1000000 * 1", "999999.999 + 0.001", "- 1000000 - 0", "1 / 3 * 3", "1000000 / 1",
     "0.001 * 0.5", "- 0.003 * 0.5", "- 1.999", "- 999999.999 - 0.001", "1000 / 0.001", "- 1 / 3",
 ];
+/// Values just under, at and just over a half, for markers; and those that lie near the ends of the range.
+const HALVES: [&str; 12] = [
+    "0.499", "0.5", "0.501", "- 0.499", "- 0.5", "- 0.501", "1.499", "- 1.499", "2.5", "- 2.5", "7.501",
+    "- 7.501",
+];
+const HIGH_HALVES: [&str; 6] =
+    ["999999.5", "- 999999.5", "999999.499", "- 999999.499", "999999.501", "- 999999.999"];
 const COMPARISONS: [&str; 6] = ["==", "<>", "<", ">", "<=", ">="];
 
 pub fn axis(random: &mut Random) -> &'static str {
@@ -55,6 +62,16 @@ pub fn constant(random: &mut Random) -> String {
         0 => "1000000".into(),
         1 => format!("{}.{:03}", random.below(100_000), random.below(1000)),
         _ => random.pick(&CONSTANTS).to_string(),
+    }
+}
+
+/// A value around a half, by itself or beside a whole number.
+pub fn half(random: &mut Random) -> String {
+    match random.below(4) {
+        3 => random.pick(&HIGH_HALVES).into(),
+        0 => format!("$A_IN [ {} ] + {}", random.between(1, 4), random.pick(&HALVES)),
+        1 => format!("- $A_IN [ {} ] - {}", random.between(1, 4), random.pick(&["0.499", "0.5", "0.501"])),
+        _ => random.pick(&HALVES).into(),
     }
 }
 

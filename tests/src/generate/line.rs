@@ -1,6 +1,6 @@
 //! Random lines, as tokens one space apart, of sorts that work on each other.
 
-use super::expression::{axis, condition, index, number, readable, switched};
+use super::expression::{axis, condition, half, index, number, readable, switched};
 use crate::random::Random;
 
 pub const KEYWORDS: [(usize, &str); 5] =
@@ -146,8 +146,9 @@ fn writable(random: &mut Random) -> String {
 
 pub fn action(random: &mut Random, keyword: &str, numbers: &[i64]) -> String {
     let place = index(random, 0, 31);
-    match random.below(24) {
+    match random.below(25) {
         0..=2 => format!("$AC_MARKER [ {place} ] = $AC_MARKER [ {place} ] + 1"),
+        24 => format!("$AC_MARKER [ {} ] = {}", random.between(28, 31), half(random)),
         3..=8 => format!("{} = {}", writable(random), number(random, 2)),
         9..=10 => format!("$A_OUT [ {} ] = $A_IN [ {} ]", index(random, 1, 16), index(random, 1, 16)),
         11 => format!("$A_OUT [ 1 ] = 1 - $A_OUT [ {} ]", index(random, 1, 16)),

@@ -26,12 +26,12 @@ pub fn input(random: &mut Random) -> Vec<u8> {
     input
 }
 
-/// A set whose lines are written at length; every tenth has near misses, and some have no line.
+/// A set whose lines are written at length; every sixth has near misses, and some have no line.
 fn dressed_text(random: &mut Random) -> Vec<u8> {
     if random.chance(2) {
         return layout::set_text(random, &["".into(), " ".into(), "".into()]);
     }
-    let set = random_lines(random, 10);
+    let set = random_lines(random, 16);
     let lines: Vec<String> = set.lines.iter().map(|line| dressed(random, line)).collect();
     layout::set_text(random, &lines)
 }

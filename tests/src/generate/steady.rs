@@ -1,7 +1,7 @@
 //! Full sets that run for thousands of beats: what their lines write stays in range, so that alarms come from inputs
 //! and pass with them.
 
-use super::expression::axis;
+use super::expression::{axis, half};
 use super::layout::lines_text;
 use super::line::{held_lines, lock, watching_line, ALARMS, KEYWORDS};
 use super::{distinct_numbers, RandomSet};
@@ -107,7 +107,8 @@ fn source(random: &mut Random) -> String {
 /// Counters, and values that shrink more than they grow.
 fn action(random: &mut Random, keyword: &str, numbers: &[i64]) -> String {
     let (to, from) = (random.between(0, 7), random.between(0, 7));
-    match random.below(24) {
+    match random.below(26) {
+        24..=25 => format!("$AC_MARKER [ {} ] = {}", random.between(28, 31), half(random)),
         0..=4 => format!("$AC_MARKER [ {to} ] = $AC_MARKER [ {to} ] + 1"),
         5 => format!("$AC_MARKER [ {to} ] = 0"),
         6..=8 => format!("$R [ {to} ] = $R [ {from} ] / 3 + {}", source(random)),
