@@ -1,6 +1,6 @@
 -- Laws on the faults of a line: FIFO [0] as a right side; a command and an action by their tokens; the loop over actions; a line's parts, 4 before 5 to 10, DO, the keyword.
 use mathlib.Core.Path.{_≡_, refl, sym, ap, _∙_}
-use mathlib.Core.Bool.{Bool, true, false, _&&_, _||_, not}
+use mathlib.Core.Bool.{Bool, true, false, _&&_, _||_, not, or-false, or-assoc}
 use mathlib.Core.List.{List}
 use Prim.Native.Nat.{ℕ, zero, suc, _+_, _-_, _<_, _≤_}
 use native.Mathlib.Omega.{arith}
@@ -9,13 +9,13 @@ use lib.ListN.{getD, drop}
 use borrow.Author.Tests.{not-true, not-false, eq-eqb, ne-eqb}
 use Rattle.values.specs.Codes.{tooDeep, notInGrammar}
 use Rattle.checking.specs.declared.line.Line.{Line}
-use Rattle.tokens.specs.Token.{setSize, FIFO1, FIFO4, END, EQUALS, OPEN, CLOSE, IDS, DO, M, isArithmetic, isFifo, isCall, isKeyword, isWhole, whole}
+use Rattle.tokens.specs.Token.{setSize, FIFO1, FIFO4, END, EQUALS, OPEN, CLOSE, IDS, DO, M, isArithmetic, isFifo, isCall, isNaming, isKeyword, isWhole, whole}
 use Rattle.tokens.specs.Descent.{Read, read, ends, then, isIndexed, indexAt, expressionAt}
-use Rattle.checking.specs.Fault.{sight, faultFor, isRemoval, assignmentAt, commandAt, actionAt, countFault, actionsAt, numberOf, faultyLine, judged, lineParts, bodyAt, restAt}
+use Rattle.checking.specs.Fault.{sight, faultFor, isRemoval, assignmentAt, commandAt, actionAt, countFault, actionsAt, namesFrom, numberOf, faultyLine, judged, lineParts, bodyAt, restAt}
 use Rattle.tokens.specs.SingleFault.{lower, codeFault, callFault, opensTooMany}
 use Rattle.values.specs.Choice.{both, chosen, refused}
 use Rattle.tokens.specs.BetweenLaws.{tested}
-use Rattle.checking.specs.SightNumber.{nextOf, faultOf, faulted, bodyFrom}
+use Rattle.checking.specs.SightNumber.{nextOf, truthOf, faultOf, faulted, Noted, bodyFrom}
 use Rattle.checking.specs.Brackets.{NoBracket, InGrammar, Joined}
 use Rattle.checking.proofs.SightNumberLaws.{Made, faulted-stop, faulted-read}
 use Rattle.checking.proofs.BracketCountLaws.{other-high}
@@ -135,6 +135,22 @@ module _ (s : List ℕ) (kw k t n f p : ℕ) (l : 0 < t) where
     unfolding after
     acts-on ne = sym (rw (after, ne-eqb _ _ ne)) ∙ reaches
 
+    names-end : getD s q 0 ≡ END → isNaming (getD s p 0) ≡ namesFrom s kw k t p
+    unfolding namesFrom
+    names-end z = sym (go t l)
+      where
+        go : (t : ℕ) → 0 < t → namesFrom s kw k t p ≡ isNaming (getD s p 0)
+        go zero m = absurd (omega arith)
+        go (suc j) m = simp (namesFrom, e, eq-eqb _ _ z) (or-false (isNaming (getD s p 0)))
+
+    names-on : (getD s q 0 ≡ END → ⊥) → (isNaming (getD s p 0) || namesFrom s kw k (t - 1) q) ≡ namesFrom s kw k t p
+    unfolding namesFrom
+    names-on ne = go t l
+      where
+        go : (t : ℕ) → 0 < t → (isNaming (getD s p 0) || namesFrom s kw k (t - 1) q) ≡ namesFrom s kw k t p
+        go zero m = absurd (omega arith)
+        go (suc j) m = let x : suc j - 1 ≡ j = omega arith in rw x (sym (simp (namesFrom, e, ne-eqb _ _ ne)))
+
 fault-in : Read ℕ → ℕ
 fault-in (read f q) = f
 fault-in (ends k) = k
@@ -174,6 +190,22 @@ module _ {s : List ℕ} {kw k t n low a x p i : ℕ} {whole : Read ℕ} (r : Rou
     pub round-goes : (getD s i 0 ≡ END → ⊥) → then (faulted x) (actionsAt s kw k (t - 1) (n + 1)) ≡ whole
     round-goes ne = ap (λ (y : Read ℕ). then y (actionsAt s kw k (t - 1) (n + 1))) all-so-far ∙ acts-on s kw k t n (faultOf low) p (r .left) (faultOf a) i (sym (r .action) ∙ next-action) ne ∙ all-from
 
+    -- whether a line was named before, b, and with this action, c; u is its first token
+    module _ (b : Bool) {c all : Bool} {u : ℕ} (v : u ≡ getD s p 0) (d : c ≡ (b || isNaming u)) (h : (b || namesFrom s kw k t (nextOf low)) ≡ all) where
+      named : c ≡ (b || isNaming (getD s p 0))
+      named = d ∙ ap (λ (w : ℕ). b || isNaming w) v
+
+      all-named : (b || namesFrom s kw k t p) ≡ all
+      all-named = ap (λ (q : ℕ). b || namesFrom s kw k t q) (r .from) ∙ h
+
+      pub round-noted : getD s i 0 ≡ END → c ≡ all
+      round-noted z = named ∙ ap (λ (y : Bool). b || y) (names-end s kw k t n (faultOf low) p (r .left) (faultOf a) i (sym (r .action) ∙ next-action) z) ∙ all-named
+
+      pub round-names : (getD s i 0 ≡ END → ⊥) → (c || namesFrom s kw k (t - 1) (nextOf x)) ≡ all
+      round-names ne =
+          rw (named, ← r .to) (or-assoc b (isNaming (getD s p 0)) (namesFrom s kw k (t - 1) i)) ∙
+          ap (λ (y : Bool). b || y) (names-on s kw k t n (faultOf low) p (r .left) (faultOf a) i (sym (r .action) ∙ next-action) ne) ∙ all-named
+
 -- ---- a line
 
 module _ (s : List ℕ) (p kw cp b : ℕ) where
@@ -181,7 +213,7 @@ module _ (s : List ℕ) (p kw cp b : ℕ) where
   unfolding lineParts
   faulty-parts f e ne = simp (lineParts, ne-eqb _ _ ne)
 
-  good-parts : (e : ℕ) → lineParts s p kw cp b (read 0 e) ≡ record { fault = 0; number = numberOf (whole (getD s (p + 2) 0)); ids = eqb (getD s p 0) IDS; keyword = kw; condition = cp; actions = b; end = e }
+  good-parts : (e : ℕ) → lineParts s p kw cp b (read 0 e) ≡ record { fault = 0; number = numberOf (whole (getD s (p + 2) 0)); ids = eqb (getD s p 0) IDS; keyword = kw; condition = cp; actions = b; end = e; names = namesFrom s kw setSize setSize b }
   unfolding lineParts
   good-parts e = refl
 
@@ -195,8 +227,9 @@ module _ (s : List ℕ) (p kw cp b : ℕ) where
       pub parts-faulty : (f ≡ 0 → ⊥) → lineParts s p kw cp b (faulted a) ≡ faultyLine f
       parts-faulty ne = ap (lineParts s p kw cp b) (faulted-read a h g ∙ ap (λ (x : ℕ). read x q) (sym m)) ∙ faulty-parts _ _ ne
 
-      pub parts-good : {n : ℕ} {i : Bool} → f ≡ 0 → n ≡ numberOf (whole (getD s (p + 2) 0)) → i ≡ eqb (getD s p 0) IDS → _≡_ {A = Line} (record { fault = 0; number = n; ids = i; keyword = kw; condition = cp; actions = b; end = q }) (lineParts s p kw cp b (faulted a))
-      parts-good z e r = rw (e, r) (sym (ap (lineParts s p kw cp b) (faulted-read a h g ∙ ap (λ (x : ℕ). read x q) (sym m ∙ z)) ∙ good-parts q))
+      pub parts-good : {n : ℕ} {i j : Bool} → f ≡ 0 → n ≡ numberOf (whole (getD s (p + 2) 0)) → i ≡ eqb (getD s p 0) IDS → j ≡ truthOf a → Noted s kw b a →
+          _≡_ {A = Line} (record { fault = 0; number = n; ids = i; keyword = kw; condition = cp; actions = b; end = q; names = j }) (lineParts s p kw cp b (faulted a))
+      parts-good z e r t u = rw (e, r, t ∙ u (λ y. g (h ∙ y))) (sym (ap (lineParts s p kw cp b) (faulted-read a h g ∙ ap (λ (x : ℕ). read x q) (sym m ∙ z)) ∙ good-parts q))
 
 -- 4 comes first
 module _ (s : List ℕ) (p : ℕ) (l : Line) {o : Bool} (e : o ≡ opensTooMany (drop p s) 0) where

@@ -175,3 +175,19 @@ faults-wanted t (ends k) = refl
 -- x is what a says where a yes/no or a number is wanted, and a says y
 pub faulted-wanted : (t : Bool) (a x : ℕ) (y : Read Sight) → seen a ≡ y → seen x ≡ then (seen a) (signedSight t) → faulted x ≡ faultFor t y
 faulted-wanted t a x y e f = faulted-faults x ∙ ap faults (f ∙ ap (λ (r : Read Sight). then r (signedSight t)) e) ∙ faults-wanted t y
+
+-- ---- actions and whether one of them names a line
+
+faulted-same : (w x : ℕ) → nextOf x ≡ nextOf w → faultOf x ≡ faultOf w → faulted x ≡ faulted w
+unfolding faulted
+faulted-same w x e f =
+    ap (λ (i : ℕ). elim (eqb i 0) as (λ _. Read ℕ) [ true ↦ ends notInGrammar | false ↦ read (faultOf x) i ]) e ∙ ap (λ (g : ℕ). elim (eqb (nextOf w) 0) as (λ _. Read ℕ) [ true ↦ ends notInGrammar | false ↦ read g (nextOf w) ]) f
+
+-- x is made of the fault, the depth and the place of w, as a yes/no (true) or a number (false)
+pub made-noted : (w : ℕ) {f d i x : ℕ} {o : Bool} → f ≡ faultOf w → d ≡ depthOf w → i ≡ nextOf w → (t : Bool) → o ≡ t → x ≡ cond t (truthSeen f d i) (numberSeen f d i) → (faulted x ≡ faulted w) × (SameEnd w x × (truthOf x ≡ o))
+made-noted w {i = i} {x = x} e g h true k j =
+    let m = truth-made i (omega arith) (omega arith) (in-room w h) j in
+    (faulted-same w x (m .next ∙ h) (m .fault ∙ e), (same-end-made w m h g, eq-eqb (x / room % 2) 1 (omega arith) ∙ sym k))
+made-noted w {i = i} {x = x} e g h false k j =
+    let m = number-made i (omega arith) (omega arith) (in-room w h) j in
+    (faulted-same w x (m .next ∙ h) (m .fault ∙ e), (same-end-made w m h g, ne-eqb (x / room % 2) 1 (λ z. omega arith) ∙ sym k))

@@ -1,12 +1,12 @@
 -- Faults 4 to 10 of a line, from its tokens, and where its parts lie (document 01, "Lines of text" and "Codes"). Definitions only.
-use mathlib.Core.Bool.{Bool, true, false, cond, not, _&&_}
+use mathlib.Core.Bool.{Bool, true, false, cond, not, _&&_, _||_}
 use mathlib.Core.List.{List}
 use Prim.Native.Nat.{ℕ, zero, suc, _+_}
 use lib.Dec.{eqb, leb}
 use lib.ListN.{drop}
 use Rattle.values.specs.Codes.{tooDeep, notInGrammar, tooManyActions}
 use Rattle.checking.specs.declared.line.Line.{Line}
-use Rattle.tokens.specs.Token.{setSize, END, EQUALS, OPEN, CLOSE, IDS, DO, M, isVariable, isFifo, isDrive, isCall, isKeyword, isId, isArithmetic, isLogic, isWhole, whole, maxActions}
+use Rattle.tokens.specs.Token.{setSize, END, EQUALS, OPEN, CLOSE, IDS, DO, M, isVariable, isFifo, isDrive, isCall, isNaming, isKeyword, isId, isArithmetic, isLogic, isWhole, whole, maxActions}
 use Rattle.tokens.specs.Descent.{token, good, Read, read, ends, then, Meaning, isIndexed, indexAt, sumAt, expressionAt}
 use Rattle.tokens.specs.SingleFault.{callFault, codeFault, idFault, lower, numberFault, opensTooMany, readFault, unless, wantingFault, writeFault}
 
@@ -59,7 +59,7 @@ numberOf n = cond (leb n 255) n 0
 
 -- a line with a fault has no parts
 abbrev pub faultyLine : ℕ → Line
-faultyLine k = record { fault = k; number = 0; ids = false; keyword = 0; condition = 0; actions = 0; end = 0 }
+faultyLine k = record { fault = k; number = 0; ids = false; keyword = 0; condition = 0; actions = 0; end = 0; names = false }
 
 module _ (s : List ℕ) where
   -- ---- 5 to 9 in an action
@@ -115,13 +115,31 @@ module _ (s : List ℕ) where
         | false ↦ actionsAt kw k j (n + 1) (lower f g) q
       ])
 
+  -- whether one of these actions names a line: LOCK or UNLOCK
+  unfoldable pub namesFrom : ℕ → ℕ → ℕ → ℕ → Bool
+  namesFrom kw k zero p = false
+  namesFrom kw k (suc j) p =
+      elim (actionAt kw k p) [
+        | read g q ↦ isNaming (token s p) || elim (eqb (token s q) END) [ true ↦ false | false ↦ namesFrom kw k j q ]
+        | ends c ↦ false
+      ]
+
   -- ---- a line
 
   -- the line at p, with the keyword kw over a condition at cp (0 and 0 if it has none) and actions from a on, which have the lowest fault f and end at e
   unfoldable pub lineParts : ℕ → ℕ → ℕ → ℕ → Read ℕ → Line
   lineParts p kw cp a (read f e) =
       elim (eqb f 0) [
-        | true ↦ record { fault = 0; number = numberOf (whole (token s (p + 2))); ids = eqb (token s p) IDS; keyword = kw; condition = cp; actions = a; end = e }
+        | true ↦ record {
+          fault = 0;
+          number = numberOf (whole (token s (p + 2)));
+          ids = eqb (token s p) IDS;
+          keyword = kw;
+          condition = cp;
+          actions = a;
+          end = e;
+          names = namesFrom kw setSize setSize a;
+        }
         | false ↦ faultyLine f
       ]
   lineParts p kw cp a (ends k) = faultyLine k

@@ -1,14 +1,15 @@
--- What the check sees, as one number of 64 bits: its remainder by `room` is the next place, 0 where it is not in the grammar; its quotient has one bit for a yes/no, the lowest fault, and the greatest depth of brackets, counted to nine; and what its steps read. Definitions only.
+-- What the check sees, as one number of 64 bits: its remainder by `room` is the next place, 0 where it is not in the grammar; its quotient has one bit for a yes/no or, of actions, for a name, the lowest fault, and the greatest depth of brackets, counted to nine; and what its steps read. Definitions only.
+use mathlib.Core.Path.{_≡_}
 use mathlib.Core.Bool.{Bool, true, false, cond}
 use mathlib.Core.List.{List}
 use Prim.Native.Nat.{ℕ, zero, suc, _+_, _*_, _/_, _%_, max}
 use lib.Dec.{eqb}
 use lib.ListN.{getD}
 use Rattle.values.specs.Codes.{notInGrammar}
-use Rattle.tokens.specs.Token.{room, MINUS}
+use Rattle.tokens.specs.Token.{room, setSize, MINUS}
 use Rattle.tokens.specs.Descent.{Read, read, ends}
 use Rattle.checking.specs.declared.line.Line.{Line}
-use Rattle.checking.specs.Fault.{Sight, signed, bodyAt, faultyLine}
+use Rattle.checking.specs.Fault.{Sight, signed, namesFrom, bodyAt, faultyLine}
 
 abbrev pub numberSeen : ℕ → ℕ → ℕ → ℕ
 numberSeen f d p = (d * 256 + f) * 2 * room + p % room
@@ -50,6 +51,10 @@ faulted w = elim (eqb (nextOf w) 0) [ true ↦ ends notInGrammar | false ↦ rea
 -- behind a sign that is or wants a yes/no (true) or a number (false), where a was read up to q
 abbrev pub signedSight : Bool → Sight → ℕ → Read Sight
 signedSight t a q = read (signed t a) q
+
+-- x, which tells of the actions from p on under the keyword kw, tells too whether one of them names a line
+abbrev pub Noted : List ℕ → ℕ → ℕ → ℕ → Type 0
+Noted s kw p x = (nextOf x ≡ 0 → ⊥) → truthOf x ≡ namesFrom s kw setSize setSize p
 
 -- how many more - stand directly behind the one at p, at most k
 unfoldable pub signsBehind : List ℕ → ℕ → ℕ → ℕ

@@ -1,16 +1,20 @@
 // The check of actions: the faults 5 to 10 in them.
 ghost use mathlib.Core.Path.{_≡_};
+ghost use mathlib.Core.Bool.{_||_};
 ghost use Prim.Native.Nat.{_+_, _<_};
-ghost use Rattle.tokens.specs.Token.{setSize};
-ghost use Rattle.checking.specs.SightNumber.{nextOf, faultOf, faulted};
-ghost use Rattle.checking.specs.Brackets.{NoBracket, InGrammar, Counted, Onward};
+ghost use Rattle.tokens.specs.Token.{setSize, isNaming};
+ghost use Rattle.checking.specs.SightNumber.{nextOf, truthOf, faultOf, faulted, Noted};
+ghost use Rattle.checking.specs.Brackets.{NoBracket, InGrammar, Counted, Onward, SameEnd};
 ghost use Rattle.checking.specs.Fault.{isRemoval, assignedAt, assignmentAt, commandAt, actionAt, countFault, actionsAt};
 use crate::expression::sum;
 use crate::sight::as_wanted;
 use crate::sight::join_faults;
 use crate::sight_number::NOTHING;
+use crate::sight_number::depth_of;
+use crate::sight_number::fault_of;
 use crate::sight_number::next_of;
 use crate::sight_number::number_seen;
+use crate::sight_number::truth_seen;
 use tokens::fault::call_fault;
 use tokens::fault::code_fault;
 use tokens::fault::write_fault;
@@ -27,6 +31,7 @@ use tokens::token::is_call;
 use tokens::token::is_drive;
 use tokens::token::is_fifo;
 use tokens::token::is_indexed;
+use tokens::token::is_naming;
 use tokens::token::is_variable;
 use tokens::token::is_whole;
 use tokens::token::token_at;
@@ -127,23 +132,49 @@ fn count_fault(n: usize) -> u8
     if n <= ACTIONS { 0 } else { TOO_MANY_ACTIONS }
 }
 
-// What was seen, and one or more actions behind it up to the line's end: the lowest fault of all.
+// Whether a line was named before, or the action that begins with a word names one.
+fn or_naming(names: bool, t: u32) -> bool
+    ensures { λ x. ⌜ x ≡ names || isNaming t ⌝ }
+{
+    if names {
+        return true;
+    }
+    is_naming(t)
+}
+
+// What was seen of actions, and whether one of them names a line.
+fn noted(names: bool, w: u64) -> u64
+    ensures { λ x. ⌜ (faulted x ≡ faulted w) × (SameEnd w x × (truthOf x ≡ names)) ⌝ }
+{
+    let fault = fault_of(w);
+    let depth = depth_of(w);
+    let i = next_of(w);
+    if names {
+        return truth_seen(fault, depth, i);
+    }
+    number_seen(fault, depth, i)
+}
+
+// What was seen, and one or more actions behind it up to the line's end: the lowest fault of all, and whether one of them names a line.
 pub fn actions(set: &[u32; SIZE], keyword: u32, w: u64) -> u64
     requires { ⌜ InGrammar w ⌝ }
-    ensures { λ x. ⌜ (faulted x ≡ actionsAt (now (set .entry)) keyword setSize setSize 0 (faultOf w) (nextOf w)) × Onward (now (set .entry)) w x ⌝ }
+    ensures { λ x. ⌜ (faulted x ≡ actionsAt (now (set .entry)) keyword setSize setSize 0 (faultOf w) (nextOf w)) × (Onward (now (set .entry)) w x × Noted (now (set .entry)) keyword (nextOf w) x) ⌝ }
 {
     let mut low = w;
     let mut n: usize = 0;
+    let mut names = false;
     let mut rounds: usize = SIZE;
     while 0 < rounds {
-        low = join_faults(low, action(set, keyword, next_of(low)));
+        let at = next_of(low);
+        names = or_naming(names, token_at(set, at));
+        low = join_faults(low, action(set, keyword, at));
         let i = next_of(low);
         if i == 0 {
             return NOTHING;
         }
         n += 1;
         if token_at(set, i) == END {
-            return join_faults(low, number_seen(count_fault(n), 0, i));
+            return noted(names, join_faults(low, number_seen(count_fault(n), 0, i)));
         }
         rounds -= 1;
     }

@@ -5,7 +5,7 @@ ghost use lib.ListN.{drop};
 ghost use Rattle.tokens.specs.Token.{setSize};
 ghost use Rattle.tokens.specs.SingleFault.{opensTooMany};
 ghost use Rattle.values.specs.Codes.{notInGrammar};
-ghost use Rattle.checking.specs.SightNumber.{faulted, bodyFrom};
+ghost use Rattle.checking.specs.SightNumber.{faulted, Noted, bodyFrom};
 ghost use Rattle.checking.specs.Brackets.{CountsOn, Counted};
 ghost use Rattle.checking.specs.Fault.{numberOf, faultyLine, judged, lineParts, restAt, lineAt};
 use crate::action::actions;
@@ -17,6 +17,7 @@ use crate::sight_number::depth_of;
 use crate::sight_number::fault_of;
 use crate::sight_number::next_of;
 use crate::sight_number::number_seen;
+use crate::sight_number::truth_of;
 use tokens::fault::id_fault;
 use tokens::fault::opens_too_many;
 use tokens::token::DO;
@@ -31,8 +32,8 @@ use tokens::token::whole_of;
 use values::codes::NOT_IN_GRAMMAR;
 use values::codes::TOO_DEEP;
 
-// The parts of a line: its number, whether it is IDS, its keyword (0: none), where its condition and its actions begin and where it ends. A line with a
-// fault has none.
+// The parts of a line: its number, whether it is IDS, its keyword (0: none), where its condition and its actions begin, where it ends, and whether an action of it names a line. A line
+// with a fault has none.
 pub struct Line {
     pub fault: u8,
     pub number: u8,
@@ -41,6 +42,7 @@ pub struct Line {
     pub condition: usize,
     pub actions: usize,
     pub end: usize,
+    pub names: bool,
 }
 
 fn faulty(fault: u8) -> Line
@@ -54,6 +56,7 @@ fn faulty(fault: u8) -> Line
         condition: 0,
         actions: 0,
         end: 0,
+        names: false,
     }
 }
 
@@ -99,7 +102,7 @@ fn parts(
     actions: usize,
     a: u64,
 ) -> Line
-    requires { ⌜ (at < setSize) × Counted (now set) at a ⌝ }
+    requires { ⌜ (at < setSize) × (Counted (now set) at a × Noted (now set) keyword actions a) ⌝ }
     ensures { λ x. ⌜ x ≡ judged (now (set .entry)) at (lineParts (now (set .entry)) at keyword condition actions (faulted a)) ⌝ }
 {
     if is_too_deep(set, at, a) {
@@ -121,6 +124,7 @@ fn parts(
         condition: condition,
         actions: actions,
         end: end,
+        names: truth_of(a),
     }
 }
 
@@ -172,6 +176,7 @@ fn again(l: Line) -> Line
         condition: l.condition,
         actions: l.actions,
         end: l.end,
+        names: l.names,
     }
 }
 

@@ -1,6 +1,6 @@
 // What the check sees, in one number of 64 bits: the walk hands it on in a register.
 //
-// Its remainder by ROOM is the place behind it, 0 where it is not in the grammar; its quotient has one bit for a yes/no, the lowest fault, and the greatest depth of
+// Its remainder by ROOM is the place behind it, 0 where it is not in the grammar; its quotient has one bit for a yes/no or, of actions, for a name, the lowest fault, and the greatest depth of
 // brackets in it, counted to nine.
 ghost use mathlib.Core.Path.{_≡_};
 ghost use Rattle.checking.specs.SightNumber.{numberSeen, truthSeen, nextOf, truthOf, faultOf, isFaultless, depthOf, deeperOf};
@@ -34,7 +34,7 @@ pub fn next_of(w: u64) -> usize
     (w % ROOM) as usize
 }
 
-// Whether a yes/no was seen.
+// Whether a yes/no was seen; of actions, whether one names a line.
 pub fn truth_of(w: u64) -> bool
     ensures { λ x. ⌜ x ≡ truthOf w ⌝ }
 {

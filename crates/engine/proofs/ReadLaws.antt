@@ -1,7 +1,7 @@
 -- Laws of lines in an array: where each place of a line stands, and a turn of the loop that writes them.
 use mathlib.Core.Path.{_≡_, refl, sym, ap, _∙_}
 use mathlib.Core.List.{List, [], _∷_, _++_, append-assoc}
-use Prim.Native.Nat.{ℕ, zero, suc, _+_, _*_, _%_, _<_, _≤_}
+use Prim.Native.Nat.{ℕ, zero, suc, _+_, _*_, _/_, _%_, _<_, _≤_}
 use native.Mathlib.Omega.{arith}
 use native.Mathlib.Numerals.{add-one}
 use lib.Dec.{eqb, leb}
@@ -44,7 +44,7 @@ module _ (a : List ℕ) (k : ℕ) where
     -- the line of rank k, place by place
     pub line-at : let p : ℕ = firstLine + linePlaces * k in
         getD (linesIn a .items) k noLine
-        ≡ record { fault = 0; number = getD a p 0 % 256; ids = eqb (getD a (p + 1) 0) 1; keyword = getD a (p + 2) 0 % 4294967296; condition = getD a (p + 3) 0; actions = getD a (p + 4) 0; end = getD a (p + 5) 0 }
+        ≡ record { fault = 0; number = getD a p 0 % 256; ids = eqb (getD a (p + 1) 0 % 2) 1; keyword = getD a (p + 2) 0 % 4294967296; condition = getD a (p + 3) 0; actions = getD a (p + 4) 0; end = getD a (p + 5) 0; names = eqb (getD a (p + 1) 0 / 2 % 2) 1 }
     unfolding linesIn
     line-at = item-at maxLines (drop firstLine a) k h ∙ rw (first, place 1, place 2, place 3, place 4, place 5)
 

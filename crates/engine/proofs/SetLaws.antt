@@ -11,11 +11,13 @@ use lib.ListN.{length, drop, getD, set, replicate, drop-of-length-le}
 use lib.Seq.{drop-cons}
 use borrow.Author.Tests.{lt-ltb, le-ltb, eq-eqb, ne-eqb}
 use Rattle.checking.specs.declared.line.Line.{Line}
-use Rattle.tokens.specs.Token.{END, whole, setSize, maxLines}
+use Rattle.tokens.specs.Token.{END, isNaming, whole, setSize, maxLines}
 use Rattle.checking.specs.Fault.{lineAt}
 use Rattle.engine.specs.declared.set.Lines.{Lines}
 use Rattle.values.specs.PutAt.{putAt}
-use Rattle.engine.specs.Set.{lineCount, startOf, withoutMark, withEnd, lineOf, noLine, noLines, linesFrom, linesRead, rankIn, isNaming, namesKnown, lockTable, allKnown, namedLines, soundLines}
+use Rattle.engine.specs.SetLinesLaws.{Lined}
+use Rattle.engine.specs.NamesByTreeLaws.{no-names}
+use Rattle.engine.specs.Set.{lineCount, startOf, withoutMark, withEnd, lineOf, noLine, noLines, linesFrom, linesRead, rankIn, namesKnown, lockTable, allKnown, namedLines, soundLines}
 
 one-less : (k : ℕ) → suc k - 1 ≡ k
 one-less k = omega arith
@@ -103,6 +105,10 @@ module _ (s : List ℕ) (known : ℕ → ℕ → Bool) (k n p : ℕ) (x : Bool) 
   pub known-on : x ≡ true → allKnown s known (n - k) k ≡ allKnown s known (n - (k + 1)) (k + 1)
   unfolding allKnown
   known-on z = rw (turn n k l) (simp (allKnown, names, z))
+
+-- a line in which no action names a line
+pub known-unnamed : (s : List ℕ) (known : ℕ → ℕ → Bool) {l : Lines} → length s ≤ setSize → Lined s l → (k : ℕ) → k < l .count → {p : ℕ} → p ≡ startOf s k → getD (l .items) k noLine .names ≡ false → namesKnown s known setSize p ≡ true
+known-unnamed s known size h k b e z = rw e (no-names s known (startOf s k) size (h .listed .faultless k b) (ap (λ (x : Line). x .names) (sym (h .listed .item k b)) ∙ z))
 
 pub known-none : (s : List ℕ) (known : ℕ → ℕ → Bool) (k m : ℕ) → m ≤ 0 → allKnown s known m k ≡ true
 unfolding allKnown

@@ -5,6 +5,7 @@ pub mod Set
 pub mod TableLaws
 pub mod SetCountLaws
 pub mod SetLinesLaws
+pub mod NamesByTreeLaws
 pub mod ReadLines
 pub mod ReadLinesLaws
 pub mod State

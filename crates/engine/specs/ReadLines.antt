@@ -1,7 +1,7 @@
 -- The lines of a set as one array of numbers, which a program may keep beside its set. Definitions only.
 use mathlib.Core.Bool.{Bool, cond, _&&_}
 use mathlib.Core.List.{List, [], _∷_, _++_, map}
-use Prim.Native.Nat.{ℕ, zero, suc, _+_, _*_, _%_}
+use Prim.Native.Nat.{ℕ, zero, suc, _+_, _*_, _/_, _%_}
 use lib.Dec.{eqb, leb}
 use lib.ListN.{getD, drop}
 use Rattle.tokens.specs.Token.{maxLines}
@@ -11,12 +11,16 @@ use Rattle.engine.specs.Set.{soundLines}
 
 -- ---- what is written
 
--- the places of a line: its number, whether it is IDS, its keyword, where its condition and its actions begin, where it ends
+-- the marks of a line: 1 for IDS, 2 for one in which an action names a line
+abbrev pub marksOf : Bool → Bool → ℕ
+marksOf ids names = cond ids 1 0 + cond names 2 0
+
+-- the places of a line: its number, its marks, its keyword, where its condition and its actions begin, where it ends
 abbrev pub linePlaces : ℕ
 linePlaces = 6
 
 abbrev pub placesOf : Line → List ℕ
-placesOf l = l .number ∷ cond (l .ids) 1 0 ∷ l .keyword ∷ l .condition ∷ l .actions ∷ l .end ∷ []
+placesOf l = l .number ∷ marksOf (l .ids) (l .names) ∷ l .keyword ∷ l .condition ∷ l .actions ∷ l .end ∷ []
 
 unfoldable pub allPlaces : List Line → List ℕ
 allPlaces [] = []
@@ -42,11 +46,12 @@ abbrev pub lineIn : List ℕ → Line
 lineIn xs = record {
   fault = 0;
   number = getD xs 0 0 % 256;
-  ids = eqb (getD xs 1 0) 1;
+  ids = eqb (getD xs 1 0 % 2) 1;
   keyword = getD xs 2 0 % 4294967296;
   condition = getD xs 3 0;
   actions = getD xs 4 0;
   end = getD xs 5 0;
+  names = eqb (getD xs 1 0 / 2 % 2) 1;
 }
 
 unfoldable pub itemsIn : ℕ → List ℕ → List Line

@@ -2,7 +2,7 @@
 use mathlib.Core.Path.{_≡_, refl, sym, ap, _∙_}
 use mathlib.Core.Bool.{Bool, true, false, cond, _&&_}
 use mathlib.Core.List.{List, [], _∷_, _++_, map}
-use Prim.Native.Nat.{ℕ, zero, suc, _+_, _%_, _<_}
+use Prim.Native.Nat.{ℕ, zero, suc, _+_, _/_, _%_, _<_}
 use native.Mathlib.Omega.{arith}
 use lib.Dec.{eqb, leb, ltb}
 use lib.ListN.{length, drop, set, replicate}
@@ -18,7 +18,7 @@ use Rattle.checking.specs.declared.line.Line.{Line}
 use Rattle.engine.specs.declared.set.Lines.{Lines}
 use Rattle.engine.specs.Set.{lineCount, startOf, lineOf, noLine, noLines, linesFrom, linesRead, allKnown, lockTable, namedLines, soundLines}
 use Rattle.engine.specs.SetLinesLaws.{lines-lined}
-use Rattle.engine.specs.ReadLines.{placesOf, allPlaces, linesWritten, lineIn, itemsIn, linesIn}
+use Rattle.engine.specs.ReadLines.{marksOf, placesOf, allPlaces, linesWritten, lineIn, itemsIn, linesIn}
 
 -- ---- a line's number is a byte, its keyword has 32 bits
 
@@ -121,9 +121,9 @@ lines-regular s =
 
 -- ---- read back
 
-same-line : {f g n o k l c a e : ℕ} {i j : Bool} → f ≡ g → n ≡ o → i ≡ j → k ≡ l →
-    _≡_ {A = Line} (record { fault = f; number = n; ids = i; keyword = k; condition = c; actions = a; end = e }) (record { fault = g; number = o; ids = j; keyword = l; condition = c; actions = a; end = e })
-same-line p q r t = rw (p, q, r, t)
+same-line : {f g n o k l c a e : ℕ} {i j b d : Bool} → f ≡ g → n ≡ o → i ≡ j → k ≡ l → b ≡ d →
+    _≡_ {A = Line} (record { fault = f; number = n; ids = i; keyword = k; condition = c; actions = a; end = e; names = b }) (record { fault = g; number = o; ids = j; keyword = l; condition = c; actions = a; end = e; names = d })
+same-line p q r t u = rw (p, q, r, t, u)
 
 same-lines : {b c : Bool} {n : ℕ} {ns os : List ℕ} {ks ls : List Line} → b ≡ c → ns ≡ os → ks ≡ ls →
     _≡_ {A = Lines} (record { sound = b; count = n; numbers = ns; items = ks }) (record { sound = c; count = n; numbers = os; items = ls })
@@ -133,11 +133,24 @@ bit-back : (b : Bool) → eqb (cond b 1 0) 1 ≡ b
 bit-back true = refl
 bit-back false = refl
 
+-- the marks say both
+ids-back : (i n : Bool) → eqb (marksOf i n % 2) 1 ≡ i
+ids-back true true = refl
+ids-back true false = refl
+ids-back false true = refl
+ids-back false false = refl
+
+names-back : (i n : Bool) → eqb (marksOf i n / 2 % 2) 1 ≡ n
+names-back true true = refl
+names-back true false = refl
+names-back false true = refl
+names-back false false = refl
+
 line-back : (l : Line) (xs : List ℕ) → Whole l → lineIn (placesOf l ++ xs) ≡ l
 line-back l xs h =
     let n : l .number % 256 ≡ l .number = omega (arith, h .1 .0) in
     let k : l .keyword % 4294967296 ≡ l .keyword = omega (arith, h .1 .1) in
-    same-line (sym (h .0)) n (bit-back (l .ids)) k
+    same-line (sym (h .0)) n (ids-back (l .ids) (l .names)) k (names-back (l .ids) (l .names))
 
 items-back : (ls : List Line) → AllWhole ls → itemsIn (length ls) (allPlaces ls) ≡ ls
 unfolding itemsIn allPlaces AllWhole

@@ -6,7 +6,7 @@ use Prim.Native.Nat.{ℕ, zero, suc, _+_, _-_, _*_, _%_}
 use lib.Dec.{eqb, ltb}
 use lib.ListN.{getD, set, replicate}
 use Rattle.values.specs.PutAt.{putAt}
-use Rattle.tokens.specs.Token.{END, LOCK, UNLOCK, between, isNumber, whole, maxLines, maxCurves, maxListLines, tableSize, setSize}
+use Rattle.tokens.specs.Token.{END, isNaming, isNumber, whole, maxLines, maxCurves, maxListLines, tableSize, setSize}
 use Rattle.checking.specs.Fault.{lineAt, faultyLine}
 use Rattle.checking.specs.declared.line.Line.{Line}
 use Rattle.engine.specs.declared.set.Lines.{Lines}
@@ -100,14 +100,7 @@ rankIn (x ∷ xs) n k = elim (eqb x n) [ true ↦ k | false ↦ rankIn xs n (k +
 abbrev pub isKnown : List ℕ → ℕ → Bool
 isKnown ns n = ltb (rankIn ns n 0) maxLines
 
-abbrev pub isLock : ℕ → Bool
-isLock t = between LOCK UNLOCK t
-
--- the words whose number in brackets is a name
-abbrev pub isNaming : ℕ → Bool
-isNaming t = isLock t
-
--- 12: from place p to the line's end the number of each such word is known, by a table of the word and the number
+-- 12: from place p to the line's end the number of each word that names one is known, by a table of the word and the number
 unfoldable pub namesKnown : List ℕ → (ℕ → ℕ → Bool) → ℕ → ℕ → Bool
 namesKnown s known zero p = true
 namesKnown s known (suc left) p =

@@ -1,6 +1,5 @@
 -- The lines of a set as they are read: how many, in which order, and that they are the set's. Assumes nothing.
 use mathlib.Core.Path.{_≡_, refl, _∙_}
-use mathlib.Core.Bool.{true}
 use mathlib.Core.List.{List}
 use Prim.Native.Nat.{ℕ, zero, suc, _+_, _≤_, _<_}
 use native.Mathlib.Decide.{ℕ-discrete, decLt}
@@ -10,7 +9,6 @@ use lib.ListN.{length, getD, set, replicate, length-set, getD-replicate, List·g
 use lib.Seq.{getD-set-same, getD-set-other}
 use borrow.Author.Tests.{eqb-true, ltb-true, ltb-false}
 use Rattle.values.specs.Choice.{either, ifNot}
-use Rattle.values.specs.Numbers.{clash}
 use Rattle.tokens.specs.Token.{maxLines}
 use Rattle.checking.specs.declared.line.Line.{Line}
 use Rattle.engine.specs.declared.set.Lines.{Lines}
@@ -25,15 +23,12 @@ pub record Listed (s : List ℕ) (k : ℕ) (ns : List ℕ) (ls : List Line) : Ty
   pub positive : (j : ℕ) → j < k → 1 ≤ lineOf s j .number
   pub none : (j : ℕ) → k ≤ j → getD ns j 0 ≡ 0
 
--- what is always so of the lines read: at most 32, in lists of 32; and if they are sound, they are the set's
+-- what is always so of the lines read: at most 32, in lists of 32; and they are the set's
 pub record Lined (s : List ℕ) (l : Lines) : Type 0 where
   pub few : l .count ≤ maxLines
   pub numbersLength : length (l .numbers) ≡ maxLines
   pub itemsLength : length (l .items) ≡ maxLines
-  pub listed : l .sound ≡ true → Listed s (l .count) (l .numbers) (l .items)
-
-none-lined : (s : List ℕ) → Lined s noLines
-none-lined s = record { few = omega arith; numbersLength = refl; itemsLength = refl; listed = λ e. clash (cc) }
+  pub listed : Listed s (l .count) (l .numbers) (l .items)
 
 -- one more line
 module _ (s : List ℕ) (k last : ℕ) (ns : List ℕ) (ls : List Line) (few : k < maxLines) (nl : length ns ≡ maxLines) (il : length ls ≡ maxLines)
@@ -75,10 +70,30 @@ module _ (s : List ℕ) (k last : ℕ) (ns : List ℕ) (ls : List Line) (few : k
       by-place (yes e) = rw e (omega arith)
       by-place (no n) = let b = below j (omega (arith, n)) in omega arith
 
+at-zero : (i : ℕ) → getD {A = ℕ} (replicate maxLines 0) i 0 ≡ 0
+at-zero i = by-place (decLt i maxLines)
+  where
+    by-place : Dec (i < maxLines) → getD {A = ℕ} (replicate maxLines 0) i 0 ≡ 0
+    by-place (yes l) = getD-replicate maxLines i 0 0 l
+    by-place (no l) = List·getD-eq-default (replicate maxLines 0) 0 {n = i} (omega (arith, l))
+
+none-listed : (s : List ℕ) → Listed s 0 (replicate maxLines 0) (replicate maxLines noLine)
+none-listed s = record {
+  item = λ j l. absurd (omega arith);
+  number = λ j l. absurd (omega arith);
+  faultless = λ j l. absurd (omega arith);
+  rising = λ i j m l. absurd (omega arith);
+  positive = λ j l. absurd (omega arith);
+  none = λ j l. at-zero j;
+}
+
+none-lined : (s : List ℕ) → Lined s noLines
+none-lined s = record { few = omega arith; numbersLength = refl; itemsLength = refl; listed = none-listed s }
+
 from-lined : (s : List ℕ) (m k last : ℕ) (ns : List ℕ) (ls : List Line) → k + m ≤ maxLines → length ns ≡ maxLines → length ls ≡ maxLines →
     Listed s k ns ls → ((j : ℕ) → j < k → lineOf s j .number ≤ last) → Lined s (linesFrom s m k last ns ls)
 unfolding linesFrom
-from-lined s zero k last ns ls few nl il h below = record { few = omega arith; numbersLength = nl; itemsLength = il; listed = λ e. h }
+from-lined s zero k last ns ls few nl il h below = record { few = omega arith; numbersLength = nl; itemsLength = il; listed = h }
 from-lined s (suc m) k last ns ls few nl il h below =
     ifNot (Lined s) (eqb (lineOf s k .fault) 0) (λ p. none-lined s) λ p.
     ifNot (Lined s) (ltb last (lineOf s k .number)) (λ q. none-lined s) λ q.
@@ -87,26 +102,14 @@ from-lined s (suc m) k last ns ls few nl il h below =
     from-lined s m (k + 1) (lineOf s k .number) _ _ (omega arith) (length-set ns k _ ∙ nl) (length-set ls k _ ∙ il)
     (one-more s k last ns ls (omega arith) nl il h below z t) (still-below s k last ns ls (omega arith) nl il h below z t)
 
-at-zero : (i : ℕ) → getD {A = ℕ} (replicate maxLines 0) i 0 ≡ 0
-at-zero i = by-place (decLt i maxLines)
-  where
-    by-place : Dec (i < maxLines) → getD {A = ℕ} (replicate maxLines 0) i 0 ≡ 0
-    by-place (yes l) = getD-replicate maxLines i 0 0 l
-    by-place (no l) = List·getD-eq-default (replicate maxLines 0) 0 {n = i} (omega (arith, l))
-
--- the lines of any set
-pub lines-lined : (s : List ℕ) → Lined s (soundLines s)
-unfolding soundLines namedLines linesRead
-lines-lined s =
-    ifNot (Lined s) (allKnown s (lockTable (linesRead s .numbers)) (linesRead s .count) 0) (λ e. none-lined s) λ e.
+-- the lines of any set, before their names are looked at
+pub read-lined : (s : List ℕ) → Lined s (linesRead s)
+unfolding linesRead
+read-lined s =
     either (Lined s) (ltb maxLines (lineCount s)) (λ p. none-lined s) λ p.
-    from-lined s (lineCount s) 0 0 _ _ (omega (arith, ltb-false maxLines (lineCount s) p)) refl refl
-    (record {
-      item = λ j l. absurd (omega arith);
-      number = λ j l. absurd (omega arith);
-      faultless = λ j l. absurd (omega arith);
-      rising = λ i j m l. absurd (omega arith);
-      positive = λ j l. absurd (omega arith);
-      none = λ j l. at-zero j;
-    })
-    (λ j l. absurd (omega arith))
+    from-lined s (lineCount s) 0 0 _ _ (omega (arith, ltb-false maxLines (lineCount s) p)) refl refl (none-listed s) (λ j l. absurd (omega arith))
+
+-- and behind
+pub lines-lined : (s : List ℕ) → Lined s (soundLines s)
+unfolding soundLines namedLines
+lines-lined s = ifNot (Lined s) (allKnown s (lockTable (linesRead s .numbers)) (linesRead s .count) 0) (λ e. none-lined s) (λ e. read-lined s)

@@ -1,4 +1,5 @@
-// The lines of a set as one array of numbers, read once and kept beside the set: whether they are sound, how many they are, and six places for each.
+// The lines of a set as one array of numbers, read once and kept beside the set: whether they are sound, how many they are, and six places for each. What a beat does not ask, whether an action
+// names a line, shares a place: so the array says the lines as they were read, in no more places.
 ghost use mathlib.Core.Path.{_≡_};
 ghost use mathlib.Core.Bool.{cond};
 ghost use Prim.Native.Nat.{_+_, _<_, _≤_};
@@ -6,13 +7,13 @@ ghost use mathlib.Core.List.{_++_};
 ghost use lib.ListN.{length, getD, take, drop};
 ghost use Rattle.tokens.specs.Token.{maxLines};
 ghost use Rattle.engine.specs.Set.{noLine, rankIn};
-ghost use Rattle.engine.specs.ReadLines.{linePlaces, readSize, placesOf, linesWritten, linesIn};
+ghost use Rattle.engine.specs.ReadLines.{linePlaces, readSize, marksOf, placesOf, linesWritten, linesIn};
 use crate::set::sound_lines;
 use checking::Line;
 use tokens::token::LINES;
 use tokens::token::SIZE;
 
-// The places of a line: its number, whether it is IDS, its keyword, where its condition and its actions begin, and where it ends.
+// The places of a line: its number, its marks, its keyword, where its condition and its actions begin, and where it ends.
 const LINE_PLACES: usize = 6;
 
 // The place of the first line; before it stand whether the lines are sound, and how many they are.
@@ -26,13 +27,27 @@ fn bit(b: bool) -> usize
     if b { 1 } else { 0 }
 }
 
+// The marks of a line: 1 for IDS, 2 for one in which an action names a line.
+fn marks(ids: bool, names: bool) -> usize
+    ensures { λ x. ⌜ x ≡ marksOf ids names ⌝ }
+{
+    if ids {
+        if names {
+            return 3;
+        }
+        return 1;
+    }
+    if names { 2 } else { 0 }
+}
+
 fn store(part: &mut [usize], l: Line)
     requires { ⌜ length (now part) ≡ linePlaces ⌝ }
     ensures { λ x. ⌜ now (part .exit) ≡ placesOf l ⌝ }
 {
     let ids = l.ids;
+    let names = l.names;
     part[0] = l.number as usize;
-    part[1] = bit(ids);
+    part[1] = marks(ids, names);
     part[2] = l.keyword as usize;
     part[3] = l.condition;
     part[4] = l.actions;
@@ -95,7 +110,9 @@ pub fn line_of(lines: &[usize; READ], k: usize) -> Line
     ensures { λ x. ⌜ x ≡ getD (linesIn (now (lines .entry)) .items) k noLine ⌝ }
 {
     let at = FIRST_LINE + LINE_PLACES * k;
-    let ids = lines[at + 1] == 1;
+    let marked = lines[at + 1];
+    let ids = marked % 2 == 1;
+    let names = marked / 2 % 2 == 1;
     Line {
         fault: 0,
         number: (lines[at] % 256) as u8,
@@ -104,6 +121,7 @@ pub fn line_of(lines: &[usize; READ], k: usize) -> Line
         condition: lines[at + 3],
         actions: lines[at + 4],
         end: lines[at + 5],
+        names: names,
     }
 }
 

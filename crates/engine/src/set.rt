@@ -1,20 +1,20 @@
 // A set in its array: how many lines, where each begins, their tokens. A line is put into it; the lines are read once a call, by rising number.
 ghost use mathlib.Core.Path.{_≡_};
+ghost use mathlib.Core.Bool.{true, false};
 ghost use mathlib.Core.List.{map};
-ghost use Prim.Native.Nat.{_≤_};
 ghost use lib.ListN.{set};
 ghost use Rattle.values.specs.PutAt.{putAt};
-ghost use Rattle.engine.specs.Set.{withEnd, withoutMark, withCount, withLine, noLine, noLines, linesRead, rankIn, isNaming, namesKnown, lockTable, allKnown, soundLines, emptySet};
-ghost use Rattle.tokens.specs.Token.{setSize, maxLines};
+ghost use Rattle.engine.specs.Set.{withEnd, withoutMark, withCount, withLine, noLine, noLines, linesRead, rankIn, namesKnown, lockTable, allKnown, soundLines, emptySet};
+ghost use Rattle.engine.specs.SetLinesLaws.{Lined};
+ghost use Rattle.tokens.specs.Token.{setSize};
 use checking::Line;
 use checking::line_at;
 use tokens::token::END;
 use tokens::token::LINES;
-use tokens::token::LOCK;
 use tokens::token::NUMBER;
 use tokens::token::SIZE;
 use tokens::token::TABLE_SIZE;
-use tokens::token::UNLOCK;
+use tokens::token::is_naming;
 use tokens::token::token_at;
 use tokens::token::whole_of;
 
@@ -101,6 +101,7 @@ fn no_line() -> Line
         condition: 0,
         actions: 0,
         end: 0,
+        names: false,
     }
 }
 
@@ -168,16 +169,6 @@ pub fn rank_in(numbers: &[u8; LINES], n: u32) -> usize
     k
 }
 
-// Whether the number in the brackets of a word is a name: LOCK and UNLOCK.
-fn is_naming(t: u32) -> bool
-    ensures { λ x. ⌜ x ≡ isNaming t ⌝ }
-{
-    if t < LOCK {
-        return false;
-    }
-    t <= UNLOCK
-}
-
 // Whether each LOCK and UNLOCK of the line at a place names a line of the set.
 pub fn names_known(set: &[u32; SIZE], numbers: &[u8; LINES], start: usize) -> bool
     ensures { λ x. ⌜ x ≡ namesKnown (now (set .entry)) (lockTable (now (numbers .entry))) setSize start ⌝ }
@@ -200,14 +191,30 @@ pub fn names_known(set: &[u32; SIZE], numbers: &[u8; LINES], start: usize) -> bo
     true
 }
 
-// The same of every line of the set.
-fn all_known(set: &[u32; SIZE], numbers: &[u8; LINES], count: usize) -> bool
-    requires { ⌜ count ≤ maxLines ⌝ }
-    ensures { λ x. ⌜ x ≡ allKnown (now (set .entry)) (lockTable (now (numbers .entry))) count 0 ⌝ }
+// The same, where it is noted whether the line names one: a line that names none is not looked through.
+fn line_known(set: &[u32; SIZE], numbers: &[u8; LINES], names: bool, start: usize) -> bool
+    requires { ⌜ (names ≡ false → namesKnown (now set) (lockTable (now numbers)) setSize start ≡ true) ⌝ }
+    ensures { λ x. ⌜ x ≡ namesKnown (now (set .entry)) (lockTable (now (numbers .entry))) setSize start ⌝ }
 {
+    if !names {
+        return true;
+    }
+    names_known(set, numbers, start)
+}
+
+// The same of every line of the set.
+fn all_known(set: &[u32; SIZE], lines: Lines) -> bool
+    requires { ⌜ Lined (now set) lines ⌝ }
+    ensures { λ x. ⌜ x ≡ allKnown (now (set .entry)) (lockTable (lines .numbers)) (lines .count) 0 ⌝ }
+{
+    let numbers = lines.numbers;
+    let items = lines.items;
+    let count = lines.count;
     let mut k: usize = 0;
     while k < count {
-        if !names_known(set, numbers, token_at(set, START_PLACE + k) as usize) {
+        let l = items[k];
+        let start = token_at(set, START_PLACE + k) as usize;
+        if !line_known(set, &numbers, l.names, start) {
             return false;
         }
         k += 1;
@@ -220,8 +227,7 @@ pub fn sound_lines(set: &[u32; SIZE]) -> Lines
     ensures { λ x. ⌜ x ≡ soundLines (now (set .entry)) ⌝ }
 {
     let lines = read_lines(set);
-    let numbers = lines.numbers;
-    if !all_known(set, &numbers, lines.count) {
+    if !all_known(set, lines) {
         return no_lines();
     }
     lines

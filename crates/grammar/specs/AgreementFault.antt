@@ -1,6 +1,6 @@
 -- The check of what was written: where a line's tokens stand, the check tells the faults of its tree, or its parts. Assumes nothing.
 use mathlib.Core.Path.{_≡_, refl, sym, ap, _∙_}
-use mathlib.Core.Bool.{true, false, not as no?, _&&_, _||_, and-assoc, or-true, false≢true}
+use mathlib.Core.Bool.{true, false, not as no?, _&&_, _||_, and-assoc, or-true, or-false, false≢true}
 use mathlib.Core.List.{List, [], _∷_, _++_}
 use Prim.Native.Nat.{ℕ, zero, suc, pred, _+_, _-_, _≤_}
 use native.Mathlib.Nat.{not-suc-le-zero, le-trans}
@@ -9,15 +9,16 @@ use lib.Dec.{T, eqb}
 use lib.ListN.{length, drop, length-append}
 use borrow.Author.Tests.{le-leb, eq-eqb, ne-eqb, eqb-true}
 use Rattle.values.specs.Choice.{holds, both, decide, chosen, refused, same-choice}
-use Rattle.tokens.specs.Token.{setSize, END, EQUALS, OPEN, CLOSE, DO, LEFT, RIGHT, IM, M, isVariable, isDrive, isCall, isWhole, isFifo, isKeyword, isId, isFactor, isTerm, NUMBER, whole, wholeToken, axisOf, FALSE, FIFO1, FIFO4, IN, MINUS, MOV, NOT, OVER, PLUS, POS, SETAL, TIMES, TRUE, UNLOCK}
+use Rattle.tokens.specs.Token.{setSize, END, EQUALS, OPEN, CLOSE, DO, LEFT, RIGHT, IM, M, isVariable, isDrive, isCall, isWhole, isFifo, isNaming, isKeyword, isId, isFactor, isTerm, NUMBER, whole, wholeToken, axisOf, FALSE, FIFO1, FIFO4, IN, LOCK, MINUS, MOV, NOT, OVER, PLUS, POS, SETAL, TIMES, TRUE, UNLOCK}
 use Rattle.grammar.specs.Tree.{Operand, number, variable, position, truth, bracket, minus, not, product, Factors, noFactor, factor, Sum, sum, Terms, noTerm, term, compare, Action, assign, assignPosition, drive, code, call, Condition, always, under, Line, line, operandTokens, factorsTokens, sumTokens, termsTokens, actionTokens, actionsTokens, conditionTokens, lineTokens}
 use Rattle.tokens.specs.Descent.{token, read, isIndex, indexOf, isIndexed, indexAt, sumAt}
 use Rattle.grammar.specs.Meaning.{sumMeaning, expressionMeaning, Stands, EndsSum, EndsExpression}
 use Rattle.tokens.specs.SingleFault.{lower, opensTooMany, writeFault, idFault}
-use Rattle.checking.specs.Fault.{sight, faultFor, countFault, numberOf, isRemoval, assignedAt, assignmentAt, commandAt, actionAt, actionsAt, lineParts, bodyAt, restAt, lineAt}
+use Rattle.checking.specs.Fault.{sight, faultFor, countFault, numberOf, isRemoval, assignedAt, assignmentAt, commandAt, actionAt, actionsAt, namesFrom, lineParts, bodyAt, restAt, lineAt}
 use Rattle.grammar.specs.TreeFault.{rightFault, isFifoZero, isAlone, isRemovalTree, assignedFault, actionFault, actionsFault, keywordOf, conditionFault, lineFault, conditionPlace, partsFrom, toldFrom}
+use Rattle.grammar.specs.TreeNames.{Name, actionNames, actionsNames, namesIn, hasNames}
 use Rattle.grammar.specs.Agreement.{sum-agrees, expression-agrees}
-use Rattle.grammar.specs.AgreementLaws.{bounds, beyond, stands-split, stands-place, parts-fit, numbered, whole-token, number-index, axis-index, index-stands}
+use Rattle.grammar.specs.AgreementLaws.{bounds, before, beyond, stands-split, stands-place, parts-fit, numbered, whole-token, number-index, axis-index, index-stands}
 use Rattle.grammar.specs.TreeFaultLaws.{lower-none, lower-assoc, lower-first, number-kept, seen-sum, seen-expression, wanted-read}
 
 -- ---- an action
@@ -38,6 +39,11 @@ action-long (assignPosition x v a) = omega arith
 action-long (drive w v x u a) = omega arith
 action-long (code n) = omega arith
 action-long (call w v n) = omega arith
+
+actions-long : (r : List Action) (a : Action) → 1 ≤ length (actionsTokens a r)
+unfolding actionsTokens
+actions-long [] a = action-long a
+actions-long (b ∷ r) a = let e = length-append (actionTokens a) (actionsTokens b r) in omega (arith, action-long a)
 
 module _ (s : List ℕ) where
   no-fifo : (p t : ℕ) → token s p ≡ t → isFifo t ≡ false → isRemoval s p ≡ false
@@ -200,6 +206,39 @@ module _ (s : List ℕ) where
       ∙ actions-agree kw k r b (pred j) (n + 1) (lower f g) i q (L .1) (omega arith) y e
       ∙ rw (one, lower-assoc f g _, lower-assoc g (actionsFault kw b r) t)
 
+  -- ---- what actions name
+
+  naming : (w p : ℕ) → token s p ≡ w → isNaming w ≡ false → isNaming (token s p) ≡ false
+  naming w p e h = rw e h
+
+  action-naming : (a : Action) (p q : ℕ) → Stands s p (actionTokens a) q → isNaming (token s p) ≡ hasNames (actionNames a)
+  unfolding actionTokens
+  action-naming (assign w v i a) p q h = let b = bounds IN FIFO4 w v in naming w p (h .0) (before LOCK UNLOCK w (omega arith))
+  action-naming (assignPosition x v a) p q h = naming IM p (h .0) refl
+  action-naming (drive w v x u a) p q h = let b = bounds POS MOV w v in naming w p (h .0) (before LOCK UNLOCK w (omega arith))
+  action-naming (code n) p q h = naming M p (h .0) refl
+  action-naming (call w v n) p q h =
+      let name : List Name = record { word = w; number = n } ∷ [] in
+      ap isNaming (h .0) ∙ decide _ (isNaming w) (λ e. e ∙ ap hasNames (sym (chosen (isNaming w) name [] e))) (λ e. e ∙ ap hasNames (sym (refused (isNaming w) name [] e)))
+
+  has-append : (l m : List Name) → (hasNames l || hasNames m) ≡ hasNames (l ++ m)
+  has-append [] m = refl
+  has-append (n ∷ l) m = refl
+
+  names-agree : (kw k : ℕ) (r : List Action) (a : Action) (j p q : ℕ) → length (actionsTokens a r) ≤ k → length (actionsTokens a r) ≤ j → Stands s p (actionsTokens a r) q → token s q ≡ END → namesFrom s kw k j p ≡ hasNames (actionsNames a r)
+  unfolding actionsTokens actionsNames namesFrom
+  names-agree kw k r a zero p q l m h e = absurd (omega (arith, actions-long r a))
+  names-agree kw k [] a (suc j) p q l m h e =
+      let c = action-agrees kw a k p q l h (end-ends (token s q) e) in
+      simp (namesFrom, c, action-naming a p q h, eq-eqb (token s q) END e) (or-false (hasNames (actionNames a)))
+  names-agree kw k (b ∷ r) a (suc j) p q l m h e =
+      let (i, x, y) = stands-split s (actionTokens a) (actionsTokens b r) p q h in
+      let L = parts-fit (actionTokens a) (actionsTokens b r) k l in
+      let w = actions-word b r i q y in
+      let J = simp length-append at m in
+      let c = action-agrees kw a k p i (L .0) x (word-ends (token s i) w) in
+      simp (namesFrom, c, action-naming a p i x, ne-eqb (token s i) END (λ z. omega arith), names-agree kw k r b j i q (L .1) (omega (arith, action-long a)) y e) (has-append (actionNames a) (actionsNames b r))
+
   -- ---- a line
 
   -- the lowest fault of a body, behind what stands before it
@@ -247,16 +286,17 @@ module _ (s : List ℕ) where
       let (e, z, u) = stands-split s (actionsTokens a r) (END ∷ []) (i + 1) q (y .1) in
       record { doing = i; end = e; word = h .0; equals = h .1 .0; number = t; condition = x; begins = y .0; actions = z; stops = u .0; behind = u .1 }
 
-  parts-agree : (w : ℕ) (v : T (isId w)) (n : ℕ) (c : Condition) (a : Action) (r : List Action) (p q : ℕ) → Stands s p (lineTokens (line w v n c a r)) q → (x : LineStands w n c a r p q) → lineParts s p (keywordOf c) (conditionPlace p c) (x .doing + 1) (read (lineFault (line w v n c a r)) (x .end)) ≡ toldFrom p (line w v n c a r)
-  unfolding lineTokens lineParts toldFrom partsFrom lineFault
-  parts-agree w v n c a r p q h x =
+  parts-agree : (w : ℕ) (v : T (isId w)) (n : ℕ) (c : Condition) (a : Action) (r : List Action) (p q : ℕ) → length (actionsTokens a r) ≤ setSize → Stands s p (lineTokens (line w v n c a r)) q → (x : LineStands w n c a r p q) → lineParts s p (keywordOf c) (conditionPlace p c) (x .doing + 1) (read (lineFault (line w v n c a r)) (x .end)) ≡ toldFrom p (line w v n c a r)
+  unfolding lineTokens lineParts toldFrom partsFrom lineFault namesIn
+  parts-agree w v n c a r p q m h x =
       let l = line w v n c a r in
       let d = stands-place s (conditionTokens c) (p + 3) (x .doing) (x .condition) in
       let e = stands-place s (lineTokens l) p q h in
       let actions : x .doing + 1 ≡ p + (length (conditionTokens c) + 4) = omega arith in
       let end : x .end ≡ p + (length (lineTokens l) - 1) = omega arith in
       let kept : lineFault l ≡ 0 → numberOf n ≡ n = λ f. number-kept n (lower-first _ _ (lower-first _ _ f)) in
-      same-choice _ _ _ _ (λ f. rw (x .number, whole-token n .1, kept (eqb-true (lineFault l) 0 f), x .word, actions, end))
+      let names = names-agree (keywordOf c) setSize r a setSize (x .doing + 1) (x .end) m m (x .actions) (x .stops) in
+      same-choice _ _ _ _ (λ f. rw (names, x .number, whole-token n .1, kept (eqb-true (lineFault l) 0 f), x .word, actions, end))
 
   told-agrees : (w : ℕ) (v : T (isId w)) (n : ℕ) (c : Condition) (a : Action) (r : List Action) (p q : ℕ) → length (lineTokens (line w v n c a r)) ≤ suc setSize → opensTooMany (drop p s) 0 ≡ false → Stands s p (lineTokens (line w v n c a r)) q → LineStands w n c a r p q → lineAt s p ≡ toldFrom p (line w v n c a r)
   unfolding lineTokens lineAt lineFault
@@ -266,7 +306,7 @@ module _ (s : List ℕ) where
       let id : idFault (whole (token s (p + 2))) ≡ idFault n = rw (x .number, whole-token n .1) in
       refused _ _ _ b ∙ chosen _ _ _ head ∙ ap (restAt s p) id
       ∙ rest-agrees c a r p (idFault n) (x .end) (omega arith) (omega arith) (x .doing) (x .condition) (x .begins) (x .actions) (x .stops)
-      ∙ parts-agree w v n c a r p q h x
+      ∙ parts-agree w v n c a r p q (omega arith) h x
 
   -- what the check tells of a line that stands at p; its tokens, the last not counted, are at most those of a set
   pub line-agrees : (l : Line) (p q : ℕ) → length (lineTokens l) ≤ suc setSize → opensTooMany (drop p s) 0 ≡ false → Stands s p (lineTokens l) q → lineAt s p ≡ toldFrom p l

@@ -3,8 +3,8 @@
 -- line with other numbers; LineTable computes worked lines of the documents.
 pub mod Tree
 pub mod Meaning
-pub mod TreeFault
 pub mod TreeNames
+pub mod TreeFault
 pub mod TreeOf
 pub mod AgreementLaws
 pub mod Agreement

@@ -10,6 +10,7 @@ use Rattle.values.specs.Codes.{confused, tooManyActions}
 use Rattle.checking.specs.declared.line.Line.{Line as Told}
 use Rattle.tokens.specs.Token.{IDS, IM, isFifo, axisOf}
 use Rattle.grammar.specs.Tree.{Operand, number, variable, position, truth, bracket, minus, not, product, Factors, noFactor, factor, Sum, sum, Terms, noTerm, term, Action, assign, assignPosition, drive, code, call, Condition, always, under, Line, line, conditionTokens, lineTokens}
+use Rattle.grammar.specs.TreeNames.{namesIn, hasNames}
 use Rattle.tokens.specs.Descent.{Answer, good, stop}
 use Rattle.grammar.specs.Meaning.{sumMeaning, expressionMeaning}
 use Rattle.tokens.specs.SingleFault.{lower, writeFault, codeFault, idFault, callFault}
@@ -103,6 +104,7 @@ partsFrom p (line w v n c a r) = record {
   condition = conditionPlace p c;
   actions = p + (length (conditionTokens c) + 4);
   end = p + (length (lineTokens (line w v n c a r)) - 1);
+  names = hasNames (namesIn (line w v n c a r));
 }
 
 -- its lowest fault, or its parts

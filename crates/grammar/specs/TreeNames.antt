@@ -2,7 +2,7 @@
 use mathlib.Core.Bool.{Bool, true, false, _&&_}
 use mathlib.Core.List.{List, [], _∷_, _++_}
 use Prim.Native.Nat.{ℕ}
-use Rattle.tokens.specs.Token.{LOCK, UNLOCK, between}
+use Rattle.tokens.specs.Token.{isNaming}
 use Rattle.grammar.specs.Tree.{Action, assign, assignPosition, drive, code, call, Line, line}
 
 -- a name: the word, and the number behind its bracket
@@ -16,7 +16,7 @@ actionNames (assign w v i a) = []
 actionNames (assignPosition x v a) = []
 actionNames (drive w v x u a) = []
 actionNames (code n) = []
-actionNames (call w v n) = elim (between LOCK UNLOCK w) [ true ↦ record { word = w; number = n } ∷ [] | false ↦ [] ]
+actionNames (call w v n) = elim (isNaming w) [ true ↦ record { word = w; number = n } ∷ [] | false ↦ [] ]
 
 unfoldable pub actionsNames : Action → List Action → List Name
 actionsNames a [] = actionNames a
@@ -25,6 +25,10 @@ actionsNames a (b ∷ r) = actionNames a ++ actionsNames b r
 -- what a line names
 unfoldable pub namesIn : Line → List Name
 namesIn (line w v n c a r) = actionsNames a r
+
+abbrev pub hasNames : List Name → Bool
+hasNames [] = false
+hasNames (m ∷ ms) = true
 
 -- each of some names is known, by a table of the word and the number
 unfoldable pub eachKnown : (ℕ → ℕ → Bool) → List Name → Bool

@@ -21,7 +21,7 @@ use Rattle.grammar.specs.StandsLaws.{opens-stands}
 use Rattle.grammar.specs.AgreementLine.{line-fault, line-parts, parts-number}
 use Rattle.engine.specs.Set.{withoutMark, withEnd, namesKnown}
 use Rattle.reader.specs.Load.{faultOf, numberIn, namesOfTree}
-use Rattle.reader.specs.NamesByTreeLaws.{each-so, names-by-tree}
+use Rattle.engine.specs.NamesByTreeLaws.{each-so, names-by-tree}
 use Rattle.reader.specs.CheckedLaws.{faultless}
 use Rattle.loading.specs.Unmarked.{unmarked, unmarkedTree}
 use Rattle.loading.specs.UnmarkedLaws.{unmarked-keeps, without-marks, unmarked-tokens, unmarked-fault}

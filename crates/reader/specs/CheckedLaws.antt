@@ -28,7 +28,7 @@ use Rattle.reader.specs.Row.{Row}
 use Rattle.reader.specs.Load.{treeFault, faultOf, numberIn, namesOfTree, isNamed, firstNot}
 use Rattle.reader.specs.Draft.{alone, namesAlone}
 use Rattle.reader.specs.StandLaws.{empty-length, alone-stands}
-use Rattle.reader.specs.NamesByTreeLaws.{names-by-tree}
+use Rattle.engine.specs.NamesByTreeLaws.{names-by-tree}
 
 -- tokens without a fault of 4 to 10 are those of a line of the grammar, which has none
 pub record Faultless (ts : List ℕ) : Type 0 where

@@ -12,13 +12,13 @@ use Rattle.values.specs.Codes.{outside, notAllowed}
 use Rattle.values.specs.Choice.{either, ifNot, eitherBoth, both, and-true}
 use Rattle.values.specs.Value.{inRange, lessThan, feedOf}
 use Rattle.values.specs.Numbers.{clash}
-use Rattle.tokens.specs.Token.{END, EQUALS, OPEN, CLOSE, LEFT, RIGHT, IN, IM, POS, FA, MOV, M, SETAL, LOCK, UNLOCK, X, W, between, isVariable, isAxis, hasAxis, isFifo, isDrive, isCall, isWhole, whole, setSize, maxLines}
+use Rattle.tokens.specs.Token.{END, EQUALS, OPEN, CLOSE, LEFT, RIGHT, IN, IM, POS, FA, MOV, M, SETAL, LOCK, UNLOCK, X, W, between, isVariable, isAxis, hasAxis, isFifo, isDrive, isCall, isWhole, whole, setSize, maxLines, isLock}
 use Rattle.tokens.specs.Descent.{token, Answer, good, stop, _>>=_, Read, read, ends, then, isIndex, indexOf, isIndexed, indexAt, sumAt, expressionAt}
 use Rattle.tokens.specs.SingleFault.{lower, writeFault, idFault, callFault}
 use Rattle.checking.specs.Fault.{Sight, wanting, sight, faultFor, isRemoval, assignedAt, assignmentAt, commandAt, actionAt}
 use Rattle.working.specs.Operators.{fromWorked}
 use Rattle.working.specs.Working.{told, valueOver, rightValue, conditionValue}
-use Rattle.engine.specs.Set.{rankIn, isKnown, isLock, soundLines}
+use Rattle.engine.specs.Set.{rankIn, isKnown, soundLines}
 use Rattle.engine.specs.Write.{Vars, changeFifo, writeTo}
 use Rattle.engine.specs.Action.{World, Taken, Did, fromValueOrAlarm, lockOf, takenAt, assignmentOf, driveOf, commandOf, actionOf}
 use Rattle.engine.specs.Drive.{driveOrder}
@@ -160,7 +160,7 @@ module _ (s : List ℕ) (sound : soundLines s .sound ≡ true) (cancelled : List
       let r = rankIn numbers n 0 in
       ifNot (Holds (λ (d : Did). (d .next ≡ q) × DidFine d)) (ltb r maxLines) (λ e. clash (cc)) λ e.
       either (Holds (λ (d : Did). (d .next ≡ q) × DidFine d)) (getD cancelled r false) (λ c. (refl, h)) λ c.
-      let f = lock-keeps (soundLines s .count) (x .locked) cancelled (x .memory) (h .flags) r (rank-inside s n sound l (ltb-true r maxLines e)) b c in
+      let f = lock-keeps (soundLines s .count) (x .locked) cancelled (x .memory) (h .flags) r (rank-inside s n l (ltb-true r maxLines e)) b c in
       (refl, record { vars = h .vars; flags = f })
 
   call-number : (w n : ℕ) → eqb w SETAL ≡ false → callFault w n ≡ 0 → 1 ≤ n

@@ -10,10 +10,10 @@ use lib.ListN.{length, List·getD-eq-default}
 use borrow.Author.Tests.{eqb-true, leb-true, ne-eqb}
 use Rattle.values.specs.Choice.{either, ifNot, both}
 use Rattle.values.specs.Numbers.{clash}
-use Rattle.tokens.specs.Token.{END, EQUALS, OPEN, CLOSE, LEFT, RIGHT, TRUE, FALSE, MINUS, NOT, FIFO1, FIFO4, M, NUMBER, X, W, IN, IM, POS, MOV, LOCK, UNLOCK, SETAL, between, isNumber, isVariable, hasAxis, isAxis, isDrive, isCall, isFifo, isFactor, isTerm, isCompare, isLogic, isWhole, numberCarried, whole, setSize}
+use Rattle.tokens.specs.Token.{END, EQUALS, OPEN, CLOSE, LEFT, RIGHT, TRUE, FALSE, MINUS, NOT, FIFO1, FIFO4, M, NUMBER, X, W, IN, IM, POS, MOV, LOCK, UNLOCK, SETAL, between, isNumber, isVariable, hasAxis, isAxis, isDrive, isCall, isFifo, isFactor, isTerm, isCompare, isLogic, isWhole, numberCarried, whole, setSize, isNaming}
 use Rattle.tokens.specs.Descent.{token, Answer, good, stop, Read, read, ends, then, upTo, Meaning, isRow, isIndex, isIndexed, indexAt, joined, more, readProduct, readSum, readRest, readExpression, readClose, readVariable, readTruth, operandFrom, readOperand, sumAt, expressionAt}
 use Rattle.checking.specs.Fault.{Sight, sight, faultFor, isRemoval, assignedAt, assignmentAt, commandAt, actionAt}
-use Rattle.engine.specs.Set.{isNaming, namesKnown}
+use Rattle.engine.specs.Set.{namesKnown}
 
 -- a token that does not end a line
 abbrev pub NoEnd : ℕ → Type 0

@@ -60,14 +60,14 @@ pub rank-number : (ns : List ℕ) (n : ℕ) → length ns ≡ maxLines → rankI
 rank-number ns n e h = let q : rankIn ns n 0 - 0 ≡ rankIn ns n 0 = omega arith in rw q at (rank-at ns n 0 (omega arith))
 
 -- a line's number, from 1 on, is found among the set's lines or not at all
-pub rank-inside : (s : List ℕ) (n : ℕ) → soundLines s .sound ≡ true → 1 ≤ n → rankIn (soundLines s .numbers) n 0 < maxLines → rankIn (soundLines s .numbers) n 0 < soundLines s .count
-rank-inside s n e l h = by-place (decLt (rankIn (soundLines s .numbers) n 0) (soundLines s .count))
+pub rank-inside : (s : List ℕ) (n : ℕ) → 1 ≤ n → rankIn (soundLines s .numbers) n 0 < maxLines → rankIn (soundLines s .numbers) n 0 < soundLines s .count
+rank-inside s n l h = by-place (decLt (rankIn (soundLines s .numbers) n 0) (soundLines s .count))
   where
     by-place : Dec (rankIn (soundLines s .numbers) n 0 < soundLines s .count) → rankIn (soundLines s .numbers) n 0 < soundLines s .count
     by-place (yes m) = m
     by-place (no m) =
         let a = rank-number (soundLines s .numbers) n (lines-lined s .numbersLength) h in
-        let b = lines-lined s .listed e .none (rankIn (soundLines s .numbers) n 0) (omega (arith, m)) in
+        let b = lines-lined s .listed .none (rankIn (soundLines s .numbers) n 0) (omega (arith, m)) in
         absurd (omega arith)
 
 -- ---- the empty set

@@ -76,7 +76,7 @@ module _ (s : List ℕ) (sound : soundLines s .sound ≡ true) (size : length s 
   -- the turn of a line of the set
   module _ (k : ℕ) (inside : k < soundLines s .count) where
     clear : LineClear s (startOf s k) (lineOf s k)
-    clear = let l = lines-lined s .listed sound in line-clear s (startOf s k) (l .faultless k inside) (l .positive k inside)
+    clear = let l = lines-lined s .listed in line-clear s (startOf s k) (l .faultless k inside) (l .positive k inside)
 
     done-fine : (x : World) (es : List Entry) (b : Bool) → Fine x → Holds TurnFine (doTurn s numbers cancelled automatic (lineOf s k) k x es b)
     unfolding doTurn
@@ -105,7 +105,7 @@ module _ (s : List ℕ) (sound : soundLines s .sound ≡ true) (size : length s 
   unfolding turnsFrom
   turns-fine zero k x l h = h
   turns-fine (suc m) k x l h =
-      rw (lines-lined s .listed sound .item k (omega arith))
+      rw (lines-lined s .listed .item k (omega arith))
       (holds-then TurnFine TurnFine (turnOf s numbers cancelled automatic (lineOf s k) k x) _ (turn-fine k (omega arith) x h) λ t e.
       holds-then TurnFine TurnFine (turnsFrom s numbers cancelled automatic (soundLines s .items) m (k + 1) (t .world)) _
       (turns-fine m (k + 1) (t .world) (omega arith) e) (λ u f. f))

@@ -224,6 +224,13 @@ isDrive t = between POS MOV t
 abbrev pub isCall : ℕ → Bool
 isCall t = between SETAL UNLOCK t
 
+abbrev pub isLock : ℕ → Bool
+isLock t = between LOCK UNLOCK t
+
+-- the words whose number in brackets is a name
+abbrev pub isNaming : ℕ → Bool
+isNaming t = isLock t
+
 -- WHEN, WHENEVER, FROM or EVERY
 abbrev pub isKeyword : ℕ → Bool
 isKeyword t = between WHEN EVERY t

@@ -1,7 +1,7 @@
 // The tokens: their numbers, and what a token is. The same table stands in specs/Token.
 ghost use mathlib.Core.Path.{_≡_};
 ghost use lib.ListN.{getD};
-ghost use Rattle.tokens.specs.Token.{between, isVariable, isFifo, isAxis, isDrive, isCall, isKeyword, isId, isBracket, isFactor, isTerm, isArithmetic, isCompare, isLogic, isWhole, whole};
+ghost use Rattle.tokens.specs.Token.{between, isVariable, isFifo, isAxis, isDrive, isCall, isNaming, isKeyword, isId, isBracket, isFactor, isTerm, isArithmetic, isCompare, isLogic, isWhole, whole};
 ghost use Rattle.tokens.specs.Descent.{isRow, isIndex, indexOf, isIndexed, indexAt};
 
 // The lines that a set may have, the actions of each, and the bytes of its text.
@@ -165,6 +165,13 @@ pub fn is_call(t: u32) -> bool
     ensures { λ r. ⌜ r ≡ isCall t ⌝ }
 {
     is_between(SETAL, UNLOCK, t)
+}
+
+// Whether the number in the brackets of a word is a name: LOCK and UNLOCK.
+pub fn is_naming(t: u32) -> bool
+    ensures { λ r. ⌜ r ≡ isNaming t ⌝ }
+{
+    is_between(LOCK, UNLOCK, t)
 }
 
 pub fn is_keyword(t: u32) -> bool

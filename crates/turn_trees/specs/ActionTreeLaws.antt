@@ -9,13 +9,13 @@ use lib.IntN.{ℤ, pos}
 use lib.ListN.{length, getD}
 use borrow.Author.Tests.{eqb-false, le-leb, lt-ltb, le-ltb, eq-eqb, ne-eqb}
 use Rattle.values.specs.Choice.{holds, chosen, refused}
-use Rattle.tokens.specs.Token.{END, EQUALS, LEFT, RIGHT, IN, IM, POS, MOV, M, SETAL, LOCK, UNLOCK, FIFO4, X, W, isVariable, isDrive, isCall, whole, wholeToken, axisOf, setSize, maxLines, isAxis}
+use Rattle.tokens.specs.Token.{END, EQUALS, LEFT, RIGHT, IN, IM, POS, MOV, M, SETAL, LOCK, UNLOCK, FIFO4, X, W, isVariable, isDrive, isCall, whole, wholeToken, axisOf, setSize, maxLines, isAxis, isLock}
 use Rattle.tokens.specs.Descent.{token, Answer, good, stop, _>>=_, isIndex, indexOf, indexAt}
 use Rattle.tokens.specs.ChooseLaws.{through, choose, choose-by}
 use Rattle.checking.specs.Fault.{isRemoval}
 use Rattle.working.specs.Operators.{isYes}
 use Rattle.working.specs.Working.{valueOver, rightValue, conditionValue}
-use Rattle.engine.specs.Set.{rankIn, isLock}
+use Rattle.engine.specs.Set.{rankIn}
 use Rattle.engine.specs.Write.{Vars, changeFifo, writeTo}
 use Rattle.engine.specs.Drive.{driveOrder}
 use Rattle.engine.specs.Action.{World, Did, Taken, fromValueOrAlarm, takenAt, assignmentOf, driveOf, commandOf, actionOf, did, withVars, ordered, lockOf}

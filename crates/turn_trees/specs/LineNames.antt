@@ -3,9 +3,9 @@ use mathlib.Core.Path.{_≡_}
 use mathlib.Core.Bool.{true}
 use mathlib.Core.List.{List, [], _∷_}
 use Prim.Native.Nat.{ℕ, _<_}
-use Rattle.tokens.specs.Token.{maxLines}
+use Rattle.tokens.specs.Token.{maxLines, isLock}
 use Rattle.grammar.specs.Tree.{Action, assign, assignPosition, drive, code, call, Line, line}
-use Rattle.engine.specs.Set.{rankIn, isLock}
+use Rattle.engine.specs.Set.{rankIn}
 use Rattle.turn_trees.specs.TurnTree.{Names}
 
 -- P holds of each number that a LOCK or UNLOCK names

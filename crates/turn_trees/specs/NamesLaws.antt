@@ -9,7 +9,7 @@ use lib.ListN.{length, getD, length-append}
 use borrow.Author.Tests.{leb-true, eqb-true}
 use Rattle.values.specs.Choice.{decide, both}
 use Rattle.values.specs.Codes.{outside}
-use Rattle.tokens.specs.Token.{END, EQUALS, DO, ID, IDS, LOCK, SETAL, UNLOCK, between, whole, wholeToken, setSize}
+use Rattle.tokens.specs.Token.{END, EQUALS, DO, ID, IDS, LOCK, SETAL, UNLOCK, between, whole, wholeToken, setSize, isLock, isNaming}
 use Rattle.tokens.specs.Descent.{token}
 use Rattle.tokens.specs.SingleFault.{callFault, idFault}
 use Rattle.grammar.specs.Tree.{Action, assign, assignPosition, drive, code, call, Line, line, actionTokens, actionsTokens, conditionTokens, lineTokens}
@@ -17,7 +17,7 @@ use Rattle.grammar.specs.Meaning.{Stands}
 use Rattle.grammar.specs.TreeFault.{actionFault, actionsFault, lineFault, keywordOf}
 use Rattle.grammar.specs.AgreementLaws.{bounds, stands-split, whole-token}
 use Rattle.grammar.specs.ClosedTokens.{Closed, closed-action, closed-condition}
-use Rattle.engine.specs.Set.{rankIn, isKnown, isLock, isNaming, namesKnown, lockTable}
+use Rattle.engine.specs.Set.{rankIn, isKnown, namesKnown, lockTable}
 use Rattle.soundness.specs.WriteSoundLaws.{lower-zero, unless-zero}
 use Rattle.soundness.specs.SetSoundLaws.{rank-least}
 use Rattle.turn_trees.specs.LineNames.{ActionNames, ActionsName, LineNames}

@@ -47,7 +47,7 @@ module _ (s : List ℕ) (size : length s ≤ setSize) (sound : soundLines s .sou
 
   module _ (k : ℕ) (inside : k < soundLines s .count) where
     clean : lineOf s k .fault ≡ 0
-    clean = lines-lined s .listed sound .faultless k inside
+    clean = lines-lined s .listed .faultless k inside
 
     tree-found : (l : Line) × TreeAt s k l
     tree-found = let c = clean in let (l, q, h) = line-found s (startOf s k) (λ e. omega arith) (λ e. omega arith) in (l, (q, h))
@@ -60,7 +60,7 @@ module _ (s : List ℕ) (size : length s ≤ setSize) (sound : soundLines s .sou
       tree-parts = line-parts s size l (startOf s k) (t .0) (not-deep s (startOf s k) clean) (t .1) tree-faultless .0
 
       pub tree-number : treeNumber l ≡ getD (soundLines s .numbers) k 0
-      tree-number = sym (lines-lined s .listed sound .number k inside ∙ ap (λ (x : Told). x .number) tree-parts ∙ parts-number (startOf s k) l)
+      tree-number = sym (lines-lined s .listed .number k inside ∙ ap (λ (x : Told). x .number) tree-parts ∙ parts-number (startOf s k) l)
 
       pub tree-short : length (lineTokens l) ≤ suc setSize
       tree-short = let z = line-fits s l (startOf s k) (t .0) (t .1) in omega arith
@@ -92,7 +92,7 @@ module _ (s : List ℕ) (size : length s ≤ setSize) (sound : soundLines s .sou
     known-rank m h =
         let ns = soundLines s .numbers in
         let a = ltb-true (rankIn ns m 0) maxLines (h .0) in
-        let b = rank-inside s m sound (h .1) a in
+        let b = rank-inside s m (h .1) a in
         let c = trees .count in
         let n = length-map ls treeNumber in
         let x = lines-lined s .numbersLength in
@@ -107,7 +107,7 @@ module _ (s : List ℕ) (size : length s ≤ setSize) (sound : soundLines s .sou
           record {
             place = startOf s k;
             behind = t .0 .0;
-            item = lines-lined s .listed sound .item k i ∙ tree-parts k i l (t .0);
+            item = lines-lined s .listed .item k i ∙ tree-parts k i l (t .0);
             stands = t .0 .1;
             faultless = tree-faultless k i l (t .0);
             short = tree-short k i l (t .0);

@@ -3,8 +3,9 @@ use borrow.Author.Needs.{needs}
 use native.Mathlib.Omega.{arith}
 use mathlib.Core.Path.{sym, ap, _∙_}
 use Prim.Native.Nat.{ℕ, _+_}
+use Rattle.tokens.specs.Token.{setSize}
 use Rattle.tokens.specs.Descent.{Read}
-use Rattle.checking.specs.Fault.{judged}
+use Rattle.checking.specs.Fault.{judged, namesFrom}
 use Rattle.checking.specs.SightNumber.{faultOf, depthOf, bodyFrom}
 use Rattle.checking.proofs.FaultLaws.{body-none, body-does}
 use Rattle.checking.proofs.SightNumberLaws.{Made, faulted-stop, faulted-read, next-made}
@@ -43,7 +44,13 @@ body-spec =
     let t = c .before .before in
     let n = t .before .before .before in
     let k = begun (c .before) in
-    (n .before .pre .0, c .actions .ensures .1 .goes _ (next-on _ _ _ (n .next-of .ensures) (t .before .before .if1 .left) (t .token-at .ensures) (other-above _ (omega (arith, c .before .if2 .left))) (k .next) (k .depth) .goes _ (n .before .pre .1))))
+    let a = n .before .args in (
+      n .before .pre .0,
+      (
+        c .actions .ensures .1 .0 .goes _ (next-on _ _ _ (n .next-of .ensures) (t .before .before .if1 .left) (t .token-at .ensures) (other-above _ (omega (arith, c .before .if2 .left))) (k .next) (k .depth) .goes _ (n .before .pre .1)),
+        λ g. c .actions .ensures .1 .1 g ∙ ap (namesFrom (a .set .now) (a .keyword) setSize setSize) (k .next),
+      ),
+    ))
     (λ c.
     let x = c .before in
     let t = x .before .before in

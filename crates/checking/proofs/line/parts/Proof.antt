@@ -30,7 +30,7 @@ unfolding told
 parts-spec =
     tie.close
     (tie.spec
-    (λ c κs. c .pre .1)
+    (λ c κs. c .pre .1 .0)
     (λ c κs. search needs)
     (λ c. c .faulty .ensures ∙ deep (c .before .before) (c .before .if1 .taken))
     (λ c κs. search needs)
@@ -51,11 +51,13 @@ parts-spec =
     (λ c κs. search needs)
     (λ c κs. search needs)
     (λ c κs. search needs)
+    (λ c κs. search needs)
     (λ c.
-    let w = c .before .before .before in
+    let t = c .before in
+    let w = t .before .before .before in
     let f = w .before .before .before .before in
     let n = f .before .before in
     let d = n .before .before in
     parts-good _ _ _ _ _ (d .before .args .a) (n .next-of .ensures) (f .before .if2 .left) (f .fault-of .ensures) (w .before .before .before .if3 .left)
-    (c .before .before .number-of .ensures ∙ ap numberOf (w .whole-of .ensures ∙ ap whole (w .before .token-at .ensures))) (ap (λ (w : ℕ). eqb w IDS) (c .token-at2 .ensures)) ∙
+    (t .before .before .number-of .ensures ∙ ap numberOf (w .whole-of .ensures ∙ ap whole (w .before .token-at .ensures))) (ap (λ (w : ℕ). eqb w IDS) (t .token-at2 .ensures)) (c .truth-of .ensures) (d .before .pre .1 .1) ∙
     not-deep d (n .before .if1 .left)))

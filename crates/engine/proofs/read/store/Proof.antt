@@ -27,4 +27,4 @@ store-spec =
     let s = c .before .before .before .before in
     let d = now (s .args .part) in
     let l = s .args .l in
-    rw (← c .before .bit .ensures) (sets-eq (l .number ∷ c .before .bit .result ∷ l .keyword ∷ l .condition ∷ l .actions ∷ l .end ∷ []) d 0 (omega arith) ∙ rw (drop-of-length-le d {i = 6} (omega arith)))))
+    rw (← c .before .marks .ensures) (sets-eq (l .number ∷ c .before .marks .result ∷ l .keyword ∷ l .condition ∷ l .actions ∷ l .end ∷ []) d 0 (omega arith) ∙ rw (drop-of-length-le d {i = 6} (omega arith)))))

@@ -5,16 +5,18 @@ use native.Mathlib.Omega.{arith}
 use native.Mathlib.Nat.{sub-zero}
 use mathlib.Core.Path.{_≡_, sym, _∙_}
 use Prim.Native.Nat.{_-_, _≤_}
+use lib.ListN.{length}
+use Rattle.tokens.specs.Token.{setSize}
 use Rattle.engine.specs.Set.{lockTable, allKnown}
-use Rattle.engine.proofs.SetLaws.{known-not, known-on, known-none}
+use Rattle.engine.proofs.SetLaws.{known-unnamed, known-not, known-on, known-none}
 use Rattle.engine.proofs.set.all_known.Statement.{statement}
 use Rattle.engine.proofs.set.all_known.Tie as tie
 
 abbrev Inv-loop : tie.InvT-loop
-Inv-loop set numbers count k₀ k = (allKnown set (lockTable numbers) (count - k) k ≡ allKnown set (lockTable numbers) count 0) × (k ≤ count)
+Inv-loop set numbers items count k₀ k = (allKnown set (lockTable numbers) (count - k) k ≡ allKnown set (lockTable numbers) count 0) × (k ≤ count)
 
 abbrev μ-loop : tie.MeasureT-loop
-μ-loop set numbers count k₀ k = count - k
+μ-loop set numbers items count k₀ k = count - k
 
 pub all-known-spec : {M : Type 1} → statement M
 all-known-spec =
@@ -24,11 +26,17 @@ all-known-spec =
     μ-loop
     (λ c. (rw sub-zero, omega arith))
     (λ c. search needs)
-    (λ c κs. search needs)
+    (λ c. omega (arith, c .before .before .before .before .pre .few))
     (λ c. search needs)
     (λ c κs. search needs)
-    (λ c. sym (known-not _ _ _ _ _ _ (c .before .before .token-at .ensures) (c .before .names-known .ensures) (omega arith) (not-true _ (c .if1 .taken))) ∙ c .before .before .before .before .before .loop .inv .0)
+    (λ c. search needs)
+    (λ c κs.
+    let b = c .before .before .before .before in
+    let s = b .before .before .before .before in
+    let size : length (s .args .set .now) ≤ setSize = omega arith in
+    known-unnamed (s .args .set .now) _ size (s .pre) (b .before .loop .k) (omega arith) (c .before .token-at .ensures))
+    (λ c. sym (known-not _ _ _ _ _ _ (c .before .before .before .token-at .ensures) (c .before .line-known .ensures) (omega arith) (not-true _ (c .if1 .taken))) ∙ c .before .before .before .before .before .before .before .loop .inv .0)
     (λ c. omega arith)
     (λ c. omega arith)
-    (λ c. (sym (known-on _ _ _ _ _ _ (c .before .before .token-at .ensures) (c .before .names-known .ensures) (omega arith) (not-false _ (c .if1 .left))) ∙ c .before .before .before .before .before .loop .inv .0, omega arith))
+    (λ c. (sym (known-on _ _ _ _ _ _ (c .before .before .before .token-at .ensures) (c .before .line-known .ensures) (omega arith) (not-false _ (c .if1 .left))) ∙ c .before .before .before .before .before .before .before .loop .inv .0, omega arith))
     (λ c. sym (known-none _ _ _ _ (omega arith)) ∙ c .before .loop .inv .0))

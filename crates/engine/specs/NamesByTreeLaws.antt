@@ -1,6 +1,6 @@
--- THE NAMES OF A LINE BY ITS TREE: the check of the names in a line's tokens finds each known exactly if each name in the line's tree is. Nothing is assumed.
+-- THE NAMES OF A LINE BY ITS TREE: the check of the names in a line's tokens finds each known exactly if each name in the line's tree is; so it does in a line of which the check of its actions notes none. Nothing is assumed.
 use mathlib.Core.Path.{_≡_, refl, sym, ap, _∙_}
-use mathlib.Core.Bool.{Bool, true, false, _&&_, and-assoc, and-true}
+use mathlib.Core.Bool.{Bool, true, false, _&&_, and-assoc, and-true, false≢true}
 use mathlib.Core.List.{List, [], _∷_, _++_}
 use Prim.Native.Nat.{ℕ, zero, suc, _+_, _-_, _≤_, _<_}
 use native.Mathlib.Omega.{arith}
@@ -8,14 +8,18 @@ use lib.Dec.{eqb}
 use lib.ListN.{length, length-append}
 use borrow.Author.Tests.{eq-eqb, ne-eqb, le-leb, leb-false}
 use Rattle.values.specs.Choice.{told-so, both, decide, chosen, refused, and-true as and-both}
-use Rattle.tokens.specs.Token.{END, EQUALS, OPEN, CLOSE, LEFT, RIGHT, DO, ID, IDS, IM, IN, FIFO4, X, W, POS, MOV, WHEN, EVERY, LOCK, SETAL, UNLOCK, whole, wholeToken, setSize}
+use Rattle.tokens.specs.Token.{END, EQUALS, OPEN, CLOSE, LEFT, RIGHT, DO, ID, IDS, IM, IN, FIFO4, X, W, POS, MOV, WHEN, EVERY, LOCK, SETAL, UNLOCK, isLock, whole, wholeToken, setSize}
 use Rattle.tokens.specs.Descent.{token}
+use Rattle.checking.specs.Fault.{lineAt}
+use Rattle.checking.specs.declared.line.Line.{Line as Told}
 use Rattle.grammar.specs.Tree.{Sum, Action, assign, assignPosition, drive, code, call, Condition, always, under, Line, line, sumTokens, actionTokens, actionsTokens, conditionTokens, lineTokens}
 use Rattle.grammar.specs.Meaning.{Stands}
-use Rattle.grammar.specs.TreeNames.{Name, actionNames, actionsNames, namesIn, eachKnown}
+use Rattle.grammar.specs.TreeFault.{partsFrom}
+use Rattle.grammar.specs.TreeNames.{Name, actionNames, actionsNames, namesIn, hasNames, eachKnown}
 use Rattle.grammar.specs.AgreementLaws.{bounds, stands-split, whole-token}
-use Rattle.grammar.specs.ClosedTokens.{Plain, plain-sum, plain-expression}
-use Rattle.engine.specs.Set.{isLock, namesKnown}
+use Rattle.grammar.specs.AgreementLine.{line-written, line-fault, line-parts, not-deep}
+use Rattle.grammar.specs.ClosedTokens.{Plain, plain-sum, plain-expression, line-fits}
+use Rattle.engine.specs.Set.{namesKnown}
 
 each-append : (known : ℕ → ℕ → Bool) (l m : List Name) → eachKnown known (l ++ m) ≡ (eachKnown known l && eachKnown known m)
 unfolding eachKnown
@@ -121,3 +125,22 @@ module _ (s : List ℕ) (known : ℕ → ℕ → Bool) where
       ∙ names-behind (DO ∷ []) j (j + 1) m (m - 1) (omega arith) (y .0, refl) (omega arith)
       ∙ actions-names r a (j + 1) e (m - 1) k z (omega arith)
       ∙ rw (names-end k e (o .0)) (and-true (eachKnown known (actionsNames a r)))
+
+  -- where there are none, each is known
+  none-unknown : (l : List Name) → hasNames l ≡ false → eachKnown known l ≡ true
+  unfolding eachKnown
+  none-unknown [] h = refl
+  none-unknown (n ∷ l) h = absurd (false≢true (sym h))
+
+  -- a line without a fault in which no action names a line
+  pub no-names : (p : ℕ) → length s ≤ setSize → lineAt s p .fault ≡ 0 → lineAt s p .names ≡ false → namesKnown s known setSize p ≡ true
+  unfolding partsFrom
+  no-names p size f h =
+      let o = not-deep s p f in
+      let (l, q, g) = line-written s p o (λ z. omega arith) in
+      let (e, _) = line-parts s size l p q o g (sym (line-fault s size l p q o g) ∙ f) in
+      let fits = line-fits s l p q g in
+      names-by-tree l p q (omega arith) g ∙ none-unknown (namesIn l) (names-of l p ∙ ap (λ (x : Told). x .names) (sym e) ∙ h)
+    where
+      names-of : (l : Line) (p : ℕ) → hasNames (namesIn l) ≡ partsFrom p l .names
+      names-of (line w v n c a r) p = refl
