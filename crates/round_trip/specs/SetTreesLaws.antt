@@ -57,12 +57,12 @@ module _ (s : List ℕ) (size : length s ≤ setSize) (sound : soundLines s .sou
     tree-good : GoodTree x
     tree-good = record {
       faultless = tree-faultless s size sound k inside x t;
-      shallow = sym (opens-stands s (front x) (startOf s k) (t .0) 0 (rw (front-end x) at (t .1))) ∙ not-deep s (startOf s k) (lines-lined s .listed sound .faultless k inside);
+      shallow = sym (opens-stands s (front x) (startOf s k) (t .0) 0 (rw (front-end x) at (t .1))) ∙ not-deep s (startOf s k) (lines-lined s .listed .faultless k inside);
     }
 
     -- its number is that of its rank
     tree-rank : treeNumber x ≡ lineOf s k .number
-    tree-rank = tree-number s size sound k inside x t ∙ lines-lined s .listed sound .number k inside
+    tree-rank = tree-number s size sound k inside x t ∙ lines-lined s .listed .number k inside
 
     -- what it names is known
     tree-known : (n : ℕ) → OneOf n (numbersNamed x) → (1 ≤ n) × (rankIn (soundLines s .numbers) n 0 < maxLines)
@@ -80,7 +80,7 @@ module _ (s : List ℕ) (size : length s ≤ setSize) (sound : soundLines s .sou
   trees-rise (x ∷ xs) k n t c h =
       let e = tree-rank k (omega arith) x (t .0) in
       let l = h k (omega arith) (omega arith) in
-      (omega arith, trees-rise xs (k + 1) (treeNumber x) (t .1) (omega arith) (λ j a b. let r = lines-lined s .listed sound .rising k j (omega arith) b in omega arith))
+      (omega arith, trees-rise xs (k + 1) (treeNumber x) (t .1) (omega arith) (λ j a b. let r = lines-lined s .listed .rising k j (omega arith) b in omega arith))
 
   module _ (xs : List Line) (trees : TreesOf s xs) where
     -- a number that is known is that of a line
@@ -88,7 +88,7 @@ module _ (s : List ℕ) (size : length s ≤ setSize) (sound : soundLines s .sou
     known-tree n p h =
         let ns = soundLines s .numbers in
         let i = rankIn ns n 0 in
-        let l = rank-inside s n sound p h in
+        let l = rank-inside s n p h in
         let c = trees .count in
         let m = length-map xs treeNumber in
         let z : 0 + i ≡ i = omega arith in
@@ -111,7 +111,7 @@ module _ (s : List ℕ) (size : length s ≤ setSize) (sound : soundLines s .sou
         let f = lines-lined s .few in
         record {
           good = trees-good xs 0 (trees .trees) (omega arith);
-          rising = trees-rise xs 0 0 (trees .trees) (omega arith) (λ j a b. let p = lines-lined s .listed sound .positive j b in omega arith);
+          rising = trees-rise xs 0 0 (trees .trees) (omega arith) (λ j a b. let p = lines-lined s .listed .positive j b in omega arith);
           named = trees-named xs 0 (trees .trees) (omega arith);
           few = omega arith;
         }
