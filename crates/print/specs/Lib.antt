@@ -3,6 +3,7 @@
 pub mod TokenText
 pub mod PrintText
 pub mod ReadBack
+pub mod NameRows
 mod TokenTable
 pub mod DecimalLaws
 pub mod NumberBackLaws
@@ -11,7 +12,11 @@ pub mod LineBack
 pub mod NumberShorterLaws
 pub mod ToldLaws
 pub mod LineShorter
+pub mod OneSignLaws
 pub mod TokenBytesLaws
 pub mod SpaceNeeded
+pub mod PartLaws
 pub mod RoomLaws
+pub mod NameRowsLaws
 pub mod PrintLaws
+pub mod PrintAnswerLaws

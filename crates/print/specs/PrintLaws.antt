@@ -1,7 +1,7 @@
 -- Laws of the print, row by row and token by token, and of a print at a buffer's start. Assumes nothing.
 use mathlib.Core.Path.{_≡_, refl, sym, ap, _∙_}
 use mathlib.Core.Bool.{false, _||_, and-false}
-use mathlib.Core.List.{List, [], _∷_, _++_, append-assoc, append-nil}
+use mathlib.Core.List.{List, [], _∷_, _++_, append-nil}
 use Prim.Native.Nat.{ℕ, suc, _+_, _-_, _*_, _≤_, _<_}
 use native.Mathlib.Omega.{arith}
 use native.Mathlib.Numerals.{add-one}
@@ -52,10 +52,13 @@ row-first s p =
     (λ e. rw (row-goes s p (eqb-false (getD s p 0) END e)))
 
 -- the line at a place: its token t there, what stands between that and the next, and the line behind
-pub line-goes : (s : List ℕ) (p : ℕ) {t u : ℕ} → t ≡ getD s p 0 → u ≡ getD s (p + 1) 0 → (t ≡ END → ⊥) → lineText (rowAt s p) ≡ (tokenText t ++ gap t u) ++ lineText (rowAt s (p + 1))
-line-goes s p {t} {u} e f n =
-    rw (row-goes s p (λ z. n (e ∙ z)), ← e)
-    (line-step t (rowAt s (p + 1)) ∙ rw (row-first s (p + 1), ← f) (sym (append-assoc (tokenText t) (gap t u) (lineText (rowAt s (p + 1))))))
+pub line-goes : (s : List ℕ) (p : ℕ) {t u : ℕ} → t ≡ getD s p 0 → u ≡ getD s (p + 1) 0 → (t ≡ END → ⊥) → lineText (rowAt s p) ≡ tokenText t ++ (gap t u ++ lineText (rowAt s (p + 1)))
+line-goes s p {t} {u} e f n = rw (row-goes s p (λ z. n (e ∙ z)), ← e) (line-step t (rowAt s (p + 1)) ∙ rw (row-first s (p + 1), ← f))
+
+-- behind its last token nothing is left
+pub line-over : (s : List ℕ) (p : ℕ) {t : ℕ} → t ≡ getD s p 0 → t ≡ END → lineText (rowAt s p) ≡ []
+unfolding lineText
+line-over s p e z = rw (row-ends s p (sym e ∙ z))
 
 -- ---- its room
 

@@ -19,17 +19,18 @@ use Rattle.print.specs.NumberBackLaws.{part-is}
 use Rattle.print.specs.TokenBackLaws.{by-token}
 use Rattle.print.specs.LineBack.{gap-none, gap-some}
 use Rattle.print.specs.TokenBytesLaws.{any-name}
+use Rattle.print.specs.NameRows.{longestName}
 
 -- a place that no print comes near: half of what a machine word counts
 abbrev pub lastPlace : ℕ
 lastPlace = 9223372036854775808
 
--- the bytes of a name at most, those of a token, a number of ten digits before the point, and those of a line with a space behind each token
-abbrev pub longestName : ℕ
-longestName = 10
+-- the digits before the point at most, the bytes of a token, with a point and three digits behind them, and those of a line with a space behind each token
+abbrev pub unitsRoom : ℕ
+unitsRoom = 10
 
 abbrev pub tokenRoom : ℕ
-tokenRoom = 14
+tokenRoom = unitsRoom + 4
 
 abbrev pub lineRoom : ℕ
 lineRoom = (tokenRoom + 1) * setSize
@@ -43,7 +44,7 @@ names-short : rows isShortName names ≡ true
 unfolding isShortName
 names-short = refl
 
-name-room : (t : ℕ) → length (nameText t) ≤ longestName
+pub name-room : (t : ℕ) → length (nameText t) ≤ longestName
 unfolding nameText isShortName
 name-room t = leb-true _ longestName (any-name isShortName names t names-short refl)
 

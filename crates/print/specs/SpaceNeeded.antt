@@ -18,17 +18,16 @@ use Rattle.text.specs.Tokens.{Tokens, withToken, tokensOf}
 use Rattle.text.specs.TokensLaws.{tokens-none}
 use Rattle.print.specs.TokenText.{tokenText, goesOn, isFollowing, isOneSign, needsSpace, gap, lineText}
 use Rattle.print.specs.ReadBack.{mark, readBack}
+use Rattle.print.specs.NameRows.{noSpace}
 use Rattle.print.specs.DecimalLaws.{All, all-append, digit-bounds}
 use Rattle.print.specs.TokenBackLaws.{Printable, number-goes, back-number, back-other}
 use Rattle.print.specs.LineBack.{or-none, number-follows, gap-none, line-back}
-use Rattle.print.specs.ToldLaws.{Left, no-sign-one, one-no-sign, side-by-side, Told}
+use Rattle.print.specs.ToldLaws.{Left, no-sign-one, side-by-side, Told}
+use Rattle.print.specs.OneSignLaws.{word-space}
 use Rattle.print.specs.LineShorter.{by-bytes}
 use Rattle.print.specs.TokenBytesLaws.{Passed, token-bytes}
 
 -- ---- bytes without a space
-
-abbrev noSpace : ℕ → Bool
-noSpace b = not (isSpace b)
 
 solid : Passed noSpace
 solid = record { digit = λ b h. let (l, u) = digit-bounds b h in rw (ne-eqb b 32 (λ e. omega arith)); point = refl; names = refl }
@@ -74,12 +73,7 @@ module _ (t u : ℕ) where
   back-goes : isNumber t ≡ true → isNumber (readBack t) ≡ true
   back-goes e = rw (back-number t e) (le-leb NUMBER (NUMBER + (thousandths (numberCarried t) * 2 + mark (thousandths (numberCarried t) % unit))) (omega arith))
 
-  -- behind a number
-  number-space : isNumber t ≡ true → needsSpace t u ≡ isFollowing u
-  unfolding needsSpace
-  number-space e = let g = number-goes t e in rw (g, one-no-sign t u g) (or-none (isFollowing u))
-
-  -- and before one
+  -- before a number
   space-number : isNumber u ≡ true → needsSpace t u ≡ goesOn t
   unfolding needsSpace
   space-number e = rw (number-follows u e, no-sign-one t u (number-goes u e), and-true (goesOn t)) (or-none (goesOn t))
@@ -87,7 +81,7 @@ module _ (t u : ℕ) where
 back-first : (t u : ℕ) → needsSpace (readBack t) u ≡ needsSpace t u
 back-first t u =
     decide _ (isNumber t)
-    (λ e. number-space (readBack t) u (back-goes t u e) ∙ sym (number-space t u e))
+    (λ e. word-space (readBack t) u (number-goes (readBack t) (back-goes t u e)) ∙ sym (word-space t u (number-goes t e)))
     (λ e. rw (back-other t e))
 
 back-second : (t u : ℕ) → needsSpace t (readBack u) ≡ needsSpace t u

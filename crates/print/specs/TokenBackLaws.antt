@@ -183,6 +183,14 @@ by-token P t num sig wor =
     decide P (isNumber t) (λ e. num e (chosen _ _ _ e)) λ e.
     decide P (goesOn t) (λ g. wor e g (refused _ _ _ e)) (λ g. sig e g (refused _ _ _ e))
 
+pub text-name : (t : ℕ) → isNumber t ≡ false → tokenText t ≡ nameText t
+unfolding tokenText
+text-name t e = refused _ _ _ e
+
+pub text-number : (t : ℕ) → isNumber t ≡ true → tokenText t ≡ numberText (thousandths (numberCarried t))
+unfolding tokenText
+text-number t e = chosen _ _ _ e
+
 pub back-number : (t : ℕ) → isNumber t ≡ true → readBack t ≡ NUMBER + (thousandths (numberCarried t) * 2 + mark (thousandths (numberCarried t) % unit))
 unfolding readBack
 back-number t e = chosen _ _ _ e

@@ -18,9 +18,9 @@ use Rattle.text.specs.WordLaws.{same-is, rows, found-passes}
 use Rattle.text.specs.declared.scan.First.{First}
 use Rattle.text.specs.First.{found, noToken, wordFirst, behindPoint, withPoint, numberWith, numberFirst, signFirst, firstToken}
 use Rattle.text.specs.TokensLaws.{no-pair}
-use Rattle.print.specs.TokenText.{numberText, nameText, tokenText, goesOn, isFollowing, isOneSign, needsSpace}
+use Rattle.print.specs.TokenText.{nameText, tokenText, goesOn, isFollowing, isOneSign, needsSpace}
 use Rattle.print.specs.DecimalLaws.{All}
-use Rattle.print.specs.TokenBackLaws.{hasName, name-says, Printable, sign-no-number, by-token}
+use Rattle.print.specs.TokenBackLaws.{hasName, name-says, Printable, sign-no-number, text-name, text-number}
 use Rattle.print.specs.LineBack.{neither, one-more, two-more}
 use Rattle.print.specs.NumberShorterLaws.{number-shorter}
 
@@ -108,9 +108,6 @@ words-told = refl
 found-size : (t n k : ℕ) → found t n .size ≡ suc k → (found t n .token ≡ t) × (n ≡ suc k) × (t ≡ 0 → ⊥)
 found-size zero n k h = absurd (omega arith)
 found-size (suc t) n k h = (refl, h, λ e. omega arith)
-
-text-name : (t : ℕ) → isNumber t ≡ false → tokenText t ≡ nameText t
-text-name t e = by-token _ t (λ g x. contrary g e) (λ _ _ x. x) (λ _ _ x. x)
 
 word-told : (x : List ℕ) → (wordToken x ≡ 0 → ⊥) → wordTold x (wordToken x) ≡ true
 unfolding wordToken
@@ -247,7 +244,7 @@ module _ (b : ℕ) (bs : List ℕ) (k n m : ℕ) (h : isDigit b ≡ true) (da : 
         right = record { follows = λ _ _ c. contrary h c; sign = λ s. contrary goes s; named = λ s. contrary goes s };
         short = λ q.
             let num = le-leb NUMBER (numberToken before behind) low in
-            let text = by-token (tokenText (numberToken before behind) ≡ numberText (thousandths (numberCarried (numberToken before behind)))) (numberToken before behind) (λ _ x. x) (λ g _ _. contrary num g) (λ g _ _. contrary num g) in
+            let text = text-number (numberToken before behind) num in
             let u = number-shorter before behind da (rw d at (p .digits)) (omega arith) (q .number num) in
             let w = ap withPoint lb in
             rw text (omega arith);

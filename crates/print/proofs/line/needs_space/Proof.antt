@@ -1,0 +1,16 @@
+-- `line::needs_space` meets its contract: of two signs whether they would be one, else whether the second goes on with the first.
+use borrow.Author.Needs.{needs}
+use mathlib.Core.Path.{sym, _∙_}
+use borrow.Author.Tests.{le-leb}
+use Rattle.print.specs.OneSignLaws.{sign-space, word-space}
+use Rattle.print.proofs.line.needs_space.Statement.{statement}
+use Rattle.print.proofs.line.needs_space.Tie as tie
+
+pub needs-space-spec : {M : Type 1} → statement M
+needs-space-spec =
+    tie.close
+    (tie.spec
+    (λ c κs. search needs)
+    (λ c. let a = c .before .before .args in c .is-one-sign .ensures ∙ sym (sign-space (a .t) (a .u) (c .before .if1 .taken)))
+    (λ c κs. search needs)
+    (λ c. let a = c .before .before .args in c .is-following .ensures ∙ sym (word-space (a .t) (a .u) (le-leb 16 (a .t) (c .before .if1 .left)))))
