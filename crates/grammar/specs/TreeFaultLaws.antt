@@ -69,7 +69,7 @@ unless-proper false k h = inr (bounds confused tooManyActions k h)
 -- ---- the sight of a tree never stops, and its fault is proper
 
 -- an answer of the check that is good, with a proper fault
-abbrev pub GoodSight : Answer Sight → Type 0
+abbrev GoodSight : Answer Sight → Type 0
 GoodSight (good a) = Proper (a .fault)
 GoodSight (stop c) = ⊥
 

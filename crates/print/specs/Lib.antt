@@ -16,7 +16,7 @@ pub mod OneSignLaws
 pub mod TokenBytesLaws
 pub mod SpaceNeeded
 pub mod PartLaws
-pub mod RoomLaws
+pub mod PrintRoomLaws
 pub mod NameRowsLaws
 pub mod PrintLaws
 pub mod PrintAnswerLaws

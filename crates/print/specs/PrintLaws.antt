@@ -18,7 +18,7 @@ use Rattle.text.specs.Byte.{LF}
 use Rattle.print.specs.TokenText.{tokenText, goesOn, needsSpace, gap, lineText}
 use Rattle.print.specs.PrintText.{upToEnd, rowAt, lineRows, behindText, rowsText}
 use Rattle.print.specs.LineBack.{gap-none}
-use Rattle.print.specs.RoomLaws.{tokenRoom, line-room}
+use Rattle.print.specs.PrintRoomLaws.{tokenRoom, line-room}
 
 -- ---- a line, token by token
 

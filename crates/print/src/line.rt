@@ -7,7 +7,7 @@ ghost use Rattle.values.specs.PutAt.{IsPut};
 ghost use Rattle.tokens.specs.Token.{EQUALS, LESS, MORE};
 ghost use Rattle.print.specs.TokenText.{tokenText, isFollowing, isOneSign, needsSpace, gap, lineText};
 ghost use Rattle.print.specs.PrintText.{rowAt};
-ghost use Rattle.print.specs.RoomLaws.{lastPlace, lineRoom};
+ghost use Rattle.print.specs.PrintRoomLaws.{lastPlace, lineRoom};
 use crate::name::put_name;
 use crate::number::put_thousandths;
 use text::buffer::put;

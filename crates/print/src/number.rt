@@ -3,7 +3,7 @@ ghost use Prim.Native.Nat.{_+_, _≤_, _<_};
 ghost use Rattle.values.specs.PutAt.{IsPut};
 ghost use Rattle.values.specs.Value.{unit};
 ghost use Rattle.print.specs.TokenText.{partText, numberText};
-ghost use Rattle.print.specs.RoomLaws.{lastPlace, unitsRoom};
+ghost use Rattle.print.specs.PrintRoomLaws.{lastPlace, unitsRoom};
 use text::buffer::put;
 use text::bytes::POINT;
 use text::digits::put_number;

@@ -7,7 +7,7 @@ ghost use Rattle.tokens.specs.Token.{maxLines};
 ghost use Rattle.engine.specs.Set.{startOf};
 ghost use Rattle.print.specs.TokenText.{lineText};
 ghost use Rattle.print.specs.PrintText.{rowAt, lineRows, rowsText, notPrinted, printAnswer, printBuffer};
-ghost use Rattle.print.specs.RoomLaws.{lastPlace, lineRoom};
+ghost use Rattle.print.specs.PrintRoomLaws.{lastPlace, lineRoom};
 use crate::line::put_line;
 use engine::START_PLACE;
 use engine::sound_lines;

@@ -13,7 +13,7 @@ use Rattle.tokens.specs.BetweenLaws.{lies-inside}
 use Rattle.print.specs.TokenText.{tokenText, gap, lineText}
 use Rattle.print.specs.PrintText.{rowAt}
 use Rattle.print.specs.PrintLaws.{line-goes, line-over, line-at-room}
-use Rattle.print.specs.RoomLaws.{tokenRoom}
+use Rattle.print.specs.PrintRoomLaws.{tokenRoom}
 use Rattle.print.proofs.line.put_line.Statement.{statement}
 use Rattle.print.proofs.line.put_line.Tie as tie
 

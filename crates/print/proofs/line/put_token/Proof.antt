@@ -4,7 +4,7 @@ use borrow.Author.Tests.{le-leb, lt-leb}
 use native.Mathlib.Omega.{arith}
 use Rattle.values.specs.PutLaws.{put-sized, put-as}
 use Rattle.print.specs.TokenText.{nameText}
-use Rattle.print.specs.RoomLaws.{name-room}
+use Rattle.print.specs.PrintRoomLaws.{name-room}
 use Rattle.print.specs.TokenBackLaws.{text-name, text-number}
 use Rattle.print.proofs.line.put_token.Statement.{statement}
 use Rattle.print.proofs.line.put_token.Tie as tie

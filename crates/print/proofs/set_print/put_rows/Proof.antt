@@ -7,7 +7,7 @@ use lib.ListN.{length}
 use denote.Ref.{now}
 use Rattle.values.specs.PutLaws.{put-nothing, put-byte, put-both, put-as, Left, left-all, left-after, left-none}
 use Rattle.print.specs.PrintText.{lineRows, behindText, rowsText}
-use Rattle.print.specs.RoomLaws.{lineRoom}
+use Rattle.print.specs.PrintRoomLaws.{lineRoom}
 use Rattle.print.specs.PrintLaws.{rows-none, rows-first, rows-next, rows-over}
 use Rattle.print.proofs.set_print.put_rows.Statement.{statement}
 use Rattle.print.proofs.set_print.put_rows.Tie as tie
