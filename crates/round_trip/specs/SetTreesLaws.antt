@@ -17,10 +17,10 @@ use Rattle.grammar.specs.StandsLaws.{opens-stands}
 use Rattle.grammar.specs.AgreementLine.{not-deep}
 use Rattle.engine.specs.Set.{startOf, rankIn, lineOf, lockTable, soundLines}
 use Rattle.engine.specs.SetLinesLaws.{lines-lined}
+use Rattle.engine.specs.NamesByTreeLaws.{names-by-tree}
 use Rattle.soundness.specs.AnswerCodes.{OneOf}
 use Rattle.soundness.specs.SetSoundLaws.{lines-known, rank-number, rank-inside}
 use Rattle.turn_trees.specs.SoundTurns.{TreeAt, TreesFrom, TreesOf, tree-faultless, tree-number, tree-short, numbers-at, sound-trees}
-use Rattle.reader.specs.NamesByTreeLaws.{names-by-tree}
 use Rattle.loading.specs.TextTrees.{RisesBy, numbersNamed, AllNameOnly}
 use Rattle.loading.specs.TextTreesLaws.{each-one, line-positive}
 use Rattle.print.specs.PrintText.{lineRows, rowsOf}
