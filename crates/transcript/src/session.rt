@@ -8,6 +8,7 @@ ghost use lib.ListN.{length};
 ghost use Rattle.values.specs.PutAt.{putAt, IsPut};
 ghost use Rattle.engine.specs.ReadLines.{linesWritten};
 ghost use Rattle.engine.specs.declared.state.State.{State};
+ghost use Rattle.reader.specs.Load.{loadAnswer, loadSet};
 ghost use Rattle.transcript.specs.declared.totals.Totals.{Totals};
 ghost use Rattle.transcript.specs.Intake.{OVER, Arrived};
 ghost use Rattle.transcript.specs.IntakeAnswers.{broughtBy};
@@ -49,6 +50,7 @@ use engine::State;
 use engine::kept_cells;
 use engine::read_lines;
 use engine::spread_cells;
+use reader::Loaded;
 use reader::load;
 use text::bytes::Kind;
 use text::bytes::run_end;
@@ -222,7 +224,18 @@ fn beat_end(
     }
 }
 
-// The set text is whole: it is loaded, and the lines of its set are read.
+// A text is loaded, and the lines of its set are read.
+fn load_lines(t: &[u8], set: &mut [u32; SIZE], lines: &mut [usize; READ]) -> Loaded
+    ensures { λ x. ⌜ x ≡ loadAnswer (now (t .entry)) ⌝ }
+    ensures { λ x. ⌜ now (set .exit) ≡ loadSet (now (t .entry)) ⌝ }
+    ensures { λ x. ⌜ now (lines .exit) ≡ linesWritten (now (set .exit)) ⌝ }
+{
+    let l = load(t, set);
+    read_lines(set, lines);
+    l
+}
+
+// The set text is whole.
 fn open_set(
     intake: Intake,
     t: &[u8],
@@ -235,8 +248,7 @@ fn open_set(
     ensures { λ x. ⌜ now (lines .exit) ≡ linesWritten (now (set .exit)) ⌝ }
     ensures { λ x. ⌜ ((m s : List ℕ) (n : Totals) → IsFed (opened (machineOf m s (sessionOf intake n)) (now (t .entry))) (machineOf m (now (set .exit)) (sessionOf (x .intake) n)) (now (out .entry)) at (now (out .exit)) (x .end)) ⌝ }
 {
-    let l = load(t, set);
-    read_lines(set, lines);
+    let l = load_lines(t, set, lines);
     let code = l.code;
     if code != 0 {
         let end = load_line(out, at, code, l.line);

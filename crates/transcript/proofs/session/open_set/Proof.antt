@@ -13,19 +13,18 @@ open-set-spec =
     (λ c κs. search needs)
     (λ c κs. search needs)
     (λ c κs. search needs)
-    (λ c κs. search needs)
     (λ c. search needs)
     (λ c.
     let p = c .before .before .before in
     let i = p .before .before in
-    let l = i .before .before .before .before in
-    let a = l .before .before .before .before .args in (
-      i .before .read-lines .ensures,
-      λ m s n. fed (opens-not m s (sessionOf (a .intake) n) _ (l .load .ensures .0) (l .load .ensures .1) (i .if1 .taken) (c .stop .ensures)) (p .load-line .ensures),
+    let l = i .before in
+    let e = l .load-lines .ensures in
+    let a = l .before .before .before .before .before .args in (
+      e .1 .1,
+      λ m s n. fed (opens-not m s (sessionOf (a .intake) n) _ (e .0) (e .1 .0) (i .if1 .taken) (c .stop .ensures)) (p .load-line .ensures),
     ))
     (λ c.
-    let l = c .before .before .before .before in
-    let a = l .before .before .before .before .args in (
-      c .before .read-lines .ensures,
-      λ m s n. fed (opens m s (sessionOf (a .intake) n) _ (l .load .ensures .0) (l .load .ensures .1) (c .if1 .left)) put-nothing,
-    )))
+    let l = c .before in
+    let e = l .load-lines .ensures in
+    let a = l .before .before .before .before .before .args in
+    (e .1 .1, λ m s n. fed (opens m s (sessionOf (a .intake) n) _ (e .0) (e .1 .0) (c .if1 .left)) put-nothing)))
