@@ -9,17 +9,28 @@ use lib.Seq.{drop-cons, getD-drop, drop-drop}
 use Rattle.engine.specs.Order.{orderSize}
 use Rattle.text.specs.Byte.{bytes, LF, SPACE}
 use Rattle.text.specs.Digits.{decimal, signedText}
-use Rattle.values.specs.PutAt.{IsPut}
-use Rattle.transcript.specs.OutputLaws.{fields-room}
 use Rattle.transcript.specs.Output.{spaced, printedLine, decimals, fourOf, orderLine, orderLines}
 
 -- ---- fields
 
+-- a number alone
+pub field-alone : (n : ℕ) → spaced (decimals (n ∷ [])) ≡ SPACE ∷ decimal n
+unfolding spaced
+field-alone n = ap (λ (y : List ℕ). SPACE ∷ y) (append-nil (decimal n))
+
+-- a number before others
+pub field-first : (n : ℕ) (ns : List ℕ) → spaced (decimals (n ∷ ns)) ≡ spaced (decimals (n ∷ [])) ++ spaced (decimals ns)
+unfolding spaced
+field-first n ns = ap (λ (y : List ℕ). SPACE ∷ (y ++ spaced (decimals ns))) (sym (append-nil (decimal n)))
+
+pub three-fields : (a b c : ℕ) → spaced (decimals (a ∷ b ∷ c ∷ [])) ≡ (spaced (decimals (a ∷ [])) ++ spaced (decimals (b ∷ []))) ++ spaced (decimals (c ∷ []))
+three-fields a b c =
+    field-first a (b ∷ c ∷ []) ∙ ap (λ (y : List ℕ). spaced (decimals (a ∷ [])) ++ y) (field-first b (c ∷ [])) ∙ sym (append-assoc (spaced (decimals (a ∷ []))) (spaced (decimals (b ∷ []))) (spaced (decimals (c ∷ []))))
+
 -- the numbers from place i on
 module _ (ns : List ℕ) (i : ℕ) where
-  pub field-next : i < length ns → spaced (decimals (drop i ns)) ≡ (SPACE ∷ decimal (getD ns i 0)) ++ spaced (decimals (drop (i + 1) ns))
-  unfolding spaced
-  field-next h = rw (drop-cons ns i 0 h, add-one i)
+  pub field-next : i < length ns → spaced (decimals (drop i ns)) ≡ spaced (decimals (getD ns i 0 ∷ [])) ++ spaced (decimals (drop (i + 1) ns))
+  field-next h = rw (drop-cons ns i 0 h, add-one i) (field-first (getD ns i 0) (drop (suc i) ns))
 
   pub fields-over : length ns ≤ i → spaced (decimals (drop i ns)) ≡ []
   unfolding spaced
@@ -55,10 +66,6 @@ module _ (o : List ℕ) (from : ℕ) where
       orderLine (drop from o) ≡ (((bytes "O" ++ spaced (decimals (line ∷ kind ∷ target ∷ []))) ++ (SPACE ∷ [])) ++ signedText v) ++ (LF ∷ [])
   unfolding orderLine
   order-is {line} {kind} {target} {v} e f g h = rw (field 1 e, first f, field 2 g, drop-drop 4 from o, ← h) (line-more (bytes "O") (decimals (line ∷ kind ∷ target ∷ [])) (signedText v))
-
--- where its three numbers end
-pub order-near : {s t : List ℕ} {at q : ℕ} (a b c : ℕ) → IsPut s at (bytes "O" ++ spaced (decimals (a ∷ b ∷ c ∷ []))) t q → q ≤ at + 34
-order-near a b c h = let r = fields-room (a ∷ b ∷ c ∷ []) in let e = h .behind in omega arith
 
 -- ---- orders one behind the other
 

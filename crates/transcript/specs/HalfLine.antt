@@ -1,14 +1,17 @@
--- A beat line read byte by byte, as the code does; that this comes to what BeatLine says is shown in the crate `sessions`. Definitions only.
+-- A beat line read byte by byte, as the code does; that this comes to what BeatLine says is shown in the crate `sessions`. Behind that the words for fields that the code reads whole. Definitions only.
+use mathlib.Core.Path.{_≡_}
+use mathlib.Core.Logic.{_⊎_}
 use mathlib.Core.Bool.{Bool, true, false, _&&_, _||_}
 use mathlib.Core.List.{List, [], _∷_}
 use mathlib.Core.Option.{Option, none, some}
-use Prim.Native.Nat.{ℕ, _+_, _-_, _*_, min}
+use Prim.Native.Nat.{ℕ, _+_, _-_, _*_, _≤_, _<_, min}
 use lib.Dec.{eqb, leb, ltb}
 use lib.IntN.{ℤ, pos}
-use lib.ListN.{set, replicate}
+use lib.ListN.{getD, set, replicate}
 use Rattle.working.specs.Variables.{numberCount}
 use Rattle.text.specs.Byte.{CR, SPACE, isDigit}
 use Rattle.transcript.specs.declared.beat_line.HalfLine.{HalfLine}
+use Rattle.transcript.specs.declared.beat_line.Under.{Under}
 use Rattle.transcript.specs.BeatLine.{Lent, minus}
 
 -- fields are counted from 0: the mode, the input word, the numbers
@@ -129,3 +132,36 @@ readLent r =
       | true ↦ some (record { automatic = closed r .automatic; word = closed r .word; numbers = closed r .numbers })
       | false ↦ none
     ]
+
+-- ---- whole fields
+
+-- a line at the beginning of a field
+abbrev pub atField : Bool → ℕ → ℕ → List ℤ → HalfLine
+atField automatic word field numbers = record { field = field; stage = 0; automatic = automatic; word = word; negative = false; value = 0; numbers = numbers }
+
+-- a line with its field under way
+abbrev pub withUnder : Bool → ℕ → Under → List ℤ → HalfLine
+withUnder automatic word u numbers = record { field = u .field; stage = u .stage; automatic = automatic; word = word; negative = u .negative; value = u .value; numbers = numbers }
+
+-- a line with digits of its field
+abbrev pub withValue : HalfLine → ℕ → HalfLine
+withValue r v = record { field = r .field; stage = 2; automatic = r .automatic; word = r .word; negative = r .negative; value = v; numbers = r .numbers }
+
+-- a space ends the field under way, and another may follow
+pub record IsOver (t : List ℕ) (u : Under) : Type 0 where
+  pub ended : u .stage ≡ 2
+  pub early : u .field < lastField
+  pub space : getD t (u .end) 0 ≡ SPACE
+  pub fits : (r : HalfLine) → r .field ≡ u .field → r .negative ≡ u .negative → u .value ≤ greatest r
+
+-- a line is at its beginning, and nothing is left over
+pub record IsFresh (r : HalfLine) : Type 0 where
+  pub first : r .field ≡ 0
+  pub unread : r .stage ≡ 0
+  pub unsigned : r .negative ≡ false
+  pub empty : r .value ≡ 0
+
+-- a mode and a space stand first
+pub record HasMode (t : List ℕ) : Type 0 where
+  pub mode : (getD t 0 0 ≡ 65) ⊎ (getD t 0 0 ≡ 77)
+  pub space : getD t 1 0 ≡ SPACE

@@ -1,10 +1,13 @@
-// A beat line, read byte by byte: it has no greatest length.
+// A beat line: from its first byte on fields that stand whole are read at once, what is left byte by byte, for a line has no greatest length and comes in parts.
 ghost use mathlib.Core.Path.{_≡_};
 ghost use mathlib.Core.Bool.{true, false};
-ghost use Prim.Native.Nat.{_+_, _*_, _≤_, _<_, min};
-ghost use lib.ListN.{set};
+ghost use mathlib.Core.Bool.{Bool};
+ghost use mathlib.Core.List.{List};
+ghost use lib.IntN.{ℤ};
+ghost use Prim.Native.Nat.{ℕ, _+_, _*_, _≤_, _<_, min};
+ghost use lib.ListN.{length, getD, set, drop};
 ghost use Rattle.text.specs.Byte.{isDigit};
-ghost use Rattle.transcript.specs.HalfLine.{noHalfLine, withStage, illFormed, highest, greatest, signed, withField, closed, spaceAfter, modeByte, minusByte, digitByte, fieldByte, readByte, readOn, isUntouched, withoutCR, readLent};
+ghost use Rattle.transcript.specs.HalfLine.{noHalfLine, withStage, illFormed, highest, greatest, signed, withField, closed, spaceAfter, modeByte, minusByte, digitByte, fieldByte, readByte, readOn, isUntouched, withoutCR, readLent, atField, withUnder, withValue, IsOver, IsFresh, HasMode};
 ghost use Rattle.transcript.specs.MaybeLent.{maybeLent};
 ghost use mathlib.Core.Option.{none};
 use text::bytes::CR;
@@ -59,6 +62,27 @@ pub struct MaybeLent {
     pub numbers: [i32; NUMBERS],
 }
 
+// A value, and the place behind its digits.
+struct Digits {
+    value: u64,
+    end: usize,
+}
+
+// The field under way, and the place behind what of it is read.
+struct Under {
+    field: u8,
+    stage: u8,
+    negative: bool,
+    value: u64,
+    end: usize,
+}
+
+// A line so far, and the place behind what of it is read.
+struct Begun {
+    half: HalfLine,
+    end: usize,
+}
+
 pub fn no_half_line() -> HalfLine
     ensures { λ x. ⌜ x ≡ noHalfLine ⌝ }
 {
@@ -89,14 +113,13 @@ fn ill_formed(r: HalfLine) -> HalfLine
 
 // ---- the end of a field
 
-fn greatest_value(r: HalfLine) -> u64
-    ensures { λ x. ⌜ x ≡ greatest r ⌝ }
+// The greatest value of a field, with a minus or without.
+fn greatest_value(field: u8, negative: bool) -> u64
+    ensures { λ x. ⌜ ((r : HalfLine) → r .field ≡ field → r .negative ≡ negative → x ≡ greatest r) ⌝ }
 {
-    let field = r.field;
     if field == 1 {
         return WORD_TOP;
     }
-    let negative = r.negative;
     if negative { NEGATIVE_TOP } else { POSITIVE_TOP }
 }
 
@@ -110,6 +133,17 @@ fn negated(n: u64) -> i32
     }
     let m = (n - 1) as i32;
     !m
+}
+
+// A number by its sign and its absolute value.
+fn signed_value(negative: bool, n: u64) -> i32
+    requires { ⌜ (negative ≡ true → n ≤ 2147483648) × (negative ≡ false → n < 2147483648) ⌝ }
+    ensures { λ x. ⌜ x ≡ signed negative n ⌝ }
+{
+    if negative {
+        return negated(n);
+    }
+    n as i32
 }
 
 // A number at a place, if there is such a place.
@@ -127,26 +161,21 @@ fn with_field(r: HalfLine) -> HalfLine
     ensures { λ x. ⌜ x ≡ withField r ⌝ }
 {
     let value = r.value;
-    if greatest_value(r) < value {
+    let field = r.field;
+    let negative = r.negative;
+    if greatest_value(field, negative) < value {
         return ill_formed(r);
     }
     let mut x = r;
     x.negative = false;
     x.value = 0;
-    let field = r.field;
     if field == 1 {
         x.word = value as u16;
         return x;
     }
     let at = (field - 2) as usize;
     let mut numbers = r.numbers;
-    let negative = r.negative;
-    if negative {
-        put_number(&mut numbers, at, negated(value));
-        x.numbers = numbers;
-        return x;
-    }
-    put_number(&mut numbers, at, value as i32);
+    put_number(&mut numbers, at, signed_value(negative, value));
     x.numbers = numbers;
     x
 }
@@ -285,12 +314,203 @@ fn read_byte(r: HalfLine, b: u8) -> HalfLine
     ill_formed(r)
 }
 
-// Bytes of the line, none of them an LF.
+// ---- whole fields
+
+// The byte at a place, 0 past the end.
+fn byte_at(part: &[u8], at: usize) -> u8
+    ensures { λ x. ⌜ x ≡ getD (now (part .entry)) at 0 ⌝ }
+{
+    if at < part.len() {
+        return part[at];
+    }
+    0
+}
+
+// The digits from a place on, where one stands, and the place behind them.
+fn read_digits(part: &[u8], at: usize) -> Digits
+    requires { ⌜ isDigit (getD (now part) at 0) ≡ true ⌝ }
+    ensures { λ x. ⌜ (at < x .end) × (x .end ≤ length (now (part .entry))) ⌝ }
+    ensures { λ x. ⌜ ((r : HalfLine) → 1 ≤ r .field → r .stage ≤ 2 → r .value ≡ 0 → readOn (withValue r (x .value)) (drop (x .end) (now (part .entry))) ≡ readOn r (drop at (now (part .entry)))) ⌝ }
+{
+    let mut value = grown(0, (part[at] - 48) as u64);
+    let mut end = at + 1;
+    while end < part.len() {
+        let b = part[end];
+        if !is_digit(b) {
+            return Digits {
+                value: value,
+                end: end,
+            };
+        }
+        value = grown(value, (b - 48) as u64);
+        end += 1;
+    }
+    Digits {
+        value: value,
+        end: end,
+    }
+}
+
+// Whether a field is a number that begins with a minus and a digit.
+fn is_negative(part: &[u8], at: usize, field: u8) -> bool
+    requires { ⌜ at ≤ length (now part) ⌝ }
+    ensures { λ x. ⌜ (x ≡ true → (2 ≤ field) × (getD (now (part .entry)) at 0 ≡ 45) × (isDigit (getD (now (part .entry)) (at + 1) 0) ≡ true)) ⌝ }
+{
+    if field < 2 {
+        return false;
+    }
+    if byte_at(part, at) != MINUS {
+        return false;
+    }
+    is_digit(byte_at(part, at + 1))
+}
+
+// A field that begins at a place: its digits, if one stands there, of a number behind a minus too.
+fn read_field(part: &[u8], at: usize, field: u8) -> Under
+    requires { ⌜ (1 ≤ field) × (at ≤ length (now part)) ⌝ }
+    ensures { λ x. ⌜ (x .field ≡ field) × (at ≤ x .end) × (x .end ≤ length (now (part .entry))) ⌝ }
+    ensures { λ x. ⌜ ((automatic : Bool) (word : ℕ) (numbers : List ℤ) → readOn (withUnder automatic word x numbers) (drop (x .end) (now (part .entry))) ≡ readOn (atField automatic word field numbers) (drop at (now (part .entry)))) ⌝ }
+{
+    let b = byte_at(part, at);
+    if is_digit(b) {
+        let d = read_digits(part, at);
+        return Under {
+            field: field,
+            stage: ENDABLE,
+            negative: false,
+            value: d.value,
+            end: d.end,
+        };
+    }
+    if is_negative(part, at, field) {
+        let d = read_digits(part, at + 1);
+        return Under {
+            field: field,
+            stage: ENDABLE,
+            negative: true,
+            value: d.value,
+            end: d.end,
+        };
+    }
+    Under {
+        field: field,
+        stage: NOTHING,
+        negative: false,
+        value: 0,
+        end: at,
+    }
+}
+
+// Whether a space ends the field under way, and another may follow.
+fn is_over(part: &[u8], u: Under) -> bool
+    ensures { λ x. ⌜ (x ≡ true → IsOver (now (part .entry)) u) ⌝ }
+{
+    let stage = u.stage;
+    if stage != ENDABLE {
+        return false;
+    }
+    let field = u.field;
+    if LAST_FIELD <= field {
+        return false;
+    }
+    if byte_at(part, u.end) != SPACE {
+        return false;
+    }
+    u.value <= greatest_value(field, u.negative)
+}
+
+// The numbers from a place on, each with the space behind it; the answer is the field under way behind them.
+fn read_numbers(part: &[u8], at: usize, numbers: &mut [i32; NUMBERS]) -> Under
+    requires { ⌜ at ≤ length (now part) ⌝ }
+    ensures { λ x. ⌜ x .end ≤ length (now (part .entry)) ⌝ }
+    ensures { λ x. ⌜ ((automatic : Bool) (word : ℕ) → readOn (withUnder automatic word x (now (numbers .exit))) (drop (x .end) (now (part .entry))) ≡ readOn (atField automatic word 2 (now (numbers .entry))) (drop at (now (part .entry)))) ⌝ }
+{
+    let mut u = read_field(part, at, 2);
+    while is_over(part, u) {
+        let field = u.field;
+        let v = signed_value(u.negative, u.value);
+        put_number(numbers, (field - 2) as usize, v);
+        u = read_field(part, u.end + 1, field + 1);
+    }
+    u
+}
+
+// Whether a line is at its beginning, with nothing left over.
+fn is_fresh(r: HalfLine) -> bool
+    ensures { λ x. ⌜ (x ≡ true → IsFresh r) ⌝ }
+{
+    if !is_untouched(r) {
+        return false;
+    }
+    let value = r.value;
+    if value != 0 {
+        return false;
+    }
+    let negative = r.negative;
+    !negative
+}
+
+// Whether a mode and a space stand first.
+fn has_mode(part: &[u8]) -> bool
+    ensures { λ x. ⌜ (x ≡ true → HasMode (now (part .entry))) ⌝ }
+{
+    if byte_at(part, 1) != SPACE {
+        return false;
+    }
+    let b = byte_at(part, 0);
+    if b == A {
+        return true;
+    }
+    b == M
+}
+
+// A line with its field under way.
+fn line_with(automatic: bool, word: u16, u: Under, numbers: [i32; NUMBERS]) -> Begun
+    ensures { λ x. ⌜ (x .half ≡ withUnder automatic word u numbers) × (x .end ≡ u .end) ⌝ }
+{
+    Begun {
+        half: HalfLine {
+            field: u.field,
+            stage: u.stage,
+            automatic: automatic,
+            word: word,
+            negative: u.negative,
+            value: u.value,
+            numbers: numbers,
+        },
+        end: u.end,
+    }
+}
+
+// A line from its first byte on: its mode, and the fields that can be read at once.
+fn read_first(part: &[u8], r: HalfLine) -> Begun
+    ensures { λ x. ⌜ x .end ≤ length (now (part .entry)) ⌝ }
+    ensures { λ x. ⌜ readOn (x .half) (drop (x .end) (now (part .entry))) ≡ readOn r (now (part .entry)) ⌝ }
+{
+    if !is_fresh(r) {
+        return Begun { half: r, end: 0 };
+    }
+    if !has_mode(part) {
+        return Begun { half: r, end: 0 };
+    }
+    let automatic = byte_at(part, 0) == A;
+    let mut numbers = r.numbers;
+    let word = read_field(part, 2, 1);
+    if !is_over(part, word) {
+        return line_with(automatic, r.word, word, numbers);
+    }
+    let u = read_numbers(part, word.end + 1, &mut numbers);
+    let w = word.value;
+    line_with(automatic, w as u16, u, numbers)
+}
+
+// Bytes of the line, none of them an LF: a line that begins there field by field, what is left byte by byte.
 pub fn read_bytes(part: &[u8], r: HalfLine) -> HalfLine
     ensures { λ x. ⌜ x ≡ readOn r (now (part .entry)) ⌝ }
 {
-    let mut x = r;
-    let mut i: usize = 0;
+    let first = read_first(part, r);
+    let mut x = first.half;
+    let mut i = first.end;
     while i < part.len() {
         x = read_byte(x, part[i]);
         i += 1;

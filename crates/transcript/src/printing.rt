@@ -1,6 +1,6 @@
 // The lines that synrun prints, each at a place of a lent buffer; the answer is the place behind it.
 ghost use mathlib.Core.Path.{_≡_};
-ghost use mathlib.Core.List.{_++_};
+ghost use mathlib.Core.List.{[], _∷_, _++_};
 ghost use Prim.Native.Nat.{_+_, _*_, _≤_, _<_};
 ghost use lib.ListN.{length, getD, drop};
 ghost use Rattle.engine.specs.Beat.{bufferSize};
@@ -15,6 +15,10 @@ use text::bytes::LF;
 use text::bytes::SPACE;
 use text::digits::put_number;
 use text::digits::put_signed;
+
+const C: u8 = 67;
+
+const O: u8 = 79;
 
 // The bytes of C, of O and of END at most: a number has up to ten digits.
 const CODE_ROOM: usize = 35;
@@ -32,6 +36,26 @@ pub const LAST_START: usize = 65536;
 // The bytes that output is handed over in.
 pub const OUT: usize = LAST_START + LINE_ROOM;
 
+// A number behind a space.
+fn put_field(out: &mut [u8], at: usize, n: u32) -> usize
+    requires { ⌜ at ≤ outSize + 36 ⌝ }
+    ensures { λ x. ⌜ IsPut (now (out .entry)) at (spaced (decimals (n ∷ []))) (now (out .exit)) x ⌝ }
+{
+    put(out, at, SPACE);
+    let p = at + 1;
+    p + put_number(out, p, n)
+}
+
+// Three numbers, as the lines of a beat have.
+fn put_three(out: &mut [u8], at: usize, a: u32, b: u32, c: u32) -> usize
+    requires { ⌜ at ≤ outSize + 1 ⌝ }
+    ensures { λ x. ⌜ IsPut (now (out .entry)) at (spaced (decimals (a ∷ b ∷ c ∷ []))) (now (out .exit)) x ⌝ }
+{
+    let p = put_field(out, at, a);
+    let q = put_field(out, p, b);
+    put_field(out, q, c)
+}
+
 // Numbers, each behind a space.
 fn put_numbers(out: &mut [u8], at: usize, numbers: &[u32]) -> usize
     requires { ⌜ (at ≤ outSize + 3) × (length (now numbers) ≤ 3) ⌝ }
@@ -40,9 +64,7 @@ fn put_numbers(out: &mut [u8], at: usize, numbers: &[u32]) -> usize
     let mut p = at;
     let mut i: usize = 0;
     while i < numbers.len() {
-        put(out, p, SPACE);
-        let q = p + 1;
-        p = q + put_number(out, q, numbers[i]);
+        p = put_field(out, p, numbers[i]);
         i += 1;
     }
     p
@@ -90,8 +112,10 @@ pub fn code_line(out: &mut [u8], at: usize, beat: u32, code: u8, orders: u32) ->
     requires { ⌜ at ≤ outSize ⌝ }
     ensures { λ x. ⌜ IsPut (now (out .entry)) at (codeLine beat code orders) (now (out .exit)) x ⌝ }
 {
-    let numbers = [beat, code as u32, orders];
-    put_line(out, at, b"C", &numbers)
+    put(out, at, C);
+    let p = put_three(out, at + 1, beat, code as u32, orders);
+    put(out, p, LF);
+    p + 1
 }
 
 // END beats beats-with-a-code orders
@@ -136,8 +160,8 @@ fn order_line(out: &mut [u8], at: usize, orders: &[u8], from: usize) -> usize
     let kind = byte_at(orders, from);
     let target = byte_at(orders, from + 2);
     let value = four_at(orders, from + 4);
-    let numbers = [line, kind, target];
-    let p = put_fields(out, at, b"O", &numbers);
+    put(out, at, O);
+    let p = put_three(out, at + 1, line, kind, target);
     put(out, p, SPACE);
     let q = p + 1;
     let end = q + put_signed(out, q, value);

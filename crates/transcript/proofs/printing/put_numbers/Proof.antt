@@ -1,14 +1,13 @@
 -- `printing::put_numbers` meets its contract: in the loop the numbers from place `i` on, put at `p`, come to what all of them come to.
-use borrow.Author.Needs.{needs}
 use native.Mathlib.Omega.{arith}
 use mathlib.Core.Path.{_≡_, refl, _∙_}
+use mathlib.Core.List.{[], _∷_}
 use Prim.Native.Nat.{_+_, _-_, _*_, _≤_}
 use lib.ListN.{length, getD, drop}
 use denote.Ref.{now}
-use Rattle.text.specs.Digits.{decimal}
-use Rattle.text.specs.DigitsLaws.{decimal-room}
-use Rattle.values.specs.PutLaws.{put-byte, put-sized, put-both, Left, left-all, left-after, left-none}
+use Rattle.values.specs.PutLaws.{Left, left-all, left-after, left-none}
 use Rattle.transcript.specs.Output.{spaced, decimals}
+use Rattle.transcript.specs.OutputLaws.{fields-room}
 use Rattle.transcript.proofs.OutLaws.{field-next, fields-over}
 use Rattle.transcript.proofs.printing.put_numbers.Statement.{statement}
 use Rattle.transcript.proofs.printing.put_numbers.Tie as tie
@@ -22,16 +21,14 @@ abbrev μ-loop : tie.MeasureT-loop
 
 loop-again : tie.Need-loop-again Inv-loop μ-loop
 loop-again c =
-    let m = c .before .before in
-    let q = m .before .before .before .before .before in
-    let b = q .before .before .before in
+    let f = c .before .before in
+    let b = f .before .before .before .before in
     let ns = now (b .before .before .before .args .numbers) in
-    let n = getD ns (b .loop .i) 0 in
-    let r = decimal-room n in (
-      left-after (spaced (decimals (drop (b .loop .i + 1) ns))) (b .loop .inv .0) (field-next ns (b .loop .i) (omega arith)) (put-both (put-byte (q .put .ensures)) (put-sized (decimal n) (m .put-number .ensures .1) (m .put-number .ensures .0))),
-      m .put-number .kept .0 ∙ q .put .kept .0 ∙ b .loop .inv .1,
+    let n = getD ns (b .loop .i) 0 in (
+      left-after (spaced (decimals (drop (b .loop .i + 1) ns))) (b .loop .inv .0) (field-next ns (b .loop .i) (omega arith)) (f .put-field .ensures),
+      f .put-field .kept .0 ∙ b .loop .inv .1,
       omega arith,
-      omega (arith, m .put-number .ensures .0, b .loop .inv .3),
+      omega (arith, f .put-field .ensures .behind, fields-room (n ∷ []), b .loop .inv .3),
     )
 
 pub put-numbers-spec : {M : Type 1} → statement M
@@ -41,16 +38,9 @@ put-numbers-spec =
     Inv-loop
     μ-loop
     (λ c. (left-all refl, refl, omega arith, omega arith))
-    (λ c κs. search needs)
     (λ c. omega arith)
-    (λ c. search needs)
     (λ c. omega arith)
-    (λ c κs. search needs)
-    (λ c.
-    let m = c .before .before in
-    let b = m .before .before .before .before .before .before .before .before in
-    let r = decimal-room (getD (now (b .before .before .before .args .numbers)) (b .loop .i) 0) in
-    omega (arith, m .put-number .ensures .0, b .loop .inv .3))
+    (λ c κs. omega arith)
     (λ c. omega arith)
     (λ c. omega arith)
     loop-again
