@@ -1,6 +1,6 @@
 -- What synrun prints (document 01, "On both sides of each edge"). Definitions only.
 use mathlib.Core.List.{List, [], _∷_, _++_}
-use Prim.Native.Nat.{ℕ, zero, suc, _+_, _-_, _*_}
+use Prim.Native.Nat.{ℕ, zero, suc, _+_, _*_}
 use lib.ListN.{getD, drop}
 use Rattle.engine.specs.Order.{orderSize, maxOrders}
 use Rattle.text.specs.Byte.{bytes, LF, SPACE}

@@ -69,12 +69,12 @@ beatOf-room m l =
     let b = end-room (n .beats .0) (n .coded) (n .orders) in
     either (Prints lineRoom) (eqb (n .beats .0) maxBeats) (λ e. simp length-append (omega arith)) (λ e. omega arith)
 
-pub beat-end-room : (m : Machine) (o : Option Lent) → length (beatEnd m o .output) ≤ lineRoom
+beat-end-room : (m : Machine) (o : Option Lent) → length (beatEnd m o .output) ≤ lineRoom
 unfolding beatEnd
 beat-end-room m none = let a = error-room (m .session .totals .lines + 1) in omega arith
 beat-end-room m (some l) = beatOf-room m l
 
-pub opened-room : (m : Machine) (t : List ℕ) → length (opened m t .output) ≤ lineRoom
+opened-room : (m : Machine) (t : List ℕ) → length (opened m t .output) ≤ lineRoom
 unfolding opened
 opened-room m t = byCode (Prints lineRoom) (loadAnswer t .code) (λ e. omega arith) (λ c e. let a = load-room (suc c) (loadAnswer t .line) in omega arith)
 

@@ -2,6 +2,7 @@
 //
 // No public call asks anything of its caller.
 mod beat_line;
+mod in_place;
 mod intake;
 mod printing;
 mod session;

@@ -1,10 +1,10 @@
--- `session::open_set` meets its contract: by the code of the load.
+-- `in_place::open_set` meets its contract: by the code of the load.
 use borrow.Author.Needs.{needs}
 use Rattle.transcript.specs.SessionAnswers.{sessionOf}
 use Rattle.transcript.proofs.StepLaws.{fed, opens, opens-not}
 use Rattle.values.specs.PutLaws.{put-nothing}
-use Rattle.transcript.proofs.session.open_set.Statement.{statement}
-use Rattle.transcript.proofs.session.open_set.Tie as tie
+use Rattle.transcript.proofs.in_place.open_set.Statement.{statement}
+use Rattle.transcript.proofs.in_place.open_set.Tie as tie
 
 pub open-set-spec : {M : Type 1} → statement M
 open-set-spec =

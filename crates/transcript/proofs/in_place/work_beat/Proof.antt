@@ -1,13 +1,13 @@
--- `session::work_beat` meets its contract: what the beat comes to, and END behind the last.
+-- `in_place::work_beat` meets its contract: what the beat comes to, and END behind the last.
 use borrow.Author.Needs.{needs}
 use denote.Ref.{now}
 use Rattle.transcript.specs.MaybeLent.{lentIn}
-use Rattle.transcript.specs.InPlace.{totalsOf, stateIn, sessionIn}
+use Rattle.transcript.specs.InPlace.{stateIn, sessionIn}
 use Rattle.transcript.specs.declared.session.Session.{Session}
 use Rattle.transcript.proofs.StepLaws.{fed, end-near, beat-last, beat-more}
 use Rattle.values.specs.PutLaws.{put-both}
-use Rattle.transcript.proofs.session.work_beat.Statement.{statement}
-use Rattle.transcript.proofs.session.work_beat.Tie as tie
+use Rattle.transcript.proofs.in_place.work_beat.Statement.{statement}
+use Rattle.transcript.proofs.in_place.work_beat.Tie as tie
 
 -- the session before the beat
 abbrev before : tie.Start → Session

@@ -1,4 +1,4 @@
--- `session::work_lines` meets its contract: in the loop the input from place `i` on comes to what all of it comes to; WorkLaws has the turn.
+-- `in_place::work_lines` meets its contract: in the loop the input from place `i` on comes to what all of it comes to; WorkLaws has the turn.
 use borrow.Author.Needs.{needs}
 use native.Mathlib.Omega.{arith}
 use mathlib.Core.Path.{_≡_}
@@ -10,8 +10,8 @@ use Rattle.transcript.specs.InPlaceLaws.{lives-on}
 use Rattle.transcript.specs.Machine.{worked}
 use Rattle.transcript.specs.SessionAnswers.{machineOf}
 use Rattle.transcript.proofs.WorkLaws.{work-is, taken-in, end-within, Going, set-out, going-full, going-lives, going-ends, going-on}
-use Rattle.transcript.proofs.session.work_lines.Statement.{statement}
-use Rattle.transcript.proofs.session.work_lines.Tie as tie
+use Rattle.transcript.proofs.in_place.work_lines.Statement.{statement}
+use Rattle.transcript.proofs.in_place.work_lines.Tie as tie
 
 abbrev Inv-loop : tie.InvT-loop
 Inv-loop text₀ set₀ lines₀ r₀ cells₀ runs₀ locked₀ cancelled memory₀ orders₀ input out₀ kept₀ n₀ i₀ at₀ text set lines r cells runs locked memory orders out kept n i at =

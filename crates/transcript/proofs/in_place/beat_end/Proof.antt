@@ -1,10 +1,10 @@
--- `session::beat_end` meets its contract: by what the line lends.
+-- `in_place::beat_end` meets its contract: by what the line lends.
 use borrow.Author.Needs.{needs}
 use native.Mathlib.Omega.{arith}
 use Rattle.engine.specs.State.{powerOn}
 use Rattle.transcript.proofs.StepLaws.{fed, fed-as, beat-good, beat-ill}
-use Rattle.transcript.proofs.session.beat_end.Statement.{statement}
-use Rattle.transcript.proofs.session.beat_end.Tie as tie
+use Rattle.transcript.proofs.in_place.beat_end.Statement.{statement}
+use Rattle.transcript.proofs.in_place.beat_end.Tie as tie
 
 pub beat-end-spec : {M : Type 1} → statement M
 beat-end-spec =

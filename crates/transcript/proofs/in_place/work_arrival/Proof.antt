@@ -1,4 +1,4 @@
--- `session::work_arrival` meets its contract: by what was brought.
+-- `in_place::work_arrival` meets its contract: by what was brought.
 use borrow.Author.Needs.{needs}
 use native.Mathlib.Omega.{arith}
 use mathlib.Core.Path.{_≡_, sym}
@@ -8,8 +8,8 @@ use denote.Ref.{now}
 use Rattle.transcript.specs.SetText.{keptSize}
 use Rattle.transcript.proofs.StepLaws.{fed, fed-as, came-nothing, came-text, came-beat}
 use Rattle.values.specs.PutLaws.{put-nothing}
-use Rattle.transcript.proofs.session.work_arrival.Statement.{statement}
-use Rattle.transcript.proofs.session.work_arrival.Tie as tie
+use Rattle.transcript.proofs.in_place.work_arrival.Statement.{statement}
+use Rattle.transcript.proofs.in_place.work_arrival.Tie as tie
 
 pub work-arrival-spec : {M : Type 1} → statement M
 work-arrival-spec =

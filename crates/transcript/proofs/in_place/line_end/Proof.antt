@@ -1,12 +1,12 @@
--- `session::line_end` meets its contract: what the end of the line brings is worked.
+-- `in_place::line_end` meets its contract: what the end of the line brings is worked.
 use borrow.Author.Needs.{needs}
 use Rattle.engine.specs.State.{powerOn}
 use Rattle.transcript.specs.Intake.{lineOver}
 use Rattle.transcript.specs.InPlace.{sessionIn}
 use Rattle.transcript.specs.InPlaceLaws.{fit-counts}
 use Rattle.transcript.proofs.StepLaws.{fed-as, line-told, line-as, line-totals}
-use Rattle.transcript.proofs.session.line_end.Statement.{statement}
-use Rattle.transcript.proofs.session.line_end.Tie as tie
+use Rattle.transcript.proofs.in_place.line_end.Statement.{statement}
+use Rattle.transcript.proofs.in_place.line_end.Tie as tie
 
 pub line-end-spec : {M : Type 1} → statement M
 line-end-spec =

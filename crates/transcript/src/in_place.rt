@@ -1,0 +1,375 @@
+// A session worked in place over a piece of input: the lines of the set that were read, and the state by its arrays, which the beats write. What came in is worked and printed.
+ghost use mathlib.Core.Path.{_≡_};
+ghost use mathlib.Core.Bool.{true};
+ghost use mathlib.Core.List.{List};
+ghost use Prim.Native.Nat.{ℕ, _≤_};
+ghost use Rattle.engine.specs.ReadLines.{linesWritten};
+ghost use Rattle.engine.specs.declared.state.State.{State};
+ghost use Rattle.reader.specs.Load.{loadAnswer, loadSet};
+ghost use Rattle.transcript.specs.declared.totals.Totals.{Totals};
+ghost use Rattle.transcript.specs.Intake.{Arrived};
+ghost use Rattle.transcript.specs.IntakeAnswers.{broughtBy};
+ghost use Rattle.transcript.specs.Machine.{isFit, opened, beatOf, beatEnd, arrivalWorked, lineEnd, worked};
+ghost use Rattle.transcript.specs.Output.{lastStart};
+ghost use Rattle.transcript.specs.SessionAnswers.{IsFed, IsWorked, machineOf, sessionOf};
+ghost use Rattle.transcript.specs.InPlace.{stateIn, sessionIn};
+ghost use Rattle.transcript.specs.InPlaceLaws.{FitCounts, LivesOn, MayCome};
+ghost use Rattle.transcript.specs.MaybeLent.{lentIn, lentOr};
+use crate::beat_line::MaybeLent;
+use crate::intake::Brought;
+use crate::intake::Ending;
+use crate::intake::Intake;
+use crate::intake::end_line;
+use crate::intake::stop;
+use crate::intake::take_in;
+use crate::printing::LAST_START;
+use crate::printing::OUT;
+use crate::printing::load_line;
+use crate::set_text::KEPT;
+use crate::tally::tally_beat;
+use crate::totals::Counts;
+use crate::totals::MAX_BEATS;
+use crate::totals::put_end;
+use crate::totals::put_error;
+use engine::ORDERS;
+use engine::READ;
+use engine::read_lines;
+use reader::Loaded;
+use reader::load;
+use text::bytes::Kind;
+use text::bytes::run_end;
+use tokens::token::LINES;
+use tokens::token::SIZE;
+use working::variables::CELLS;
+use working::variables::RS;
+use working::variables::TIMERS;
+
+// What a line came to, beside what is written in place: the place behind what it printed.
+pub struct Ended {
+    pub intake: Intake,
+    pub counts: Counts,
+    pub end: usize,
+}
+
+// The same of a set text.
+pub struct Opened {
+    pub intake: Intake,
+    pub end: usize,
+}
+
+// What a piece of input came to, beside what is written in place.
+pub struct Piece {
+    pub intake: Intake,
+    pub counts: Counts,
+    pub taken: usize,
+    pub written: usize,
+}
+
+// ---- what came in is worked
+
+// A beat line that lends something: C, an O per order, and END behind the last beat.
+fn work_beat(
+    intake: Intake,
+    counts: Counts,
+    set: &[u32; SIZE],
+    lines: &[usize; READ],
+    r: &mut [i32; RS],
+    cells: &mut [i32; CELLS],
+    runs: &mut [bool; TIMERS],
+    locked: &mut [bool; LINES],
+    cancelled: &[bool; LINES],
+    memory: &mut [bool; LINES],
+    orders: &mut [u8; ORDERS],
+    lent: MaybeLent,
+    out: &mut [u8],
+    at: usize,
+) -> Ended
+    requires { ⌜ (now lines ≡ linesWritten (now set)) × (FitCounts counts × (at ≤ lastStart)) ⌝ }
+    ensures { λ x. ⌜ ((t : List ℕ) → IsFed (beatOf (machineOf t (now (set .entry)) (sessionIn intake counts (stateIn (now (r .entry)) (now (cells .entry)) (now (runs .entry)) (now (locked .entry)) (now (cancelled .entry)) (now (memory .entry))))) (lentIn lent)) (machineOf t (now (set .entry)) (sessionIn (x .intake) (x .counts) (stateIn (now (r .exit)) (now (cells .exit)) (now (runs .exit)) (now (locked .exit)) (now (cancelled .entry)) (now (memory .exit))))) (now (out .entry)) at (now (out .exit)) (x .end)) ⌝ }
+{
+    let t = tally_beat(
+        counts,
+        set,
+        lines,
+        r,
+        cells,
+        runs,
+        locked,
+        cancelled,
+        memory,
+        orders,
+        lent,
+        out,
+        at,
+    );
+    let next = t.counts;
+    if next.beats.0 == MAX_BEATS.0 {
+        let end = put_end(next, out, t.end);
+        return Ended {
+            intake: stop(intake),
+            counts: next,
+            end: end,
+        };
+    }
+    Ended {
+        intake: intake,
+        counts: next,
+        end: t.end,
+    }
+}
+
+// A beat line: E if it is ill-formed.
+fn beat_end(
+    intake: Intake,
+    counts: Counts,
+    set: &[u32; SIZE],
+    lines: &[usize; READ],
+    r: &mut [i32; RS],
+    cells: &mut [i32; CELLS],
+    runs: &mut [bool; TIMERS],
+    locked: &mut [bool; LINES],
+    cancelled: &[bool; LINES],
+    memory: &mut [bool; LINES],
+    orders: &mut [u8; ORDERS],
+    lent: MaybeLent,
+    out: &mut [u8],
+    at: usize,
+) -> Ended
+    requires { ⌜ (now lines ≡ linesWritten (now set)) × (FitCounts counts × (at ≤ lastStart)) ⌝ }
+    ensures { λ x. ⌜ ((t : List ℕ) → IsFed (beatEnd (machineOf t (now (set .entry)) (sessionIn intake counts (stateIn (now (r .entry)) (now (cells .entry)) (now (runs .entry)) (now (locked .entry)) (now (cancelled .entry)) (now (memory .entry))))) (lentOr lent)) (machineOf t (now (set .entry)) (sessionIn (x .intake) (x .counts) (stateIn (now (r .exit)) (now (cells .exit)) (now (runs .exit)) (now (locked .exit)) (now (cancelled .entry)) (now (memory .exit))))) (now (out .entry)) at (now (out .exit)) (x .end)) ⌝ }
+{
+    let good = lent.good;
+    if good {
+        return work_beat(
+            intake,
+            counts,
+            set,
+            lines,
+            r,
+            cells,
+            runs,
+            locked,
+            cancelled,
+            memory,
+            orders,
+            lent,
+            out,
+            at,
+        );
+    }
+    let end = put_error(counts, out, at);
+    Ended {
+        intake: stop(intake),
+        counts: counts,
+        end: end,
+    }
+}
+
+// A text is loaded, and the lines of its set are read.
+fn load_lines(t: &[u8], set: &mut [u32; SIZE], lines: &mut [usize; READ]) -> Loaded
+    ensures { λ x. ⌜ x ≡ loadAnswer (now (t .entry)) ⌝ }
+    ensures { λ x. ⌜ now (set .exit) ≡ loadSet (now (t .entry)) ⌝ }
+    ensures { λ x. ⌜ now (lines .exit) ≡ linesWritten (now (set .exit)) ⌝ }
+{
+    let l = load(t, set);
+    read_lines(set, lines);
+    l
+}
+
+// The set text is whole.
+fn open_set(
+    intake: Intake,
+    t: &[u8],
+    set: &mut [u32; SIZE],
+    lines: &mut [usize; READ],
+    out: &mut [u8],
+    at: usize,
+) -> Opened
+    requires { ⌜ at ≤ lastStart ⌝ }
+    ensures { λ x. ⌜ now (lines .exit) ≡ linesWritten (now (set .exit)) ⌝ }
+    ensures { λ x. ⌜ ((m s : List ℕ) (n : Totals) → IsFed (opened (machineOf m s (sessionOf intake n)) (now (t .entry))) (machineOf m (now (set .exit)) (sessionOf (x .intake) n)) (now (out .entry)) at (now (out .exit)) (x .end)) ⌝ }
+{
+    let l = load_lines(t, set, lines);
+    let code = l.code;
+    if code != 0 {
+        let end = load_line(out, at, code, l.line);
+        return Opened {
+            intake: stop(intake),
+            end: end,
+        };
+    }
+    Opened {
+        intake: intake,
+        end: at,
+    }
+}
+
+// What the end of a line, or of the input, brought.
+pub fn work_arrival(
+    b: Brought,
+    counts: Counts,
+    text: &[u8; KEPT],
+    set: &mut [u32; SIZE],
+    lines: &mut [usize; READ],
+    r: &mut [i32; RS],
+    cells: &mut [i32; CELLS],
+    runs: &mut [bool; TIMERS],
+    locked: &mut [bool; LINES],
+    cancelled: &[bool; LINES],
+    memory: &mut [bool; LINES],
+    orders: &mut [u8; ORDERS],
+    out: &mut [u8],
+    at: usize,
+) -> Ended
+    requires { ⌜ (now lines ≡ linesWritten (now set)) × (MayCome b counts × (at ≤ lastStart)) ⌝ }
+    ensures { λ x. ⌜ now (lines .exit) ≡ linesWritten (now (set .exit)) ⌝ }
+    ensures { λ x. ⌜ ((a : Arrived) → b ≡ broughtBy a → IsFed (arrivalWorked (machineOf (now (text .entry)) (now (set .entry)) (sessionIn (a .intake) counts (stateIn (now (r .entry)) (now (cells .entry)) (now (runs .entry)) (now (locked .entry)) (now (cancelled .entry)) (now (memory .entry))))) (a .arrival)) (machineOf (now (text .entry)) (now (set .exit)) (sessionIn (x .intake) (x .counts) (stateIn (now (r .exit)) (now (cells .exit)) (now (runs .exit)) (now (locked .exit)) (now (cancelled .entry)) (now (memory .exit))))) (now (out .entry)) at (now (out .exit)) (x .end)) ⌝ }
+{
+    let intake = b.intake;
+    let ending = b.ending;
+    match ending {
+        Ending::Nothing => Ended {
+            intake: intake,
+            counts: counts,
+            end: at,
+        },
+        Ending::Text => {
+            let all = &text[..];
+            let size = b.size;
+            let o = open_set(intake, &all[..size], set, lines, out, at);
+            let next = o.intake;
+            Ended {
+                intake: next,
+                counts: counts,
+                end: o.end,
+            }
+        }
+        Ending::Beat => {
+            let lent = b.lent;
+            beat_end(
+                intake,
+                counts,
+                set,
+                lines,
+                r,
+                cells,
+                runs,
+                locked,
+                cancelled,
+                memory,
+                orders,
+                lent,
+                out,
+                at,
+            )
+        }
+    }
+}
+
+// An LF: what it brings is worked.
+fn line_end(
+    intake: Intake,
+    counts: Counts,
+    text: &mut [u8; KEPT],
+    set: &mut [u32; SIZE],
+    lines: &mut [usize; READ],
+    r: &mut [i32; RS],
+    cells: &mut [i32; CELLS],
+    runs: &mut [bool; TIMERS],
+    locked: &mut [bool; LINES],
+    cancelled: &[bool; LINES],
+    memory: &mut [bool; LINES],
+    orders: &mut [u8; ORDERS],
+    out: &mut [u8],
+    at: usize,
+) -> Ended
+    requires { ⌜ (now lines ≡ linesWritten (now set)) × (LivesOn intake counts × (at ≤ lastStart)) ⌝ }
+    ensures { λ x. ⌜ now (lines .exit) ≡ linesWritten (now (set .exit)) ⌝ }
+    ensures { λ x. ⌜ IsFed (lineEnd (machineOf (now (text .entry)) (now (set .entry)) (sessionIn intake counts (stateIn (now (r .entry)) (now (cells .entry)) (now (runs .entry)) (now (locked .entry)) (now (cancelled .entry)) (now (memory .entry)))))) (machineOf (now (text .exit)) (now (set .exit)) (sessionIn (x .intake) (x .counts) (stateIn (now (r .exit)) (now (cells .exit)) (now (runs .exit)) (now (locked .exit)) (now (cancelled .entry)) (now (memory .exit))))) (now (out .entry)) at (now (out .exit)) (x .end) ⌝ }
+{
+    let b = end_line(intake, text);
+    work_arrival(
+        b,
+        counts,
+        text,
+        set,
+        lines,
+        r,
+        cells,
+        runs,
+        locked,
+        cancelled,
+        memory,
+        orders,
+        out,
+        at,
+    )
+}
+
+// ---- a piece of input
+
+// A piece of input, line by line while there is room for what one more line may print.
+pub fn work_lines(
+    intake: Intake,
+    counts: Counts,
+    text: &mut [u8; KEPT],
+    set: &mut [u32; SIZE],
+    lines: &mut [usize; READ],
+    r: &mut [i32; RS],
+    cells: &mut [i32; CELLS],
+    runs: &mut [bool; TIMERS],
+    locked: &mut [bool; LINES],
+    cancelled: &[bool; LINES],
+    memory: &mut [bool; LINES],
+    orders: &mut [u8; ORDERS],
+    input: &[u8],
+    out: &mut [u8; OUT],
+) -> Piece
+    requires { ⌜ (now lines ≡ linesWritten (now set)) × ((y : State) → isFit (sessionIn intake counts y) ≡ true) ⌝ }
+    ensures { λ x. ⌜ IsWorked (worked (machineOf (now (text .entry)) (now (set .entry)) (sessionIn intake counts (stateIn (now (r .entry)) (now (cells .entry)) (now (runs .entry)) (now (locked .entry)) (now (cancelled .entry)) (now (memory .entry))))) (now (input .entry))) (machineOf (now (text .exit)) (now (set .exit)) (sessionIn (x .intake) (x .counts) (stateIn (now (r .exit)) (now (cells .exit)) (now (runs .exit)) (now (locked .exit)) (now (cancelled .entry)) (now (memory .exit))))) (x .taken) (now (out .entry)) (now (out .exit)) (x .written) ⌝ }
+{
+    let mut kept = intake;
+    let mut n = counts;
+    let mut i: usize = 0;
+    let mut at: usize = 0;
+    while at <= LAST_START {
+        let end = run_end(input, i, Kind::Line);
+        kept = take_in(kept, text, &input[i..end]);
+        if input.len() <= end {
+            return Piece {
+                intake: kept,
+                counts: n,
+                taken: end,
+                written: at,
+            };
+        }
+        let f = line_end(
+            kept,
+            n,
+            text,
+            set,
+            lines,
+            r,
+            cells,
+            runs,
+            locked,
+            cancelled,
+            memory,
+            orders,
+            out,
+            at,
+        );
+        let next = f.intake;
+        kept = next;
+        let counted = f.counts;
+        n = counted;
+        at = f.end;
+        i = end + 1;
+    }
+    Piece {
+        intake: kept,
+        counts: n,
+        taken: i,
+        written: at,
+    }
+}
