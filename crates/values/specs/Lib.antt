@@ -7,6 +7,8 @@ pub mod Numbers
 pub mod SizeLaws
 pub mod ValueLaws
 pub mod MarkerLaws
+pub mod Cut
+pub mod CutLaws
 pub mod Unique
 mod ValueTable
 pub mod Time

@@ -2,7 +2,7 @@
 use mathlib.Core.Path.{_≡_, refl, sym, ap, _∙_}
 use mathlib.Core.Bool.{Bool, true, false, cond}
 use Prim.Native.Nat.{ℕ, zero, suc, _+_, _*_, _-_, _/_, _^_, _≤_, _<_}
-use native.Mathlib.Nat.{mul-le-mul, div-le-self, le-refl}
+use native.Mathlib.Nat.{le-refl}
 use native.Mathlib.Omega.{arith}
 use lib.Dec.{ltb}
 use lib.IntN.{ℤ, pos, negsuc, natAbs, negℤ, subℕ, _+ℤ_, _-ℤ_, _*ℤ_, +ℤ-idl, -ℤ-+ℤ-cancel}
@@ -44,12 +44,6 @@ abs-quot (pos a) (pos b) = refl
 abs-quot (pos a) (negsuc b) = abs-neg (pos (a / suc b))
 abs-quot (negsuc a) (pos b) = abs-neg (pos (suc a / b))
 abs-quot (negsuc a) (negsuc b) = refl
-
-pub product-abs : (a b : ℤ) (m n : ℕ) → natAbs a ≤ m → natAbs b ≤ n → natAbs (a *ℤ b) ≤ m * n
-product-abs a b m n ha hb = rw (abs-mul a b) (mul-le-mul ha hb)
-
-pub quotient-abs : (a b : ℤ) → natAbs (quotZ a b) ≤ natAbs a
-quotient-abs a b = rw (abs-quot a b) (div-le-self (natAbs a) (natAbs b))
 
 -- only 0 has the absolute value 0
 pub abs-zero : (z : ℤ) → natAbs z ≡ 0 → z ≡ pos 0

@@ -1,18 +1,18 @@
 -- Signed numbers in the code: each is read back from its bits, and what two of them give fits twice the width.
 use mathlib.Core.Path.{_≡_, sym, ap, _∙_}
 use mathlib.Core.Bool.{true, false}
-use Prim.Native.Nat.{ℕ, suc, _≤_, _<_}
+use Prim.Native.Nat.{ℕ, suc, _≤_}
 use native.Mathlib.Omega.{arith}
 use lib.Dec.{T, eqb, lit<}
-use lib.IntN.{ℤ, pos, negsuc, natAbs, negℤ, ℤ-discrete, _+ℤ_, _-ℤ_, _*ℤ_, +ℤ-idl}
-use lib.Signed.{ltZ, quotZ, nonNeg}
+use lib.IntN.{ℤ, pos, negsuc, natAbs, negℤ, ℤ-discrete, _+ℤ_, _-ℤ_, +ℤ-idl}
+use lib.Signed.{ltZ, nonNeg}
 use mir.Syntax.{Width, w32, w64}
 use mir.Val.{Fits, SFits, toZ, ofZ}
 use mir.ValLaws.{toZ-ofZ, toZ-pos}
 use borrow.Author.Tests.{ltb-true, ltb-false, lt-leb, le-leb, eq-eqb, ne-eqb}
 use Rattle.values.specs.Size.{isNegative}
 use Rattle.values.specs.Value.{top, unit, inRange, equalTo}
-use Rattle.values.specs.Numbers.{clash, abs-neg, abs-add, product-abs, quotient-abs, fits-abs, abs32, abs-zero}
+use Rattle.values.specs.Numbers.{clash, abs-neg, abs-add, fits-abs, abs32, abs-zero}
 use Rattle.values.specs.SizeLaws.{below-zero}
 use Rattle.values.specs.ValueLaws.{same-equal, other-equal}
 
@@ -43,16 +43,6 @@ module _ {a b : ℤ} (ha : SFits w32 a) (hb : SFits w32 b) where
 
   pub difference-fits : SFits w64 (a -ℤ b)
   difference-fits = fits-abs w64 _ (omega (arith, abs32 ha, abs32 hb, abs-add a (negℤ b), abs-neg b))
-
-  pub product-fits : SFits w64 (a *ℤ b)
-  product-fits = fits-abs w64 _ (omega (arith, product-abs a b 2147483648 2147483648 (abs32 ha) (abs32 hb)))
-
-  pub product-quotient-fits : (k : ℤ) → SFits w64 (quotZ (a *ℤ b) k)
-  product-quotient-fits k = fits-abs w64 _ (omega (arith, quotient-abs (a *ℤ b) k, product-abs a b 2147483648 2147483648 (abs32 ha) (abs32 hb)))
-
-  -- the same where the product is read back before it is divided
-  pub cut-fits : (k : ℤ) → SFits w64 (quotZ (toZ w64 (ofZ w64 (a *ℤ b))) k)
-  cut-fits k = rw (back w64 product-fits) (product-quotient-fits k)
 
   -- an operation whose result fits may be done on the widened numbers, and gives what it gives on the numbers
   pub work-fits : (f : ℤ → ℤ → ℤ) → SFits w64 (f a b) → SFits w64 (f (Wide a) (Wide b))
@@ -92,10 +82,6 @@ zero-bits {b} h e = eq-eqb (natAbs b) 0 (ap natAbs (same-bits w32 h zero-fits e)
 
 pub nonzero-bits : (b : ℤ) → (ofZ w32 b ≡ 0 → ⊥) → eqb (natAbs b) 0 ≡ false
 nonzero-bits b f = ne-eqb (natAbs b) 0 (λ e. f (ap (ofZ w32) (abs-zero b e)))
-
-pub above-zero : {b : ℤ} → SFits w32 b → (ofZ w32 b ≡ 0 → ⊥) → 0 < ofZ w64 (toZ w32 (ofZ w32 b))
-above-zero {b = pos n} h f = rw (back w32 h) (omega (arith, f))
-above-zero {b = negsuc n} h f = let l : n < 2147483648 = h .sfits in rw (back w32 h) (omega arith)
 
 -- ---- the range, by the two tests of the code
 

@@ -1,7 +1,8 @@
 // The working with values: sum, difference, product, quotient, negation, comparison, and what the targets make of a value.
 ghost use mathlib.Core.Path.{_≡_};
-ghost use Prim.Native.Nat.{_≤_};
+ghost use Prim.Native.Nat.{_≤_, _<_};
 ghost use lib.IntN.{natAbs};
+ghost use Rattle.values.specs.Cut.{cutSize};
 ghost use Rattle.values.specs.Size.{signedNumber};
 ghost use Rattle.values.specs.Value.{inRange, valued, sumOf, differenceOf, productOf, quotientOf, negationOf, lessThan, equalTo, wholeUnits, markerOf, outputOf, feedOf, signOf};
 use crate::codes::NOT_ALLOWED;
@@ -83,10 +84,20 @@ pub fn difference(a: i32, b: i32) -> Worked
     value_of(a as i64 - b as i64)
 }
 
+// THE CUT, the one place where a product or a quotient loses its fraction: what is left over of a size is dropped. The sign is put back behind it, so a number is cut toward zero, whatever its sign.
+fn cut(size: u64, by: u64) -> u64
+    requires { ⌜ 0 < by ⌝ }
+    ensures { λ r. ⌜ r ≡ cutSize size by ⌝ }
+{
+    size / by
+}
+
 pub fn product(a: i32, b: i32) -> Worked
     ensures { λ r. ⌜ r ≡ productOf a b ⌝ }
 {
-    value_of(a as i64 * b as i64 / UNIT as i64)
+    let negative = (a < 0) ^ (b < 0);
+    let size = cut(size_of(a) * size_of(b), UNIT as u64);
+    signed(negative, size)
 }
 
 pub fn quotient(a: i32, b: i32) -> Worked
@@ -95,7 +106,9 @@ pub fn quotient(a: i32, b: i32) -> Worked
     if b == 0 {
         return Worked::Alarm(ZERO_DIVISOR);
     }
-    value_of(a as i64 * UNIT as i64 / b as i64)
+    let negative = (a < 0) ^ (b < 0);
+    let size = cut(size_of(a) * UNIT as u64, size_of(b));
+    signed(negative, size)
 }
 
 pub fn negation(a: i32) -> Worked
