@@ -100,6 +100,7 @@ impl<W: Write, R: Read> HostCalls<'_, W, R> {
             HostLine::Unlock(line) => self.host_call(number, b'U', line)?,
             HostLine::Cancel(line) => self.host_call(number, b'C', line)?,
             HostLine::Reset => self.host_call(number, b'R', 0)?,
+            HostLine::Print(length) => self.print(number, length)?,
             HostLine::Load(bytes) if bytes > self.set_text.len() => return Ok(None),
             HostLine::Load(bytes) => self.load(bytes)?,
             HostLine::Keep => self.kept = (self.set()?, self.state()?),
@@ -154,6 +155,14 @@ impl<W: Write, R: Read> HostCalls<'_, W, R> {
         let [code, ..] = self.numbers()?;
         self.count(code, 0);
         writeln!(self.out, "H {number} {code}")
+    }
+
+    fn print(&mut self, number: usize, length: usize) -> io::Result<()> {
+        self.request(b'Q', &[length as u32])?;
+        let [code, bytes, ..] = self.numbers()?;
+        let buffer = self.bytes(length)?;
+        self.count(code, 0);
+        writeln!(self.out, "P {number} {code} {bytes} {}", checksum(&buffer))
     }
 
     fn count(&mut self, code: u32, orders: u32) {

@@ -9,6 +9,8 @@ use std::ops::RangeInclusive;
 /// The longest order buffer and number list that a line may ask for.
 pub const LONGEST_BUFFER: i64 = 4096;
 pub const LONGEST_LIST: i64 = 32;
+/// The longest buffer for a print.
+pub const LONGEST_PRINT: usize = 8192;
 
 /// The letters of the places of the state, in the order of a dump.
 pub const PLACE_LETTERS: &[u8] = b"OMPRTUFLCE";
@@ -23,6 +25,8 @@ pub enum HostLine {
     Unlock(u8),
     Cancel(u8),
     Reset,
+    /// A print into a buffer of so many bytes.
+    Print(usize),
     /// Load the first bytes of the set text.
     Load(usize),
     Keep,
@@ -63,6 +67,7 @@ impl HostLine {
             (b"U", [number]) => Some(HostLine::Unlock(byte(number)?)),
             (b"C", [number]) => Some(HostLine::Cancel(byte(number)?)),
             (b"R", []) => Some(HostLine::Reset),
+            (b"P", [bytes]) => Some(HostLine::Print(below(bytes, LONGEST_PRINT as i64)?)),
             (b"N", [bytes]) => Some(HostLine::Load(below(bytes, 1_000_000)?)),
             (b"K", []) => Some(HostLine::Keep),
             (b"G", []) => Some(HostLine::GiveBack),

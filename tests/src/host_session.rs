@@ -5,11 +5,12 @@ use crate::code::Code;
 use crate::control::{Control, Kept};
 use crate::damage;
 use crate::host_line::HostLine;
+use crate::print::print_into;
 use crate::synrun::{print_orders, Totals};
 use crate::text;
 use std::io::{self, Write};
 
-/// The byte that fills the order buffer before each beat.
+/// The byte that fills the buffer before each beat and each print.
 const FILL: u8 = 0xAA;
 
 pub fn run(input: &[u8], control: &mut Control, out: &mut dyn Write) -> io::Result<()> {
@@ -52,6 +53,7 @@ impl<'a> Session<'a> {
             HostLine::Unlock(number) => self.host_call(|control| control.unlock(number))?,
             HostLine::Cancel(number) => self.host_call(|control| control.cancel(number))?,
             HostLine::Reset => self.host_call(Control::reset)?,
+            HostLine::Print(length) => self.print(length)?,
             HostLine::Load(bytes) if bytes > self.set_text.len() => return Ok(None),
             HostLine::Load(bytes) => self.load(bytes)?,
             HostLine::Keep => self.kept = self.control.keep(),
@@ -84,6 +86,16 @@ impl<'a> Session<'a> {
         let code = call(self.control);
         self.totals.count(code, 0);
         writeln!(self.out, "H {} {}", self.number, code.number())
+    }
+
+    fn print(&mut self, length: usize) -> io::Result<()> {
+        let mut buffer = vec![FILL; length];
+        let (code, bytes) = match print_into(&self.control.set, &mut buffer) {
+            Ok(bytes) => (Code::Success, bytes),
+            Err(code) => (code, 0),
+        };
+        self.totals.count(code, 0);
+        writeln!(self.out, "P {} {} {bytes} {}", self.number, code.number(), checksum(&buffer))
     }
 
     /// The state in the form of the lines that would put it there.

@@ -21,8 +21,6 @@ pub fn print(set: &Set, slip: Slip) -> Result<Vec<u8>, Code> {
 }
 
 /// Prints to the front of a lent buffer and gives the length; with a code nothing is written.
-// A line of host sessions for it: `P b` asks for a print into a buffer of b bytes (0..8192) filled with 0xAA, and gives
-// `P k code bytes sum`, the sum being that of all b bytes; as a request `Q` b, answered by code, bytes, 0, 0 and the b bytes.
 pub fn print_into(set: &Set, buffer: &mut [u8]) -> Result<usize, Code> {
     let print = print(set, Slip::None)?;
     if buffer.len() < BUFFER || buffer.len() < print.len() {

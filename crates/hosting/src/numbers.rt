@@ -83,19 +83,27 @@ pub fn put_word(out: &mut [u8; OUT], at: usize, n: u32) -> usize {
 }
 
 // The first n bytes are written.
+pub fn write_first(bytes: &[u8], n: usize) {
+    io::write_all(STDOUT_FILENO, first(bytes, n));
+}
+
 pub fn write(out: &[u8; OUT], n: usize) {
-    io::write_all(STDOUT_FILENO, first(out, n));
+    write_first(out, n);
 }
 
 // One more than the low half of a number of 64 bits holds.
 const HALF: u64 = 4294967296;
+
+pub fn low_half(n: u64) -> u32 {
+    (n % HALF) as u32
+}
 
 // Answers two numbers, and one of 64 bits as two, its low half first.
 pub fn answer(a: u32, b: u32, c: u64) {
     let mut out = [0u8; OUT];
     let second = put_word(&mut out, 0, a);
     let third = put_word(&mut out, second, b);
-    let fourth = put_word(&mut out, third, (c % HALF) as u32);
+    let fourth = put_word(&mut out, third, low_half(c));
     put_word(&mut out, fourth, (c / HALF) as u32);
     write(&out, 16);
 }

@@ -1,13 +1,15 @@
-// The requests of a session: loads, beats, host calls. Each answers by numbers and gives the state after it.
+// The requests of a session: loads, beats, host calls, prints. Each answers by numbers and gives the state after it.
 use crate::numbers::OUT;
 use crate::numbers::REQUEST;
 use crate::numbers::answer;
 use crate::numbers::first;
 use crate::numbers::least;
 use crate::numbers::letter;
+use crate::numbers::low_half;
 use crate::numbers::value_of;
 use crate::numbers::word;
 use crate::numbers::write;
+use crate::numbers::write_first;
 use crate::places::dump;
 use crate::places::put;
 use crate::places::with_value;
@@ -20,13 +22,17 @@ use engine::cancel;
 use engine::lock;
 use engine::reset;
 use engine::unlock;
+use print::Printed;
+use print::print;
 use reader::load;
 use tokens::token::SIZE;
 
-// The byte that fills the order buffer before each beat.
+// The byte that fills the buffer before each beat and each print.
 const FILL: u8 = 170;
 // The bytes that hold the set text.
 pub const TEXT: usize = 16384;
+// The longest buffer that a print may be lent.
+const PRINT: usize = 8192;
 // The longest list that a beat may be lent, and its place in a request.
 const LIST: usize = 32;
 
@@ -107,6 +113,24 @@ fn work_beat(request: &[u8; REQUEST], set: &[u32; SIZE], state: State) -> State 
     b.state
 }
 
+// ---- prints
+
+// A print into the lent part of a buffer.
+fn print_over(set: &[u32; SIZE], n: usize, buffer: &mut [u8]) -> Printed {
+    let from: usize = 0;
+    let bytes = least(n, buffer.len());
+    print(set, &mut buffer[from..bytes])
+}
+
+// Answers code, bytes, and the buffer.
+fn work_print(request: &[u8; REQUEST], set: &[u32; SIZE]) {
+    let n = word(request, 4) as usize;
+    let mut buffer = [FILL; PRINT];
+    let p = print_over(set, n, &mut buffer);
+    answer(p.code as u32, low_half(p.size as u64), 0);
+    write_first(&buffer, n);
+}
+
 // ---- host calls
 
 // Answers the code.
@@ -142,6 +166,10 @@ pub fn work(
         b'D' => dump(state),
         b'P' => {
             put(request, set);
+            state
+        }
+        b'Q' => {
+            work_print(request, set);
             state
         }
         b'W' => {
