@@ -2,6 +2,7 @@
 
 use crate::control::Control;
 use crate::generate;
+use crate::host_print_seen::{self, HostPrint};
 use crate::print_seen::{Printed, PATHS};
 use crate::report::Report;
 use crate::runner::{work, Form, Seeds};
@@ -11,9 +12,9 @@ use crate::text;
 use std::collections::BTreeMap;
 
 const ALARMS: [u8; 5] = [30, 31, 32, 33, 34];
-const HOST_FORMS: [&str; 26] = [
-    "A", "M", "B", "L", "U", "C", "R", "N", "K", "G", "D", "T", "S N", "S I", "S C", "S X", "V O", "V M",
-    "V P", "V R", "V T", "V U", "V F", "V L", "V C", "V E",
+const HOST_FORMS: [&str; 27] = [
+    "A", "M", "B", "L", "U", "C", "R", "P", "N", "K", "G", "D", "T", "S N", "S I", "S C", "S X", "V O",
+    "V M", "V P", "V R", "V T", "V U", "V F", "V L", "V C", "V E",
 ];
 
 /// How often each thing occurred, by name.
@@ -53,8 +54,10 @@ impl Coverage {
             return self.print_of(&Printed::new(set_text, &output));
         }
         let output = String::from_utf8_lossy(&output);
+        let mut before = "";
         for line in output.lines() {
-            self.output_line(form, line, &script);
+            self.output_line(form, line, before, &script);
+            before = line;
         }
         if form == Form::Synrun && !output.starts_with("L ") {
             self.note("load 0".into());
@@ -72,15 +75,24 @@ impl Coverage {
         }
     }
 
-    fn output_line(&mut self, form: Form, line: &str, script: &[&[u8]]) {
+    /// A line of the output, that before it, and the script.
+    fn output_line(&mut self, form: Form, line: &str, before: &str, script: &[&[u8]]) {
         let fields: Vec<&str> = line.split(' ').collect();
         let place = fields.get(1).and_then(|place| place.parse::<usize>().ok()).unwrap_or(0);
         match fields[0] {
             "L" => self.note(format!("{}load {}", group(form), fields[1])),
             "C" => self.note(format!("{} beat {}", form.name(), fields[2])),
             "H" => self.note(format!("{} call {} {}", form.name(), host_form(script[place - 1]), fields[2])),
+            "P" => self.host_print(form, &HostPrint::read(&fields, before, script)),
             "E" | "END" => self.note(format!("{} ends with {}", form.name(), fields[0])),
             _ => {}
+        }
+    }
+
+    /// A print of a host session.
+    fn host_print(&mut self, form: Form, print: &HostPrint) {
+        for name in print.names() {
+            self.note(format!("{} print {name}", form.name()));
         }
     }
 
@@ -119,7 +131,7 @@ fn group(form: Form) -> &'static str {
 }
 
 /// The letter of a host line, for V and S with the next one.
-fn host_form(line: &[u8]) -> String {
+pub fn host_form(line: &[u8]) -> String {
     let line = String::from_utf8_lossy(line);
     let mut fields = line.split(' ');
     let first = fields.next().unwrap_or("");
@@ -139,6 +151,8 @@ fn expected() -> Vec<String> {
             names.extend([0, 22, 40].map(|code| format!("{form} call {call} {code}")));
         }
         names.extend([0, 22].map(|code| format!("{form} call R {code}")));
+        let prints = host_print_seen::expected(form == "long");
+        names.extend(prints.iter().map(|name| format!("{form} print {name}")));
         names.extend(HOST_FORMS.iter().map(|line| format!("{form} line {line}")));
     }
     for form in ["synrun", "host"] {

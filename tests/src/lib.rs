@@ -20,6 +20,7 @@ pub mod generate;
 pub mod history;
 pub mod host_calls;
 pub mod host_line;
+pub mod host_print_seen;
 pub mod host_session;
 pub mod large;
 pub mod listing;

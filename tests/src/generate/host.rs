@@ -1,15 +1,19 @@
-//! Random host sessions: beats, host calls, lent lists and buffers, damage, dumps.
+//! Random host sessions: beats, host calls, prints, lent lists and buffers, damage, dumps.
 
 use super::beats::Inputs;
+use super::filled::{filled, operands, GROWN};
 use super::{random_set, RandomSet};
+use crate::host_line::LONGEST_PRINT;
 use crate::load::TEXT;
 use crate::random::Random;
 
 const BUFFERS: [usize; 8] = [2048, 2048, 2047, 0, 4096, 2049, 2055, 2040];
+const PRINT_BUFFERS: [usize; 12] =
+    [4096, 4096, 4096, 4095, 4095, 4097, 4098, 4104, 0, 1, LONGEST_PRINT, LONGEST_PRINT];
 const LISTS: [usize; 7] = [14, 14, 14, 13, 15, 0, 32];
-const ILL_FORMED: [&str; 16] = [
+const ILL_FORMED: [&str; 20] = [
     "", "Q", "L", "L 256", "L -1", "R 1", "B A 0 4097 14", "B A 0 2048 33", "V Q 0 0", "V M 32 0", "V O 0 0",
-    "V L 0 2", "S C 1 1", "T 0 0 #", "N 1000000", "D 0",
+    "V L 0 2", "S C 1 1", "T 0 0 #", "N 1000000", "D 0", "P", "P 8193", "P -1", "P 4096 1",
 ];
 /// Raw values around the edges of soundness.
 const RAW: [i64; 16] = [
@@ -34,10 +38,14 @@ pub struct Session<'a> {
 
 pub fn session(random: &mut Random) -> Vec<u8> {
     let set = random_set(random, 8);
+    let set = if is_taken(&set) && random.chance(6) { filled(random, set) } else { set };
     let calls = random.between(3, 40);
     let mut session = Session::new(random, set, Inputs::default());
     for _ in 0..calls {
         session.step();
+        if session.random.chance(10) {
+            session.print();
+        }
     }
     session.end()
 }
@@ -74,7 +82,8 @@ impl Session<'_> {
             155..=164 => self.lent_beat(),
             165..=180 => self.damage_episode(),
             181 => self.state_damage(),
-            182..=188 => self.host_call(),
+            182..=185 => self.host_call(),
+            186..=188 => self.growth_episode(),
             189..=192 => self.add("K"),
             193..=195 => self.add("G"),
             196..=198 => self.load(),
@@ -83,10 +92,11 @@ impl Session<'_> {
     }
 
     fn call(&mut self) {
-        match self.random.below(10) {
+        match self.random.below(13) {
             0..=4 => self.beat(),
             5 => self.lent_beat(),
             6 => self.add("R"),
+            7..=9 => self.print(),
             _ => self.host_call(),
         }
     }
@@ -116,6 +126,15 @@ impl Session<'_> {
             _ => self.random.pick(&self.set.numbers),
         };
         self.add(format!("{call} {number}"));
+    }
+
+    /// A print into a buffer that is long enough or not.
+    pub fn print(&mut self) {
+        let bytes = match self.random.below(4) {
+            0 => self.random.below(LONGEST_PRINT + 1),
+            _ => self.random.pick(&PRINT_BUFFERS),
+        };
+        self.add(format!("P {bytes}"));
     }
 
     fn load(&mut self) {
@@ -148,6 +167,31 @@ impl Session<'_> {
         self.add("D");
         if self.random.chance(95) {
             self.add("G");
+        }
+    }
+
+    /// Numbers of the set grow, its print is asked for, and all is given back.
+    pub fn growth_episode(&mut self) {
+        self.add("K");
+        for _ in 0..self.random.between(1, 3) {
+            self.growth();
+        }
+        for _ in 0..self.random.between(1, 3) {
+            self.print();
+        }
+        self.add("G");
+    }
+
+    /// An operand of some line becomes another number.
+    fn growth(&mut self) {
+        if !self.lines_known {
+            return;
+        }
+        let rank = self.random.below(self.set.lines.len());
+        let places = operands(&self.body(rank));
+        if !places.is_empty() {
+            let (place, number) = (self.random.pick(&places), self.random.pick(&GROWN));
+            self.add(format!("T {rank} {place} {number}"));
         }
     }
 

@@ -29,6 +29,23 @@ pub fn lines_text(random: &mut Random, lines: &[String]) -> Vec<u8> {
     text
 }
 
+/// The text of these lines with a space only where two tokens would read otherwise, an LF behind each line.
+pub fn tight_text(lines: &[String]) -> Vec<u8> {
+    let mut text = String::new();
+    for line in lines {
+        let mut last = "";
+        for token in line.split(' ').filter(|token| !token.is_empty()) {
+            if !last.is_empty() && needs_space(last, token) {
+                text.push(' ');
+            }
+            text.push_str(token);
+            last = token;
+        }
+        text.push('\n');
+    }
+    text.into_bytes()
+}
+
 /// Fills up the text with a comment to just the most bytes, or one more.
 fn fill(random: &mut Random, text: &mut Vec<u8>) {
     let wanted = TEXT + random.below(2);

@@ -1,6 +1,7 @@
-//! Long host sessions: thousands of steps over a full set, with starts, locks, cancels and failed beats among them.
+//! Long host sessions: thousands of steps over a full set, with starts, locks, cancels, prints and failed beats among them.
 
 use super::beats::Inputs;
+use super::filled::filled;
 use super::host::Session;
 use super::steady::full_set;
 use crate::random::Random;
@@ -18,6 +19,7 @@ pub fn session(random: &mut Random) -> Vec<u8> {
     let steps = random.between(2000, 6000);
     let resets = random.pick(&[0, 1, 3, 8]);
     let set = full_set(random);
+    let set = if random.chance(25) { filled(random, set) } else { set };
     let session = Session::new(random, set, Inputs::steady());
     let mut long = Long { session, held: Vec::new(), load: None };
     for step in 0..steps {
@@ -44,8 +46,18 @@ impl Long<'_> {
             175..=179 => self.damage(),
             180 => self.session.add("K"),
             181 if resets > 0 => self.load_whole(),
+            182..=184 => self.session.growth_episode(),
+            185..=189 => self.session.print(),
             _ if choice >= 2000 - resets => self.reset(step),
-            _ => self.session.beat(),
+            _ => return self.session.beat(),
+        }
+        self.seldom_print();
+    }
+
+    /// A print after one of five calls.
+    fn seldom_print(&mut self) {
+        if self.session.random.chance(20) {
+            self.session.print();
         }
     }
 
@@ -93,6 +105,7 @@ impl Long<'_> {
     fn load_whole(&mut self) {
         self.load = None;
         self.session.add(format!("N {}", self.session.set.text.len()));
+        self.seldom_print();
     }
 
     /// Damage, calls on it, and the way back.

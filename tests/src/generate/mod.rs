@@ -3,6 +3,7 @@
 mod beats;
 mod expression;
 mod fault;
+mod filled;
 mod host;
 mod layout;
 mod line;

@@ -59,7 +59,7 @@ fn dressed(random: &mut Random, line: &str) -> String {
 }
 
 /// The number after these two tokens is one without a point: an index, or that of a line, M, SETAL, LOCK or UNLOCK.
-fn stands_alone(first: &str, second: &str) -> bool {
+pub fn stands_alone(first: &str, second: &str) -> bool {
     let named = ["ID", "IDS", "M", "SETAL", "LOCK", "UNLOCK"].contains(&first);
     second == "[" || (named && ["=", "("].contains(&second))
 }
