@@ -50,6 +50,7 @@ fn put_field(out: &mut [u8], at: usize, n: u32) -> usize
 fn put_three(out: &mut [u8], at: usize, a: u32, b: u32, c: u32) -> usize
     requires { ⌜ at ≤ outSize + 1 ⌝ }
     ensures { λ x. ⌜ IsPut (now (out .entry)) at (spaced (decimals (a ∷ b ∷ c ∷ []))) (now (out .exit)) x ⌝ }
+    ensures { λ x. ⌜ x ≤ at + 33 ⌝ }
 {
     let p = put_field(out, at, a);
     let q = put_field(out, p, b);

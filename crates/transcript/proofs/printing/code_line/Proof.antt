@@ -5,7 +5,6 @@ use mathlib.Core.List.{[], _∷_}
 use Rattle.text.specs.Byte.{bytes}
 use Rattle.values.specs.PutLaws.{put-byte, put-both, put-as}
 use Rattle.transcript.specs.Output.{decimals, codeLine}
-use Rattle.transcript.specs.OutputLaws.{fields-room}
 use Rattle.transcript.proofs.OutLaws.{line-is}
 use Rattle.transcript.proofs.printing.code_line.Statement.{statement}
 use Rattle.transcript.proofs.printing.code_line.Tie as tie
@@ -22,11 +21,11 @@ code-line-spec =
     (λ c.
     let t = c .before .before .before .before .before .before in
     let s = t .before .before .before .before .before .before .before in
-    omega (arith, s .pre, t .put-three .ensures .behind, fields-room (s .args .beat ∷ s .args .code ∷ s .args .orders ∷ [])))
+    omega (arith, s .pre, t .put-three .ensures .1))
     (λ c. search needs)
     (λ c.
     let e = c .before .before in
     let t = e .before .before .before .before in
     let p = t .before .before .before .before in
     let a = p .before .before .before .args in
-    put-as (line-is (bytes "C") (decimals (a .beat ∷ a .code ∷ a .orders ∷ []))) (put-both (put-both (put-byte (p .put .ensures)) (t .put-three .ensures)) (put-byte (e .put2 .ensures)))))
+    put-as (line-is (bytes "C") (decimals (a .beat ∷ a .code ∷ a .orders ∷ []))) (put-both (put-both (put-byte (p .put .ensures)) (t .put-three .ensures .0)) (put-byte (e .put2 .ensures)))))

@@ -1,22 +1,18 @@
 -- `printing::order_line` meets its contract: its letter and its numbers, and the value behind them.
 use borrow.Author.Needs.{needs}
 use native.Mathlib.Omega.{arith}
-use mathlib.Core.List.{[], _∷_}
 use Prim.Native.Nat.{_+_, _≤_}
 use denote.Ref.{now}
 use Rattle.text.specs.Digits.{signedText}
 use Rattle.text.specs.DigitsLaws.{signed-room}
 use Rattle.values.specs.PutLaws.{put-byte, put-sized, put-both, put-as}
-use Rattle.transcript.specs.OutputLaws.{fields-room}
 use Rattle.transcript.proofs.OutLaws.{order-is}
 use Rattle.transcript.proofs.printing.order_line.Statement.{statement}
 use Rattle.transcript.proofs.printing.order_line.Tie as tie
 
 -- where the three numbers end
 near : (t : tie.After-put-three) → t .put-three .result ≤ t .before .before .before .before .before .before .before .before .before .before .before .before .args .at + 34
-near t =
-    let k = t .before .before .before .before .before .before in
-    omega (arith, t .put-three .ensures .behind, fields-room (k .before .before .before .byte-at .result ∷ k .before .before .byte-at2 .result ∷ k .before .byte-at3 .result ∷ []))
+near t = omega (arith, t .put-three .ensures .1)
 
 -- what is behind the value
 far : (v : tie.After-put-signed) → v .before .before .before .before .before .before .before .before .put-three .result + 1 + v .put-signed .result ≤ v .before .before .before .before .before .before .before .before .before .before .before .before .before .before .before .before .before .before .before .before .args .at + 46
@@ -59,4 +55,4 @@ order-line-spec =
     let l = i .before in
     let s = l .before .before .before .args in
     put-as (order-is (now (s .orders)) (s .from) (l .byte-at .ensures .0) (i .byte-at2 .ensures .0) (g .byte-at3 .ensures .0) (k .four-at .ensures))
-    (put-both (put-both (put-both (put-both (put-byte (p .put .ensures)) (t .put-three .ensures)) (put-byte (w .put2 .ensures))) (put-sized (signedText (k .four-at .result)) (v .put-signed .ensures .1) (v .put-signed .ensures .0))) (put-byte (e .put3 .ensures)))))
+    (put-both (put-both (put-both (put-both (put-byte (p .put .ensures)) (t .put-three .ensures .0)) (put-byte (w .put2 .ensures))) (put-sized (signedText (k .four-at .result)) (v .put-signed .ensures .1) (v .put-signed .ensures .0))) (put-byte (e .put3 .ensures)))))

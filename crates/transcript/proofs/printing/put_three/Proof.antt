@@ -27,5 +27,7 @@ put-three-spec =
     let h = c .before .before in
     let g = h .before .before .before .before in
     let f = g .before .before .before .before in
-    let a = f .before .before .before .args in
-    put-as (three-fields (a .a) (a .b) (a .c)) (put-both (put-both (f .put-field .ensures) (g .put-field2 .ensures)) (h .put-field3 .ensures))))
+    let a = f .before .before .before .args in (
+      put-as (three-fields (a .a) (a .b) (a .c)) (put-both (put-both (f .put-field .ensures) (g .put-field2 .ensures)) (h .put-field3 .ensures)),
+      omega (arith, f .put-field .ensures .behind, g .put-field2 .ensures .behind, h .put-field3 .ensures .behind, fields-room (a .a ∷ []), fields-room (a .b ∷ []), fields-room (a .c ∷ [])),
+    )))
