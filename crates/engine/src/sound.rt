@@ -1,8 +1,8 @@
 // Sound: what document 01 asks of a set and a state, tested at every call.
 ghost use mathlib.Core.Path.{_≡_};
-ghost use mathlib.Core.Bool.{Bool};
+ghost use mathlib.Core.Bool.{Bool, _&&_};
 ghost use mathlib.Core.List.{List};
-ghost use Prim.Native.Nat.{_<_};
+ghost use Prim.Native.Nat.{_<_, _≤_};
 ghost use lib.ListN.{length, drop};
 ghost use Rattle.engine.specs.Sound.{allRanged, isOutput, isCell, areCells, allZero, isFifoSound, areFifos, isFlag, areFlags, stateSound, isSound};
 ghost use Rattle.working.specs.Variables.{fifos, stateCells};
@@ -24,6 +24,7 @@ use working::variables::MARKER_AT;
 use working::variables::PARAM_AT;
 use working::variables::RS;
 use working::variables::RUN_AT;
+use working::variables::STATE_CELLS;
 use working::variables::TIMER_AT;
 use working::variables::count_of;
 
@@ -71,16 +72,30 @@ fn is_cell(i: usize, v: i32) -> bool
     (count_of(v) as usize) <= PLACES
 }
 
-fn are_cells(cells: &[i32]) -> bool
-    ensures { λ x. ⌜ x ≡ areCells (now (cells .entry)) 0 ⌝ }
+// The cells from one place up to another, behind what is known of those before. The loops of `are_cells` have ends that are constants, so each tests one rule.
+fn cells_on(cells: &[i32], from: usize, to: usize, before: bool) -> bool
+    requires { ⌜ (from ≤ to) × (to ≤ length (now cells)) ⌝ }
+    ensures { λ x. ⌜ (x && areCells (drop to (now (cells .entry))) to) ≡ (before && areCells (drop from (now (cells .entry))) from) ⌝ }
 {
-    let mut good = true;
-    let mut i: usize = 0;
-    while i < cells.len() {
+    let mut good = before;
+    let mut i = from;
+    while i < to {
         good = good & is_cell(i, cells[i]);
         i += 1;
     }
     good
+}
+
+// Outputs, markers, parameters, timers, counts.
+fn are_cells(cells: &[i32]) -> bool
+    requires { ⌜ length (now cells) ≡ stateCells ⌝ }
+    ensures { λ x. ⌜ x ≡ areCells (now (cells .entry)) 0 ⌝ }
+{
+    let outputs = cells_on(cells, 0, MARKER_AT, true);
+    let markers = cells_on(cells, MARKER_AT, PARAM_AT, outputs);
+    let params = cells_on(cells, PARAM_AT, TIMER_AT, markers);
+    let timers = cells_on(cells, TIMER_AT, COUNT_AT, params);
+    cells_on(cells, COUNT_AT, STATE_CELLS, timers)
 }
 
 // Whether all from place n on are 0.
