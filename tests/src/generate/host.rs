@@ -5,6 +5,7 @@ use super::filled::{filled, operands, GROWN};
 use super::{random_set, RandomSet};
 use crate::host_line::LONGEST_PRINT;
 use crate::load::TEXT;
+use crate::print::BUFFER;
 use crate::random::Random;
 
 const BUFFERS: [usize; 8] = [2048, 2048, 2047, 0, 4096, 2049, 2055, 2040];
@@ -38,9 +39,13 @@ pub struct Session<'a> {
 
 pub fn session(random: &mut Random) -> Vec<u8> {
     let set = random_set(random, 8);
-    let set = if is_taken(&set) && random.chance(6) { filled(random, set) } else { set };
+    let fills = is_taken(&set) && random.chance(6);
+    let set = if fills { filled(random, set) } else { set };
     let calls = random.between(3, 40);
     let mut session = Session::new(random, set, Inputs::default());
+    if fills {
+        session.growth_episode();
+    }
     for _ in 0..calls {
         session.step();
         if session.random.chance(10) {
@@ -170,7 +175,7 @@ impl Session<'_> {
         }
     }
 
-    /// Numbers of the set grow, its print is asked for, and all is given back.
+    /// Numbers of the set grow, its print is asked for, also in just the bytes that it may have, and all is given back.
     pub fn growth_episode(&mut self) {
         self.add("K");
         for _ in 0..self.random.between(1, 3) {
@@ -178,6 +183,8 @@ impl Session<'_> {
         }
         for _ in 0..self.random.between(1, 3) {
             self.print();
+            let bytes = BUFFER + self.random.below(12);
+            self.add(format!("P {bytes}"));
         }
         self.add("G");
     }
