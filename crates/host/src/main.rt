@@ -1,17 +1,20 @@
-// A short host: it loads a set, works ten beats with a lock, an unlock and a reset in between, and writes what each call answered. A real host reads its inputs from
-// the terminals and hands the orders to the drives; this one has its inputs in `inputs_at` and writes the orders down. docs/HOST.md goes through it.
+// A short host: it loads a set, works ten beats with a lock, an unlock, a cancel and a reset in between, writes what each call answered, and at the end prints its set. A real host reads its inputs
+// from the terminals and hands the orders to the drives; this one has its inputs in `inputs_at` and writes the orders down. docs/HOST.md goes through it.
 use engine::Beaten;
 use engine::Called;
 use engine::ORDERS;
 use engine::State;
 use engine::beat;
+use engine::cancel;
 use engine::empty_set;
 use engine::lock;
 use engine::reset;
 use engine::unlock;
 use libc::STDOUT_FILENO;
+use print::print;
 use reader::load;
 use tokens::token::SIZE;
+use tokens::token::TEXT_SIZE;
 use values::codes::SHORT_BUFFER;
 use values::codes::UNSOUND;
 
@@ -41,6 +44,7 @@ fn serve(text: &[u8]) {
     }
     let state = l.state;
     work(&set, state);
+    show(&set);
 }
 
 // Every 4 ms: what the operator asks for, then a beat. With any code the state of the answer is the one to keep.
@@ -64,6 +68,7 @@ fn asked_at(k: u32, set: &[u32; SIZE], state: State) -> State {
     match k {
         2 => called(b"lock 10: code ", lock(set, state, 10)),
         4 => called(b"unlock 10: code ", unlock(set, state, 10)),
+        8 => called(b"cancel 30: code ", cancel(set, state, 30)),
         9 => called(b"reset: code ", reset(set, state)),
         10 => called(b"lock 10: code ", lock(set, state, 10)),
         _ => state,
@@ -107,6 +112,18 @@ fn stops_on(code: u8) -> bool {
         SHORT_BUFFER | UNSOUND => true,
         _ => false,
     }
+}
+
+// What the control really holds: beats, locks and cancels change the state, and none of them the set.
+fn show(set: &[u32; SIZE]) {
+    let mut text = [0u8; TEXT_SIZE];
+    let p = print(set, &mut text);
+    tell(b"print: code ", p.code as u64);
+    let size = p.size;
+    tell(b", bytes ", size as u64);
+    end_line();
+    write_first(&text, size);
+    end_line();
 }
 
 // ---- orders
@@ -153,6 +170,13 @@ fn byte_of(orders: &[u8; ORDERS], i: u32, j: u8) -> u8 {
 fn tell(text: &[u8], n: u64) {
     io::write_all(STDOUT_FILENO, text);
     io::print_decimal(STDOUT_FILENO, n);
+}
+
+// The first n bytes of a text, or nothing if it has fewer.
+fn write_first(text: &[u8], n: usize) {
+    if n <= text.len() {
+        io::write_all(STDOUT_FILENO, &text[..n]);
+    }
 }
 
 fn end_line() {

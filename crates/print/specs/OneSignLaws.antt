@@ -1,19 +1,15 @@
 -- Which signs are one with the sign before them, by the sign behind. Assumes nothing.
 use mathlib.Core.Path.{_≡_}
-use mathlib.Core.Bool.{Bool, true, false, _||_, and-true, and-false}
+use mathlib.Core.Bool.{true, false, and-true, and-false}
 use Prim.Native.Nat.{ℕ, _<_}
 use native.Mathlib.Omega.{arith}
 use lib.Dec.{eqb, leb}
 use borrow.Author.Tests.{ne-eqb, leb-true, lt-leb}
 use Rattle.values.specs.Choice.{decide, both}
 use Rattle.tokens.specs.Token.{EQUALS, SAME, LESS, MORE, ATLEAST, ID, between}
-use Rattle.print.specs.TokenText.{goesOn, isFollowing, isOneSign, needsSpace}
+use Rattle.print.specs.TokenText.{goesOn, isFollowing, isOpening, isOneSign, needsSpace}
 use Rattle.print.specs.LineBack.{or-none}
 use Rattle.print.specs.ToldLaws.{one-no-sign}
-
--- = < or >
-abbrev pub isOpening : ℕ → Bool
-isOpening t = eqb t EQUALS || (eqb t LESS || eqb t MORE)
 
 module _ (t u : ℕ) where
   -- before = and ==

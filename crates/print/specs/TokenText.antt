@@ -53,9 +53,13 @@ goesOn t = leb ID t
 abbrev pub isFollowing : ℕ → Bool
 isFollowing t = goesOn t && not (isVariable t)
 
+-- a sign with which another may be read: = < or >
+abbrev pub isOpening : ℕ → Bool
+isOpening t = eqb t EQUALS || (eqb t LESS || eqb t MORE)
+
 -- a sign and the one behind it that would be read as one, or as others: = < or > before = or ==, and < before > or >=
 abbrev pub isOneSign : ℕ → ℕ → Bool
-isOneSign t u = ((eqb t EQUALS || (eqb t LESS || eqb t MORE)) && between EQUALS SAME u) || (eqb t LESS && (eqb u MORE || eqb u ATLEAST))
+isOneSign t u = (isOpening t && between EQUALS SAME u) || (eqb t LESS && (eqb u MORE || eqb u ATLEAST))
 
 -- without a space they would not read as they stand
 unfoldable pub needsSpace : ℕ → ℕ → Bool

@@ -1,11 +1,8 @@
 // A line as it is printed, token by token, at a place of a lent buffer; the answer is the place behind it.
 ghost use mathlib.Core.Path.{_≡_};
-ghost use mathlib.Core.Bool.{_||_};
 ghost use Prim.Native.Nat.{_+_, _≤_};
-ghost use lib.Dec.{eqb};
 ghost use Rattle.values.specs.PutAt.{IsPut};
-ghost use Rattle.tokens.specs.Token.{EQUALS, LESS, MORE};
-ghost use Rattle.print.specs.TokenText.{tokenText, isFollowing, isOneSign, needsSpace, gap, lineText};
+ghost use Rattle.print.specs.TokenText.{tokenText, isFollowing, isOpening, isOneSign, needsSpace, gap, lineText};
 ghost use Rattle.print.specs.PrintText.{rowAt};
 ghost use Rattle.print.specs.PrintRoomLaws.{lastPlace, lineRoom};
 use crate::name::put_name;
@@ -47,7 +44,7 @@ fn is_following(t: u32) -> bool
 
 // Whether a sign is = < or >.
 fn is_opening(t: u32) -> bool
-    ensures { λ x. ⌜ x ≡ (eqb t EQUALS || (eqb t LESS || eqb t MORE)) ⌝ }
+    ensures { λ x. ⌜ x ≡ isOpening t ⌝ }
 {
     if t == EQUALS {
         return true;

@@ -1,6 +1,6 @@
 -- What a session prints, line by line, is what the definition says. Assumes nothing.
 use mathlib.Core.Path.{_≡_, refl, sym, ap, _∙_}
-use mathlib.Core.Bool.{Bool, true, false, cond, _&&_, and-false}
+use mathlib.Core.Bool.{Bool, true, false, cond}
 use mathlib.Core.List.{List, [], _∷_, _++_, append-assoc, append-nil}
 use mathlib.Core.Option.{Option, none, some}
 use Prim.Native.Nat.{ℕ, zero, suc, _+_, min, _≤_, _<_}
@@ -8,12 +8,12 @@ use native.Mathlib.Omega.{arith}
 use lib.Dec.{eqb, leb, ltb}
 use lib.ListN.{length, take, set, length-append, length-set, length-take}
 use lib.Seq.{take-all, take-append-le, take-suc-set, take-set-le, append-snoc}
-use borrow.Author.Tests.{leb-true, leb-false, eqb-true, ne-eqb, lt-ltb}
+use borrow.Author.Tests.{leb-true, leb-false, ne-eqb, lt-ltb}
 use Rattle.values.specs.Codes.{tooLong}
 use Rattle.values.specs.Choice.{decide, either}
 use Rattle.values.specs.Numbers.{clash}
 use Rattle.engine.specs.State.{powerOn}
-use Rattle.text.specs.Byte.{LF, CR}
+use Rattle.text.specs.Byte.{LF}
 use Rattle.text.specs.Lines.{textLines, withoutReturn}
 use Rattle.text.specs.LinesLaws.{split-some}
 use Rattle.values.specs.PutAt.{putAt}
@@ -22,7 +22,7 @@ use Rattle.reader.specs.Load.{Outcome, refused, outcome, loadAnswer, loadSet}
 use Rattle.values.specs.PutLaws.{put-length, put-past}
 use Rattle.transcript.specs.declared.set_text.Place.{Place}
 use Rattle.transcript.specs.declared.beat_line.HalfLine.{HalfLine}
-use Rattle.transcript.specs.Input.{Input, isStar, beatLines, lineBefore, cut, inputOf}
+use Rattle.transcript.specs.Input.{Input, isStar, beatLines, cut, inputOf}
 use Rattle.transcript.specs.BeatLine.{Lent, lineLent}
 use Rattle.transcript.specs.Output.{loadLine, errorLine}
 use Rattle.transcript.specs.declared.session.Session.{Session}
@@ -34,7 +34,8 @@ use Rattle.transcript.specs.HalfLine.{noHalfLine, readOn, withoutCR, isUntouche
 use Rattle.transcript.specs.Intake.{TEXT, BEATS, OVER, bytesTaken, bytesKept, lineOver, lineKept, inputOver}
 use Rattle.transcript.specs.IntakeLaws.{beats-input, star-line, star-line-kept, plain-line, plain-line-kept, over-input}
 use Rattle.transcript.specs.Machine.{Machine, Fed, begun, withTotals, stopped, standing, opened, beatOf, beatEnd, arrivalWorked, chunk, lineEnd, fedLines, endAfter, lastOutput, finished}
-use Rattle.transcript.specs.SetText.{keptSize, starAfter, starOn, starEnds, placeOn, placeEnd, lastSize}
+use Rattle.transcript.specs.SetText.{keptSize, starEnds, placeOn, placeEnd, lastSize}
+use Rattle.transcript.specs.InputLaws.{star-last, star-ended, cut-star, cut-last, cut-here, cut-later}
 use Rattle.transcript.specs.SessionRoomLaws.{byCode, byLent, over-chunk, over-line}
 use Rattle.sessions.specs.HalfLineLaws.{byOption, lent-last, lent-ended, untouched}
 use Rattle.sessions.specs.MachineLaws.{text-append}
@@ -231,83 +232,6 @@ module _ (c : ℕ) where
       let q : min c (length d) + 1 ≡ min c (length (d ++ (b ∷ []))) = omega arith in
       rw (q, ← (append-snoc d b bs)) (kept-put bs (set s (min c (length d)) b) (d ++ (b ∷ [])) (length-set s (min c (length d)) b ∙ n) (kept-byte s d b n k h)))
 
--- ---- the line *
-
--- anything else stays so
-else-star : (l : List ℕ) → starOn 3 l ≡ 3
-unfolding starOn starAfter
-else-star [] = refl
-else-star (b ∷ bs) = else-star bs
-
--- behind * and CR there is nothing
-two-star : (b : ℕ) (l : List ℕ) → starOn 2 (b ∷ l) ≡ 3
-unfolding starOn starAfter
-two-star b l = else-star l
-
-star-byte : (b : ℕ) → starAfter 0 b ≡ elim (eqb b 42) [ true ↦ 1 | false ↦ 3 ]
-unfolding starAfter
-star-byte b = refl
-
--- behind * there is a CR or anything else
-star-second : (c : ℕ) → starAfter 1 c ≡ elim (eqb c CR) [ true ↦ 2 | false ↦ 3 ]
-unfolding starAfter
-star-second c = refl
-
-else-second : (c : ℕ) → starAfter 3 c ≡ 3
-unfolding starAfter
-else-second c = refl
-
-third : (d : ℕ) → starAfter 2 d ≡ 3
-unfolding starAfter
-third d = refl
-
--- after two bytes and more a line is no *
-star-two : (b c : ℕ) (cs : List ℕ) → eqb (starOn (starAfter (starAfter 0 b) c) cs) 1 ≡ false
-unfolding starOn
-star-two b c cs =
-    let P : ℕ → Type 0 = λ y. eqb (starOn (starAfter y c) cs) 1 ≡ false in
-    let Q : List ℕ → ℕ → Type 0 = λ ds y. eqb (starOn y ds) 1 ≡ false in
-    rw (star-byte b) (either P (eqb b 42) (λ e. rw (star-second c) (either (Q cs) (eqb c CR) (λ g. two cs) (λ g. rw (else-star cs)))) (λ e. rw (else-second c, else-star cs)))
-  where
-    two : (ds : List ℕ) → eqb (starOn 2 ds) 1 ≡ false
-    two [] = refl
-    two (d ∷ ds) = rw (two-star d ds)
-
--- the line * as it stands
-star-last : (l : List ℕ) → eqb (starOn 0 l) 1 ≡ isStar l
-unfolding starOn
-star-last [] = refl
-star-last (b ∷ []) =
-    let P : ℕ → Type 0 = λ y. eqb y 1 ≡ (eqb b 42 && true) in
-    rw (star-byte b) (either P (eqb b 42) (λ e. rw e) (λ e. rw e))
-star-last (b ∷ c ∷ cs) = star-two b c cs ∙ sym (and-false (eqb b 42))
-
--- and before its LF, where a CR may stand behind it
-star-three : (b c d : ℕ) (ds : List ℕ) → starEnds (starOn (starAfter (starAfter (starAfter 0 b) c) d) ds) ≡ false
-star-three b c d ds =
-    let P : ℕ → Type 0 = λ y. starEnds (starOn (starAfter (starAfter y c) d) ds) ≡ false in
-    let Q : ℕ → Type 0 = λ y. starEnds (starOn (starAfter y d) ds) ≡ false in
-    rw (star-byte b)
-    (either P (eqb b 42) (λ e. rw (star-second c) (either Q (eqb c CR) (λ g. rw (third d, else-star ds)) (λ g. rw (else-second d, else-star ds))))
-    (λ e. rw (else-second c, else-second d, else-star ds)))
-
-star-ended : (l : List ℕ) → starEnds (starOn 0 l) ≡ isStar (withoutReturn l)
-unfolding starOn withoutReturn
-star-ended [] = refl
-star-ended (b ∷ []) =
-    let Q : ℕ → Type 0 = λ y. starEnds y ≡ (eqb b 42 && true) in
-    either (λ (y : List ℕ). starEnds (starAfter 0 b) ≡ isStar y) (eqb b CR)
-    (λ e. let q = eqb-true b CR e in rw (q, star-byte 13))
-    (λ e. rw (star-byte b) (either Q (eqb b 42) (λ g. rw g) (λ g. rw g)))
-star-ended (b ∷ c ∷ []) =
-    either (λ (y : List ℕ). starEnds (starAfter (starAfter 0 b) c) ≡ isStar (b ∷ y)) (eqb c CR)
-    (λ e. let q = eqb-true c CR e in rw (q, star-byte b) (either (λ (y : ℕ). starEnds (starAfter y 13) ≡ (eqb b 42 && true)) (eqb b 42) (λ g. rw (g, star-second 13)) (λ g. rw (g, else-second 13))))
-    (λ e. rw (and-false (eqb b 42), star-byte b)
-    (either (λ (y : ℕ). starEnds (starAfter y c) ≡ false) (eqb b 42)
-    (λ g. rw (star-second c) (either (λ (y : ℕ). starEnds y ≡ false) (eqb c CR) (λ u. clash (cc)) (λ u. refl)))
-    (λ g. rw (else-second c))))
-star-ended (b ∷ c ∷ d ∷ ds) = star-three b c d ds ∙ sym (and-false (eqb b 42))
-
 -- ---- loading
 
 module _ (i : Input) where
@@ -425,23 +349,6 @@ module _ (t s : List ℕ) (p : Place) where
 chunk-texting : (t s : List ℕ) (p : Place) (l : List ℕ) → chunk (texting t s p) l ≡ texting (putAt t (p .size) l) s (placeOn p l)
 unfolding chunk bytesTaken bytesKept
 chunk-texting t s p l = refl
-
--- the input cut at the line *
-cut-star : (l : List ℕ) → isStar l ≡ true → cut (l ∷ []) ≡ record { text = []; beats = [] }
-unfolding cut
-cut-star l h = either (λ (y : Input). y ≡ record { text = []; beats = [] }) (isStar l) (λ e. refl) (λ e. clash (cc))
-
-cut-last : (l : List ℕ) → isStar l ≡ false → cut (l ∷ []) ≡ record { text = l; beats = [] }
-unfolding cut
-cut-last l h = either (λ (y : Input). y ≡ record { text = l; beats = [] }) (isStar l) (λ e. clash (cc)) (λ e. refl)
-
-cut-here : (l k : List ℕ) (ls : List (List ℕ)) → isStar (withoutReturn l) ≡ true → cut (l ∷ k ∷ ls) ≡ record { text = []; beats = beatLines (k ∷ ls) }
-unfolding cut
-cut-here l k ls h = either (λ (y : Input). y ≡ record { text = []; beats = beatLines (k ∷ ls) }) (isStar (withoutReturn l)) (λ e. refl) (λ e. clash (cc))
-
-cut-later : (l k : List ℕ) (ls : List (List ℕ)) → isStar (withoutReturn l) ≡ false → cut (l ∷ k ∷ ls) ≡ lineBefore l (cut (k ∷ ls))
-unfolding cut
-cut-later l k ls h = either (λ (y : Input). y ≡ lineBefore l (cut (k ∷ ls))) (isStar (withoutReturn l)) (λ e. clash (cc)) (λ e. refl)
 
 module _ (t s d l : List ℕ) (n : length t ≡ keptSize) (k : Begins keptSize t d) where
   abbrev size : ℕ

@@ -10,6 +10,7 @@ pub mod Tally
 pub mod Input
 pub mod Synrun
 pub mod SetText
+pub mod InputLaws
 pub mod Intake
 pub mod IntakeAnswers
 pub mod IntakeLaws

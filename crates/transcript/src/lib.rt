@@ -11,6 +11,7 @@ mod tally;
 mod totals;
 
 pub use printing::OUT;
+pub use printing::put_refusal;
 pub use session::Session;
 pub use session::Stepped;
 pub use session::begin;
@@ -18,3 +19,4 @@ pub use session::finish;
 pub use session::is_over;
 pub use session::step;
 pub use set_text::KEPT;
+pub use set_text::set_text_size;

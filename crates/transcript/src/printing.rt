@@ -99,6 +99,13 @@ pub fn load_line(out: &mut [u8], at: usize, code: u8, line: u32) -> usize
     put_line(out, at, b"L", &numbers)
 }
 
+// The same at a buffer's start; the answer is how many bytes it is.
+pub fn put_refusal(out: &mut [u8], code: u8, line: u32) -> usize
+    ensures { λ x. ⌜ IsPut (now (out .entry)) 0 (loadLine code line) (now (out .exit)) x ⌝ }
+{
+    load_line(out, 0, code, line)
+}
+
 // E k
 pub fn error_line(out: &mut [u8], at: usize, k: u32) -> usize
     requires { ⌜ at ≤ outSize ⌝ }

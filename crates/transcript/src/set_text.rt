@@ -1,8 +1,12 @@
 // The set text as it comes in: how much of it is kept, and whether its last line is the line * that ends it.
 ghost use mathlib.Core.Path.{_≡_};
 ghost use Prim.Native.Nat.{_+_, _≤_, min};
+ghost use lib.ListN.{length};
+ghost use Rattle.transcript.specs.Input.{inputOf};
 ghost use Rattle.transcript.specs.SetText.{keptSize, noPlace, starAfter, starOn, starEnds, placeOn, placeEnd, lastSize};
 use text::bytes::CR;
+use text::bytes::Kind;
+use text::bytes::run_end;
 use tokens::token::TEXT_SIZE;
 
 // The bytes of set text that are kept: one more than a text may have, so that a longer one is seen to be too long.
@@ -110,4 +114,26 @@ pub fn text_size(place: Place) -> usize
 {
     let star = place.star;
     if star == 1 { place.start } else { place.size }
+}
+
+// How many bytes of a whole input are its set text: those before the first line *, or all of it.
+pub fn set_text_size(input: &[u8]) -> usize
+    ensures { λ x. ⌜ x ≡ length (inputOf (now (input .entry)) .text) ⌝ }
+{
+    let mut at: usize = 0;
+    while at < input.len() {
+        let end = run_end(input, at, Kind::Line);
+        let star = star_on(&input[at..end], 0);
+        if end == input.len() {
+            if star == 1 {
+                return at;
+            }
+            return end;
+        }
+        if is_star(star) {
+            return at;
+        }
+        at = end + 1;
+    }
+    at
 }
