@@ -35,7 +35,7 @@ use Rattle.transcript.specs.Intake.{TEXT, BEATS, OVER, bytesTaken, bytesKept, l
 use Rattle.transcript.specs.IntakeLaws.{beats-input, star-line, star-line-kept, plain-line, plain-line-kept, over-input}
 use Rattle.transcript.specs.Machine.{Machine, Fed, begun, withTotals, stopped, standing, opened, beatOf, beatEnd, arrivalWorked, chunk, lineEnd, fedLines, endAfter, lastOutput, finished}
 use Rattle.transcript.specs.SetText.{keptSize, starEnds, placeOn, placeEnd, lastSize}
-use Rattle.transcript.specs.InputLaws.{star-last, star-ended, cut-star, cut-last, cut-here, cut-later}
+use Rattle.transcript.specs.StarLaws.{star-last, star-ended, cut-star, cut-last, cut-here, cut-later}
 use Rattle.transcript.specs.SessionRoomLaws.{byCode, byLent, over-chunk, over-line}
 use Rattle.sessions.specs.HalfLineLaws.{byOption, lent-last, lent-ended, untouched}
 use Rattle.sessions.specs.MachineLaws.{text-append}

@@ -12,7 +12,7 @@ use lib.Seq.{take-all, take-take, take-append-add, length-take-le, split-at}
 use borrow.Author.Tests.{eqb-true, eqb-false, leb-true, leb-false}
 use Rattle.values.specs.Choice.{decide}
 use Rattle.values.specs.Codes.{tooLong}
-use Rattle.values.specs.PutAt.{putAt, IsPut}
+use Rattle.values.specs.PutAt.{putAt}
 use Rattle.values.specs.PutLaws.{put-length}
 use Rattle.tokens.specs.Token.{textSize}
 use Rattle.engine.specs.Set.{soundLines}
@@ -23,7 +23,7 @@ use Rattle.text.specs.LinesLaws.{run-end, run-more}
 use Rattle.text.specs.WordLaws.{same-lengths}
 use Rattle.reader.specs.Load.{loadAnswer, loadSet}
 use Rattle.transcript.specs.Input.{isStar, inputOf}
-use Rattle.transcript.specs.InputLaws.{text-none, text-more, text-star, text-last, text-empty}
+use Rattle.transcript.specs.StarLaws.{text-none, text-more, text-star, text-last, text-empty}
 use Rattle.transcript.specs.Output.{loadLine}
 use Rattle.transcript.specs.OutputLaws.{load-room}
 use Rattle.print.specs.declared.set_print.Printed.{Printed}
@@ -246,9 +246,9 @@ module _ (t out exit : List ℕ) (x : ℕ) (room : length out ≡ textSize) wher
       ((l, omega arith), g ∙ ap (putAt out 0) (sym e))
 
   -- a refusal
-  pub said-refusal : {code line : ℕ} → code ≡ loadAnswer (inputOf t .text) .code → line ≡ loadAnswer (inputOf t .text) .line → (code ≡ 0 → ⊥) → IsPut out 0 (loadLine code line) exit x → Said t out exit x
-  said-refusal {code} {line} e f n i =
-      said-as (loadLine code line) (printed-refusal (inputOf t .text) (λ z. n (e ∙ z)) ∙ rw (e, f)) (let b = i .behind in omega arith) (i .put)
+  pub said-refusal : {code line : ℕ} → code ≡ loadAnswer (inputOf t .text) .code → line ≡ loadAnswer (inputOf t .text) .line → (code ≡ 0 → ⊥) → x ≡ length (loadLine code line) → exit ≡ putAt out 0 (loadLine code line) → Said t out exit x
+  said-refusal {code} {line} e f n l p =
+      said-as (loadLine code line) (printed-refusal (inputOf t .text) (λ z. n (e ∙ z)) ∙ rw (e, f)) l p
 
   -- a print, which is never refused
   pub said-print : (s : List ℕ) {p : Printed} → s ≡ loadSet (inputOf t .text) → loadAnswer (inputOf t .text) .code ≡ 0 → p ≡ printAnswer s out → exit ≡ printBuffer s out → x ≡ p .size → Said t out exit x

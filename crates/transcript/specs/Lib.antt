@@ -10,7 +10,7 @@ pub mod Tally
 pub mod Input
 pub mod Synrun
 pub mod SetText
-pub mod InputLaws
+pub mod StarLaws
 pub mod Intake
 pub mod IntakeAnswers
 pub mod IntakeLaws

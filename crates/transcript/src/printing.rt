@@ -5,7 +5,7 @@ ghost use Prim.Native.Nat.{_+_, _*_, _≤_, _<_};
 ghost use lib.ListN.{length, getD, drop};
 ghost use Rattle.engine.specs.Beat.{bufferSize};
 ghost use Rattle.engine.specs.Order.{maxOrders};
-ghost use Rattle.values.specs.PutAt.{IsPut};
+ghost use Rattle.values.specs.PutAt.{putAt, IsPut};
 ghost use Rattle.transcript.specs.Output.{spaced, printedLine, decimals, fourOf, loadLine, errorLine, codeLine, orderLine, orderLines, endLine, orderRoom, outSize};
 use engine::MAX_ORDERS;
 use engine::ORDER_BYTES;
@@ -101,7 +101,8 @@ pub fn load_line(out: &mut [u8], at: usize, code: u8, line: u32) -> usize
 
 // The same at a buffer's start; the answer is how many bytes it is.
 pub fn put_refusal(out: &mut [u8], code: u8, line: u32) -> usize
-    ensures { λ x. ⌜ IsPut (now (out .entry)) 0 (loadLine code line) (now (out .exit)) x ⌝ }
+    ensures { λ x. ⌜ x ≡ length (loadLine code line) ⌝ }
+    ensures { λ x. ⌜ now (out .exit) ≡ putAt (now (out .entry)) 0 (loadLine code line) ⌝ }
 {
     load_line(out, 0, code, line)
 }

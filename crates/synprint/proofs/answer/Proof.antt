@@ -39,7 +39,7 @@ answer-spec =
     let t = now (a .input) in
     let h = handed t (s .set-text-size .ensures) in
     let e = l .load .ensures .0 ∙ ap loadAnswer h in
-    said-refusal t (now (a .out)) _ _ (omega arith) (ap (λ (x : Loaded). x .code) e) (ap (λ (x : Loaded). x .line) e) (i .if1 .taken) (c .put-refusal .ensures))
+    said-refusal t (now (a .out)) _ _ (omega arith) (ap (λ (x : Loaded). x .code) e) (ap (λ (x : Loaded). x .line) e) (i .if1 .taken) (c .put-refusal .ensures .0) (c .put-refusal .ensures .1))
     (λ c κs. search needs)
     (λ c.
     let i = c .before .before .before in

@@ -1,4 +1,4 @@
--- `set_text::set_text_size` meets its contract: in the loop the set text from `at` on ends where that of all does; InputLaws has the turn.
+-- `set_text::set_text_size` meets its contract: in the loop the set text from `at` on ends where that of all does; StarLaws has the turn.
 use borrow.Author.Needs.{needs}
 use native.Mathlib.Omega.{arith}
 use mathlib.Core.Path.{_≡_, sym, ap, _∙_}
@@ -12,7 +12,7 @@ use Rattle.text.specs.Byte.{inLine, run}
 use Rattle.text.specs.ByteLaws.{run-fits}
 use Rattle.transcript.specs.Input.{inputOf}
 use Rattle.transcript.specs.SetText.{starOn, starEnds}
-use Rattle.transcript.specs.InputLaws.{text-empty, size-last-star, size-last, size-star, size-more}
+use Rattle.transcript.specs.StarLaws.{text-empty, size-last-star, size-last, size-star, size-more}
 use Rattle.transcript.proofs.set_text.set_text_size.Statement.{statement}
 use Rattle.transcript.proofs.set_text.set_text_size.Tie as tie
 
