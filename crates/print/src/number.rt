@@ -9,7 +9,7 @@ use text::bytes::POINT;
 use text::digits::put_number;
 
 // The thousandths of a unit.
-const UNIT: u32 = 1000;
+const UNIT: u32 = values::arithmetic::UNIT as u32;
 
 // So many thousandths below a unit: the point and the digits behind it, with no 0 at the end; nothing if there are none.
 fn put_part(out: &mut [u8], at: usize, f: u32) -> usize

@@ -1,15 +1,15 @@
 -- Laws of the tokens of a line before its end: they are the row where the line stands, and with changed numbers, without marks and read back they are those of the changed line. Nothing is assumed.
-use mathlib.Core.Path.{_≡_, refl, sym, ap, _∙_}
+use mathlib.Core.Path.{_≡_, sym, ap, _∙_}
 use mathlib.Core.List.{List, [], _∷_, map, map-append}
 use Prim.Native.Nat.{ℕ, _+_}
 use native.Mathlib.Omega.{arith}
-use lib.ListN.{length, length-append}
 use Rattle.tokens.specs.Token.{END}
-use Rattle.grammar.specs.Tree.{Line, lineTokens, WrittenAs}
+use Rattle.grammar.specs.Tree.{Line, lineTokens}
 use Rattle.grammar.specs.Meaning.{Stands}
 use Rattle.grammar.specs.ClosedTokens.{Closed, front, front-end, front-closed}
 use Rattle.grammar.specs.NumbersTo.{tokenTo, numbersTo}
 use Rattle.grammar.specs.NumbersToLaws.{Keeps, to-tokens}
+use Rattle.grammar.specs.TreeOfLaws.{written-front}
 use Rattle.engine.specs.Set.{withoutMark, withEnd}
 use Rattle.loading.specs.Unmarked.{unmarked, unmarkedTree}
 use Rattle.loading.specs.UnmarkedLaws.{unmarked-keeps, without-marks}
@@ -18,28 +18,14 @@ use Rattle.print.specs.PrintLaws.{row-ends, row-goes}
 use Rattle.print.specs.ReadBack.{readBack}
 use Rattle.round_trip.specs.MarkLaws.{remarked, remarked-keeps, back-to}
 
--- two rows that are the same with their ends are the same
-same-front : (l m : List ℕ) → withEnd l ≡ withEnd m → l ≡ m
-same-front [] [] e = refl
-same-front [] (u ∷ m) e = let n = ap length e in let k = length-append m (END ∷ []) in absurd (omega arith)
-same-front (t ∷ l) [] e = let n = ap length e in let k = length-append l (END ∷ []) in absurd (omega arith)
-same-front (t ∷ l) (u ∷ m) e =
-    let a : t ≡ u = cc in
-    let b : withEnd l ≡ withEnd m = cc in
-    rw (a, same-front l m b)
-
--- a line that is written as some tokens has them
-pub written-front : (x : Line) (ts : List ℕ) → WrittenAs x ts → front x ≡ ts
-written-front x ts w = same-front (front x) ts (sym (front-end x) ∙ w)
-
 -- ---- changed
 
 module _ (f : ℕ → ℕ) (keeps : Keeps f) where
   front-to : (x : Line) → map (tokenTo f) (front x) ≡ front (numbersTo f x)
   unfolding tokenTo
   front-to x =
-      same-front (map (tokenTo f) (front x)) (front (numbersTo f x))
-      (sym (map-append (tokenTo f) (front x) (END ∷ [])) ∙ ap (map (tokenTo f)) (sym (front-end x)) ∙ to-tokens f keeps x ∙ front-end (numbersTo f x))
+      sym (written-front (numbersTo f x) (map (tokenTo f) (front x))
+      (sym (sym (map-append (tokenTo f) (front x) (END ∷ [])) ∙ ap (map (tokenTo f)) (sym (front-end x)) ∙ to-tokens f keeps x)))
 
 -- without marks
 pub front-unmarked : (x : Line) → map withoutMark (front x) ≡ front (unmarkedTree x)

@@ -1,11 +1,11 @@
 -- EVERY TOKEN OF A LINE WITHOUT A FAULT CAN BE WRITTEN AND READ BACK. Theorem; nothing is assumed.
 use mathlib.Core.Path.{_≡_, refl}
-use mathlib.Core.Bool.{Bool, true, false, _&&_}
+use mathlib.Core.Bool.{Bool, true, false}
 use mathlib.Core.List.{List, [], _∷_, _++_}
-use Prim.Native.Nat.{ℕ, zero, suc, _+_, _*_, _≤_, _<_}
+use Prim.Native.Nat.{ℕ, zero, _+_, _*_, _≤_, _<_}
 use native.Mathlib.Omega.{arith}
 use lib.Dec.{eqb, leb}
-use borrow.Author.Tests.{eqb-true, eqb-false, le-leb, lt-leb, leb-true}
+use borrow.Author.Tests.{eqb-true, le-leb, lt-leb, leb-true}
 use Rattle.values.specs.Codes.{outside}
 use Rattle.values.specs.Choice.{decide, both, contrary, either-cond}
 use Rattle.values.specs.Value.{top}
@@ -24,22 +24,9 @@ use Rattle.grammar.specs.ClosedTokens.{front}
 use Rattle.soundness.specs.WriteSoundLaws.{lower-zero, unless-zero}
 use Rattle.print.specs.TokenBackLaws.{hasName, Printable}
 use Rattle.print.specs.LineBack.{Printables}
+use Rattle.print.specs.NameRowsLaws.{inRow, row-at}
 
 -- ---- single tokens
-
--- a test of n numbers from low on, computed
-abbrev inRow : (ℕ → Bool) → ℕ → ℕ → Bool
-inRow f low zero = true
-inRow f low (suc n) = f low && inRow f (suc low) n
-
-row-at : (f : ℕ → Bool) (n low t : ℕ) → inRow f low n ≡ true → low ≤ t → t < low + n → f t ≡ true
-row-at f zero low t h l u = absurd (omega arith)
-row-at f (suc n) low t h l u =
-    let (a, b) = both (f low) (inRow f (suc low) n) h in
-    decide _ (eqb low t) (λ e. rw (← (eqb-true low t e)) a) (λ e. row-at f n (suc low) t b (below e) (omega arith))
-  where
-    below : eqb low t ≡ false → suc low ≤ t
-    below e = let n = eqb-false low t e in omega (arith, n)
 
 name-fits : (t : ℕ) → t < NUMBER → hasName t ≡ true → Printable t
 name-fits t u n = record { number = λ e. contrary e (lt-leb NUMBER t u); named = λ _. n }

@@ -6,6 +6,7 @@ use native.Mathlib.Omega.{arith}
 use lib.ListN.{length, replicate, set, length-map}
 use Rattle.values.specs.Numbers.{clash}
 use Rattle.tokens.specs.Token.{setSize}
+use Rattle.grammar.specs.TreeOfLaws.{written-front}
 use Rattle.engine.specs.Set.{startPlace, startOf, withoutMark, withLine, emptySet, soundLines, namedLines, linesRead, linesFrom, allKnown, withCount, countPlace, firstPlace}
 use Rattle.reader.specs.Row.{Row, rising, byNumber, ranked, placed, setOf}
 use Rattle.reader.specs.Load.{taken, outcome, loadSet}
@@ -17,7 +18,7 @@ use Rattle.loading.specs.TakenLaws.{All, Fine, taken-fine}
 use Rattle.loading.specs.LoadedLaws.{each-by, taken-laid, taken-read}
 use Rattle.print.specs.PrintText.{lineRows, rowsOf, rowsText, printText}
 use Rattle.round_trip.specs.MarkLaws.{rows-unmarked}
-use Rattle.round_trip.specs.FrontLaws.{written-front, front-unmarked, row-front}
+use Rattle.round_trip.specs.FrontLaws.{front-unmarked, row-front}
 
 -- the tokens of a line of the text, and as a set has them
 abbrev pub tokens : Row → List ℕ

@@ -5,6 +5,7 @@ use Prim.Native.Nat.{ℕ, _+_, _≤_}
 use native.Mathlib.Omega.{arith}
 use lib.ListN.{length, length-append}
 use Rattle.tokens.specs.Token.{textSize}
+use Rattle.grammar.specs.TreeOfLaws.{written-front}
 use Rattle.text.specs.Lines.{Numbered, tokenLines}
 use Rattle.text.specs.LinesLaws.{room}
 use Rattle.reader.specs.Row.{Row, byNumber}
@@ -22,7 +23,6 @@ use Rattle.print.specs.LineBack.{Printables}
 use Rattle.print.specs.LineShorter.{line-shorter}
 use Rattle.round_trip.specs.LinePrints.{line-prints}
 use Rattle.round_trip.specs.MarkLaws.{line-unmarked}
-use Rattle.round_trip.specs.FrontLaws.{written-front}
 use Rattle.round_trip.specs.LoadedRowsLaws.{heldRow, loaded-rows, empty-print}
 
 -- ---- the bytes of a print

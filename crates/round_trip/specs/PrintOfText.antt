@@ -4,6 +4,7 @@ use mathlib.Core.List.{List, [], _∷_, map}
 use Prim.Native.Nat.{ℕ}
 use Rattle.grammar.specs.Tree.{Line}
 use Rattle.grammar.specs.ClosedTokens.{front}
+use Rattle.grammar.specs.TreeOfLaws.{written-front}
 use Rattle.text.specs.Lines.{tokenLines}
 use Rattle.reader.specs.Row.{Row}
 use Rattle.reader.specs.Load.{refused, rowOf, outcome, loadSet}
@@ -13,7 +14,6 @@ use Rattle.loading.specs.LoadAnswers.{refused-empty}
 use Rattle.loading.specs.LoadedLaws.{rows-apart}
 use Rattle.loading.specs.RisingTreesLaws.{by-order, Pairs, good-pairs, pairs-order}
 use Rattle.print.specs.PrintText.{rowsText, printText}
-use Rattle.round_trip.specs.FrontLaws.{written-front}
 use Rattle.round_trip.specs.LoadedRowsLaws.{tokens, loaded-print, empty-print}
 
 pairs-fronts : (xs : List Line) (rs : List Row) → Pairs xs rs → map tokens rs ≡ map front xs

@@ -1,5 +1,5 @@
 -- A sound state stays sound, and from a load on 22 never arises: SoundLaws says it of every call (`sound-stays-sound`, `always-sound`, `never-22`); Call has the calls. GoodAnswers tells how the laws go by cases.
--- AnswerCodes and CallCodes: which codes a call answers.
+-- AnswerCodes and CallCodes: which codes a call answers. BeatOverLines: a beat over lines that were read is the beat of their set.
 pub mod Call
 pub mod GoodAnswers
 pub mod SetSoundLaws
@@ -15,3 +15,4 @@ pub mod SoundLaws
 pub mod AnswerCodes
 pub mod AnswerCodeLaws
 pub mod CallCodes
+pub mod BeatOverLines
