@@ -8,7 +8,7 @@ use crate::set::Set;
 use crate::slip::Slip;
 use crate::state::{LineState, State};
 use crate::token::{Keyword, Motion, Scope};
-use crate::tree::{Action, Line};
+use crate::tree::{Action, Curve, Line, Synfct};
 use crate::value::Value;
 use crate::witness::Witness;
 
@@ -39,6 +39,7 @@ pub struct Inputs<'a> {
 
 pub struct Beat<'a> {
     lines: &'a [Line],
+    pub curves: &'a [Curve],
     pub inputs: &'a Inputs<'a>,
     pub slip: Slip,
     pub seen: &'a mut Seen,
@@ -52,6 +53,7 @@ pub struct Beat<'a> {
 }
 
 impl<'a> Beat<'a> {
+    /// A beat over these lines, without curves.
     pub fn new(
         lines: &'a [Line],
         state: &State,
@@ -59,10 +61,11 @@ impl<'a> Beat<'a> {
         slip: Slip,
         seen: &'a mut Seen,
     ) -> Beat<'a> {
+        let (curves, orders) = (&[], Vec::new());
         let mut state = state.clone();
         state.grow_timers();
         let start = (slip == Slip::ReadAtBeatStart).then(|| state.clone());
-        Beat { lines, inputs, slip, seen, witness: None, start, state, orders: Vec::new(), acted: 0 }
+        Beat { lines, curves, inputs, slip, seen, witness: None, start, state, orders, acted: 0 }
     }
 
     /// Works the turns; the first alarm ends them.
@@ -155,7 +158,20 @@ impl<'a> Beat<'a> {
             Action::Setal(number) => self.order(rank, "order SETAL", 5, 0, *number),
             Action::Lock(number) => self.lock(rank, *number, true),
             Action::Unlock(number) => self.lock(rank, *number, false),
+            Action::Synfct(synfct) => self.synfct(*synfct),
         }
+    }
+
+    /// Reads the source, works the curve on it, and writes the limited result by the target's own rules.
+    fn synfct(&mut self, synfct: Synfct) -> Result<(), Code> {
+        let x = self.read(synfct.source);
+        self.seen.synfct_read(synfct.source, x);
+        let curve = self.curves.iter().find(|curve| curve.number == synfct.curve);
+        let curve = curve.expect("a SYNFCT that the checks refuse");
+        let value = curve.work(x?, self.slip, self.seen)?;
+        let written = self.write(synfct.target, value);
+        self.seen.synfct_write(synfct.target, written);
+        written
     }
 
     fn motion(&mut self, rank: usize, motion: Motion, axis: u8, value: Value) -> Result<(), Code> {

@@ -1,9 +1,9 @@
-//! The checks of one line, codes 4 to 10, lowest first. Loading and soundness both use them.
+//! The checks of one line, codes 4 to 10, lowest first, and those of curves, code 13. Loading and soundness both use them.
 
 use crate::code::Code;
 use crate::parse;
 use crate::token::{Keyword, Name, Token};
-use crate::tree::{Action, Expression, Line, Variable};
+use crate::tree::{Action, Curve, Expression, Line, Variable};
 use std::ops::RangeInclusive;
 
 /// Brackets `(` that may be open at once.
@@ -13,7 +13,10 @@ const ACTIONS: usize = 8;
 /// The numbers a line may have, and LOCK and UNLOCK may name.
 const LINE_NUMBERS: RangeInclusive<i64> = 1..=255;
 
-/// The tree of a line, or its lowest code of 4 to 10.
+/// The numbers a curve may have.
+const CURVE_NUMBERS: RangeInclusive<i64> = 1..=3;
+
+/// The tree of a numbered line, or its lowest code of 4 to 10.
 pub fn line(tokens: &[Token]) -> Result<Line, Code> {
     demand(depth(tokens) <= DEPTH, Code::TooDeep)?;
     let line = parse::line(tokens).ok_or(Code::NotInGrammar)?;
@@ -23,6 +26,27 @@ pub fn line(tokens: &[Token]) -> Result<Line, Code> {
     demand(m_allowed(&line), Code::MNotAllowed)?;
     demand(line.actions.len() <= ACTIONS, Code::TooManyActions)?;
     Ok(line)
+}
+
+/// The curve of an FCTDEF line, or its lowest code of 4 to 7. Behind a numbered line it is not in the grammar.
+pub fn curve(tokens: &[Token], behind_a_line: bool) -> Result<Curve, Code> {
+    demand(depth(tokens) <= DEPTH, Code::TooDeep)?;
+    demand(!behind_a_line, Code::NotInGrammar)?;
+    let curve = parse::curve(tokens).ok_or(Code::NotInGrammar)?;
+    demand(tokens.iter().all(number_fits) && CURVE_NUMBERS.contains(&curve.number), Code::NumberOutOfRange)?;
+    Ok(curve)
+}
+
+/// Code 13 of an FCTDEF line below these curves: lower above upper, or its number defined before.
+pub fn curve_allowed(curve: &Curve, above: &[Curve]) -> Result<(), Code> {
+    let defined = above.iter().any(|other| other.number == curve.number);
+    demand(curve.lower <= curve.upper && !defined, Code::CurveNotAllowed)
+}
+
+/// Code 13 of a numbered line: each SYNFCT uses one of these curves.
+pub fn curves_used(line: &Line, curves: &[Curve]) -> Result<(), Code> {
+    let defined = |number| curves.iter().any(|curve| curve.number == number);
+    demand(line.synfcts().all(|synfct| defined(synfct.curve)), Code::CurveNotAllowed)
 }
 
 fn demand(holds: bool, code: Code) -> Result<(), Code> {
@@ -103,6 +127,10 @@ fn ranges_kept(line: &Line) -> bool {
             side.each_variable(&mut see);
         }
     }
+    for synfct in line.synfcts() {
+        see(synfct.target);
+        see(synfct.source);
+    }
     kept && line.actions.iter().all(argument_in_range)
 }
 
@@ -123,6 +151,7 @@ fn argument_in_range(action: &Action) -> bool {
         Action::M(number) => (0..=99).contains(number),
         Action::Setal(number) => (65000..=69999).contains(number),
         Action::Lock(number) | Action::Unlock(number) => LINE_NUMBERS.contains(number),
+        Action::Synfct(synfct) => CURVE_NUMBERS.contains(&synfct.curve),
         Action::Assign(..) | Action::Move(..) => true,
     }
 }
@@ -135,6 +164,7 @@ fn places_allowed(line: &Line) -> bool {
             Action::Assign(variable, Expression::Variable(_)) => writable(*variable),
             Action::Assign(variable, side) => writable(*variable) && !reads_removal(side),
             Action::Move(_, _, side) => !reads_removal(side),
+            Action::Synfct(synfct) => writable(synfct.target) && !synfct.source.is_removal(),
             _ => true,
         })
 }

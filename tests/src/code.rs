@@ -15,6 +15,7 @@ pub enum Code {
     TooManyActions = 10,
     NumberUsedAbove = 11,
     LockOfNoLine = 12,
+    CurveNotAllowed = 13,
     BufferTooShort = 20,
     BadNumbers = 21,
     NotSound = 22,

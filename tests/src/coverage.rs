@@ -9,6 +9,8 @@ use crate::runner::{work, Form, Seeds};
 use crate::seen::Seen;
 use crate::slip::Slip;
 use crate::text;
+use crate::token;
+use crate::{check, load};
 use std::collections::BTreeMap;
 
 const ALARMS: [u8; 5] = [30, 31, 32, 33, 34];
@@ -59,11 +61,29 @@ impl Coverage {
             self.output_line(form, line, before, &script);
             before = line;
         }
+        self.refused_curve(set_text);
         if form == Form::Synrun && !output.starts_with("L ") {
             self.note("load 0".into());
         }
         if [Form::Host, Form::Long].contains(&form) {
             script.iter().for_each(|line| self.note(format!("{} line {}", form.name(), host_form(line))));
+        }
+    }
+
+    /// Notes the code of a line with FCTDEF or SYNFCT, and the ground of code 13.
+    fn refused_curve(&mut self, set_text: &[u8]) {
+        let Err(refusal) = load::load(set_text, Slip::None) else {
+            return;
+        };
+        let Some(line) = text::lines(set_text).nth(refusal.line.wrapping_sub(1)) else {
+            return;
+        };
+        let code = refusal.code.number();
+        for word in ["FCTDEF", "SYNFCT"].iter().filter(|word| holds(line, word)) {
+            self.note(format!("{word} line, load {code}"));
+        }
+        if code == 13 {
+            self.note(format!("load 13, {}", ground(line)));
         }
     }
 
@@ -121,6 +141,20 @@ impl Coverage {
     }
 }
 
+fn holds(line: &[u8], word: &str) -> bool {
+    text::without_comment(line).windows(word.len()).any(|bytes| bytes == word.as_bytes())
+}
+
+/// Why a line has code 13.
+fn ground(line: &[u8]) -> &'static str {
+    let tokens = token::tokens(text::without_comment(line)).unwrap_or_default();
+    match check::curve(&tokens, false) {
+        Ok(curve) if curve.lower > curve.upper => "lower above upper",
+        Ok(_) => "defined twice",
+        _ => "not defined",
+    }
+}
+
 /// What stands before the names of what a form's inputs reach, where forms are not counted together.
 fn group(form: Form) -> &'static str {
     match form {
@@ -143,7 +177,10 @@ pub fn host_form(line: &[u8]) -> String {
 
 /// Everything that can occur outside the beats.
 fn expected() -> Vec<String> {
-    let mut names: Vec<String> = (0..=12).map(|code| format!("load {code}")).collect();
+    let mut names: Vec<String> = (0..=13).map(|code| format!("load {code}")).collect();
+    names.extend([3, 4, 5, 7, 13].map(|code| format!("FCTDEF line, load {code}")));
+    names.extend([3, 4, 5, 6, 7, 8, 9, 10, 11, 12, 13].map(|code| format!("SYNFCT line, load {code}")));
+    names.extend(["lower above upper", "defined twice", "not defined"].map(|why| format!("load 13, {why}")));
     names.extend([0, 21].iter().chain(&ALARMS).map(|code| format!("synrun beat {code}")));
     for form in ["host", "long"] {
         names.extend([0, 20, 21, 22].iter().chain(&ALARMS).map(|code| format!("{form} beat {code}")));
@@ -159,7 +196,7 @@ fn expected() -> Vec<String> {
         names.extend(["E", "END"].map(|end| format!("{form} ends with {end}")));
     }
     names.extend(["long load 0".into(), "long ends with END".into()]);
-    names.extend((0..=12).map(|code| format!("print load {code}")));
+    names.extend((0..=13).map(|code| format!("print load {code}")));
     names.extend(PATHS.iter().map(|(name, _)| format!("print {name}")));
     names
 }

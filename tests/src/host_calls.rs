@@ -32,6 +32,11 @@ const COUNTS: usize = TIMERS + 8;
 /// The arrays of a state: R, cells, timers that run, locks, cancels, memories.
 const ARRAYS: [usize; 6] = [164, COUNTS + 4, 8, LINES, LINES, LINES];
 
+/// The numbers of the tokens of curves; no random session puts one into a set.
+const COMMA: u32 = 29;
+const FCTDEF: u32 = 30;
+const SYNFCT: u32 = 56;
+
 type Places = Vec<u32>;
 
 /// A session over the pipes of a program.
@@ -357,6 +362,9 @@ fn token_number(token: Token) -> u32 {
         Token::Setal => 52,
         Token::Lock => 53,
         Token::Unlock => 54,
+        Token::Comma => COMMA,
+        Token::Fctdef => FCTDEF,
+        Token::Synfct => SYNFCT,
         Token::Axis(axis) => 56 + u32::from(axis),
         Token::Number(number) if !number.fits => number_token(TOP + UNIT),
         Token::Number(number) => number_token(number.value),

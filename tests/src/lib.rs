@@ -1,7 +1,7 @@
 //! An independent interpreter of set text and beats, and what compares a control with it.
 //!
 //! The interpreter: `token`, `parse`, `tree`, `check`, `load`, `set`, `state`, `fifo`, `beat`, `evaluate`,
-//! `variables`, `control`, `print`. Its flags are held against `history` by `witness`.
+//! `curve`, `variables`, `control`, `print`. Its flags are held against `history` by `witness`.
 //! The programs: `synrun`, `synprint`, `host_session`. The rest makes inputs for them and compares what they print.
 
 pub mod beat;
@@ -12,6 +12,7 @@ pub mod code;
 pub mod compare;
 pub mod control;
 pub mod coverage;
+pub mod curve;
 pub mod damage;
 pub mod evaluate;
 pub mod fields;

@@ -1,4 +1,4 @@
-//! Loading set text: codes 1 and 2, then the lowest code of each line in turn, then 12.
+//! Loading set text: codes 1 and 2, then the first faulty line with its code, then 12.
 
 use crate::check;
 use crate::code::Code;
@@ -6,7 +6,7 @@ use crate::set::{lock_of_no_line, Set, LINES};
 use crate::slip::Slip;
 use crate::text;
 use crate::token::{self, Token};
-use crate::tree::Line;
+use crate::tree::{Curve, Line};
 
 /// Bytes that set text may have.
 pub const TEXT: usize = 4096;
@@ -18,11 +18,15 @@ pub struct Refusal {
     pub line: usize,
 }
 
-/// A line of the text that passed its own checks.
+/// The lines of the text that passed their own checks.
+#[derive(Default)]
 struct Taken {
-    place: usize,
-    tokens: Vec<Token>,
-    line: Line,
+    curves: Vec<Curve>,
+    curve_tokens: Vec<Vec<Token>>,
+    lines: Vec<Line>,
+    line_tokens: Vec<Vec<Token>>,
+    /// Where the numbered lines stand in the text.
+    places: Vec<usize>,
 }
 
 pub fn load(text: &[u8], slip: Slip) -> Result<Set, Refusal> {
@@ -33,14 +37,18 @@ pub fn load(text: &[u8], slip: Slip) -> Result<Set, Refusal> {
     if lines.len() > LINES {
         return Err(Refusal { code: Code::TooManyLines, line: 0 });
     }
+    let mut taken = Taken::default();
+    let refused: Vec<Refusal> =
+        lines.iter().filter_map(|(place, line)| taken.refusal(*place, line, slip)).collect();
     if slip == Slip::TwelveBeforeFive {
-        let sound: Vec<Taken> = lines.iter().filter_map(|(place, line)| take(*place, line).ok()).collect();
-        locks_name_lines(&sound)?;
+        taken.locks_name_lines()?;
     }
-    let taken = take_all(&lines)?;
-    locks_name_lines(&taken)?;
-    let tokens: Vec<Vec<Token>> = taken.into_iter().map(|line| line.tokens).collect();
-    Ok(Set::new(&tokens, slip != Slip::TextOrder))
+    if let Some(first) = refused.first() {
+        return Err(*first);
+    }
+    taken.locks_name_lines()?;
+    taken.curves_are_defined()?;
+    Ok(Set::new(&taken.curve_tokens, &taken.line_tokens, slip != Slip::TextOrder))
 }
 
 /// The lines that hold more than spaces and comment, each with its number in the text.
@@ -49,29 +57,55 @@ fn lines_with_tokens(text: &[u8]) -> Vec<(usize, &[u8])> {
     (1..).zip(bare).filter(|(_, line)| line.iter().any(|byte| *byte != b' ')).collect()
 }
 
-/// The lines up to the first faulty one, which is the refusal.
-fn take_all(lines: &[(usize, &[u8])]) -> Result<Vec<Taken>, Refusal> {
-    let mut taken: Vec<Taken> = Vec::new();
-    for (place, line) in lines {
-        let next = take(*place, line).map_err(|code| Refusal { code, line: *place })?;
-        if taken.iter().any(|above| above.line.number == next.line.number) {
-            return Err(Refusal { code: Code::NumberUsedAbove, line: *place });
-        }
-        taken.push(next);
+impl Taken {
+    /// Takes the line below those taken before, or says why it is refused.
+    fn refusal(&mut self, place: usize, line: &[u8], slip: Slip) -> Option<Refusal> {
+        self.take(place, line, slip).err().map(|code| Refusal { code, line: place })
     }
-    Ok(taken)
-}
 
-fn take(place: usize, line: &[u8]) -> Result<Taken, Code> {
-    let tokens = token::tokens(line).ok_or(Code::NoToken)?;
-    let line = check::line(&tokens)?;
-    Ok(Taken { place, tokens, line })
-}
+    fn take(&mut self, place: usize, line: &[u8], slip: Slip) -> Result<(), Code> {
+        let tokens = token::tokens(line).ok_or(Code::NoToken)?;
+        match tokens.first() {
+            Some(Token::Fctdef) => self.take_curve(tokens),
+            _ => self.take_line(place, tokens, slip),
+        }
+    }
 
-/// Every LOCK and UNLOCK names one of these lines.
-fn locks_name_lines(taken: &[Taken]) -> Result<(), Refusal> {
-    match lock_of_no_line(taken.iter().map(|taken| &taken.line)) {
-        Some(first) => Err(Refusal { code: Code::LockOfNoLine, line: taken[first].place }),
-        None => Ok(()),
+    fn take_curve(&mut self, tokens: Vec<Token>) -> Result<(), Code> {
+        let curve = check::curve(&tokens, !self.lines.is_empty())?;
+        check::curve_allowed(&curve, &self.curves)?;
+        self.curves.push(curve);
+        self.curve_tokens.push(tokens);
+        Ok(())
+    }
+
+    fn take_line(&mut self, place: usize, tokens: Vec<Token>, slip: Slip) -> Result<(), Code> {
+        let line = check::line(&tokens)?;
+        if self.lines.iter().any(|above| above.number == line.number) {
+            return Err(Code::NumberUsedAbove);
+        }
+        if slip != Slip::UndefinedAfterTwelve {
+            check::curves_used(&line, &self.curves)?;
+        }
+        self.lines.push(line);
+        self.line_tokens.push(tokens);
+        self.places.push(place);
+        Ok(())
+    }
+
+    /// Every LOCK and UNLOCK names one of these lines.
+    fn locks_name_lines(&self) -> Result<(), Refusal> {
+        match lock_of_no_line(self.lines.iter()) {
+            Some(first) => Err(Refusal { code: Code::LockOfNoLine, line: self.places[first] }),
+            None => Ok(()),
+        }
+    }
+
+    /// Every SYNFCT uses one of these curves. Each line is asked for it in its place; only a slip asks here first.
+    fn curves_are_defined(&self) -> Result<(), Refusal> {
+        for (line, place) in self.lines.iter().zip(&self.places) {
+            check::curves_used(line, &self.curves).map_err(|code| Refusal { code, line: *place })?;
+        }
+        Ok(())
     }
 }

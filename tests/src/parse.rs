@@ -1,12 +1,17 @@
 //! The parser: tokens of one line to its tree. None everywhere means: not in the grammar (code 5).
 
 use crate::token::{Keyword, Name, Number, Scope, Token};
-use crate::tree::{Action, Expression, Line, Variable};
-use crate::value::{Arithmetic, UNIT};
+use crate::tree::{Action, Curve, Expression, Line, Synfct, Variable};
+use crate::value::{Arithmetic, Value, UNIT};
 
-/// The tree of a line. Brackets are at most eight deep here: code 4 is looked for before.
+/// The tree of a numbered line. Brackets are at most eight deep here: code 4 is looked for before.
 pub fn line(tokens: &[Token]) -> Option<Line> {
     Parser { rest: tokens }.line()
+}
+
+/// The curve of an FCTDEF line.
+pub fn curve(tokens: &[Token]) -> Option<Curve> {
+    Parser { rest: tokens }.curve()
 }
 
 struct Parser<'a> {
@@ -28,6 +33,33 @@ impl Parser<'_> {
             actions.push(self.action()?);
         }
         Some(Line { scope, number, condition, actions })
+    }
+
+    /// FCTDEF with its number and six parameters, and nothing behind it.
+    fn curve(&mut self) -> Option<Curve> {
+        self.expect(Token::Fctdef)?;
+        self.expect(Token::Open)?;
+        let number = self.whole_number()?;
+        let mut parameters = [0; 6];
+        for parameter in &mut parameters {
+            self.expect(Token::Comma)?;
+            *parameter = self.parameter()?;
+        }
+        self.expect(Token::Close)?;
+        let [lower, upper, factors @ ..] = parameters;
+        self.rest.is_empty().then_some(Curve { number, lower, upper, factors })
+    }
+
+    /// A number with an optional minus.
+    fn parameter(&mut self) -> Option<Value> {
+        match self.next()? {
+            Token::Number(number) => Some(number.value),
+            Token::Arithmetic(Arithmetic::Minus) => match self.next()? {
+                Token::Number(number) => Some(-number.value),
+                _ => None,
+            },
+            _ => None,
+        }
     }
 
     fn scope(&mut self) -> Option<Scope> {
@@ -64,6 +96,7 @@ impl Parser<'_> {
             Token::Setal => Some(Action::Setal(self.argument()?)),
             Token::Lock => Some(Action::Lock(self.argument()?)),
             Token::Unlock => Some(Action::Unlock(self.argument()?)),
+            Token::Synfct => Some(Action::Synfct(self.synfct()?)),
             _ => None,
         }
     }
@@ -78,6 +111,18 @@ impl Parser<'_> {
         let number = self.whole_number()?;
         self.expect(Token::Close)?;
         Some(number)
+    }
+
+    /// The number, target and source of a SYNFCT.
+    fn synfct(&mut self) -> Option<Synfct> {
+        self.expect(Token::Open)?;
+        let curve = self.whole_number()?;
+        self.expect(Token::Comma)?;
+        let target = self.named_variable()?;
+        self.expect(Token::Comma)?;
+        let source = self.named_variable()?;
+        self.expect(Token::Close)?;
+        Some(Synfct { curve, target, source })
     }
 
     fn expression(&mut self) -> Option<Expression> {
@@ -142,6 +187,13 @@ impl Parser<'_> {
             }
             _ => return None,
         })
+    }
+
+    fn named_variable(&mut self) -> Option<Variable> {
+        match self.next()? {
+            Token::Variable(name) => self.variable(name),
+            _ => None,
+        }
     }
 
     /// The variable whose name has just been read.

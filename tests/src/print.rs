@@ -1,4 +1,5 @@
-//! The print of a set: its lines by rising number, LF between them, as short as they read the same.
+//! The print of a set: its FCTDEF lines and then its numbered lines, each by rising number, LF between them, as short as
+//! they read the same.
 
 use crate::code::Code;
 use crate::set::Set;
@@ -12,8 +13,9 @@ pub const BUFFER: usize = 4096;
 /// The print, or code 22 if the set is not sound.
 pub fn print(set: &Set, slip: Slip) -> Result<Vec<u8>, Code> {
     set.lines()?;
-    let lines: Vec<Vec<u8>> = set.turns().iter().map(|rank| line(&set.written()[*rank], slip)).collect();
-    let mut print = lines.join(&b'\n');
+    let lines = set.turns().iter().map(|rank| &set.written()[*rank]);
+    let printed: Vec<Vec<u8>> = set.written_curves().iter().chain(lines).map(|one| line(one, slip)).collect();
+    let mut print = printed.join(&b'\n');
     if slip == Slip::PrintEndsInLf {
         print.push(b'\n');
     }

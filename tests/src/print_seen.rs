@@ -18,7 +18,7 @@ pub struct Printed<'a> {
 }
 
 /// What is counted, and when it is there.
-pub const PATHS: [(&str, fn(&Printed) -> bool); 20] = [
+pub const PATHS: [(&str, fn(&Printed) -> bool); 24] = [
     ("zeros before", |seen| seen.any_number(|whole, _| whole.len() > 1 && whole[0] == b'0')),
     ("zeros behind", |seen| seen.any_number(|_, places| places.ends_with(b"0") && !is_zero(places))),
     ("point dropped", |seen| seen.any_number(|_, places| !places.is_empty() && is_zero(places))),
@@ -35,7 +35,11 @@ pub const PATHS: [(&str, fn(&Printed) -> bool); 20] = [
     ("sign, word", |seen| seen.meets(Sort::Sign, Sort::Word)),
     ("spaces dropped", |seen| spaces(seen.print) < spaces(seen.text)),
     ("comment dropped", |seen| seen.text.contains(&b';')),
-    ("lines in another order", |seen| !in_order(&seen.written)),
+    ("lines in another order", |seen| !in_order(seen.lines(false))),
+    ("curves", |seen| seen.lines(true).next().is_some()),
+    ("curves in another order", |seen| !in_order(seen.lines(true))),
+    ("curves alone", |seen| !seen.print.is_empty() && seen.lines(false).next().is_none()),
+    ("parameter -0", |seen| seen.lines(true).any(|line| line.windows(2).any(is_minus_0))),
     ("text of the most bytes", |seen| seen.text.len() == TEXT),
     ("print of the most bytes", |seen| seen.print.len() == TEXT),
     ("nothing", |seen| seen.print.is_empty()),
@@ -61,6 +65,11 @@ impl<'a> Printed<'a> {
     fn any_number(&self, holds: impl Fn(&[u8], &[u8]) -> bool) -> bool {
         let numbers = self.written.iter().flatten().filter(|(token, _)| matches!(token, Token::Number(_)));
         numbers.map(|(_, bytes)| split_at_point(bytes)).any(|(whole, places)| holds(whole, places))
+    }
+
+    /// The FCTDEF lines of the text, or its numbered lines.
+    fn lines(&self, curves: bool) -> impl Iterator<Item = &Pieces<'a>> {
+        self.written.iter().filter(move |line| (line[0].0 == Token::Fctdef) == curves)
     }
 
     fn printed_has(&self, holds: impl Fn(&[u8]) -> bool) -> bool {
@@ -123,9 +132,12 @@ fn spaces(text: &[u8]) -> usize {
 }
 
 /// The numbers of the lines rise.
-fn in_order(lines: &[Pieces]) -> bool {
-    let numbers = lines.iter().filter_map(|line| line.iter().find_map(|(token, _)| number(token)));
-    numbers.is_sorted()
+fn in_order<'a>(lines: impl Iterator<Item = &'a Pieces<'a>>) -> bool {
+    lines.filter_map(|line| line.iter().find_map(|(token, _)| number(token))).is_sorted()
+}
+
+fn is_minus_0(pair: &[(Token, &[u8])]) -> bool {
+    pair[0].0 == MINUS && number(&pair[1].0) == Some(0)
 }
 
 fn number(token: &Token) -> Option<i64> {

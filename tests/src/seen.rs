@@ -1,6 +1,7 @@
 //! Counts of what happened in the beats, for the coverage report. Counting is off unless asked for.
 
 use crate::beat::Turn;
+use crate::code::Code;
 use crate::token::{Keyword, Name};
 use crate::tree::{Line, Variable};
 use crate::witness::Witness;
@@ -17,6 +18,17 @@ const EVENTS: [&str; 42] = [
     "lock later line", "lock earlier line", "unlock cancelled", "lock cancelled", "marker from 0.499",
     "marker from 0.500", "marker from 0.501", "marker from -0.499", "marker from -0.500",
     "marker from -0.501", "marker to the top", "marker to the bottom",
+];
+/// What is counted of SYNFCT.
+const CURVE_EVENTS: [&str; 33] = [
+    "SYNFCT from $A_IN", "SYNFCT from $A_INA", "SYNFCT from $AA_IM", "SYNFCT from $A_OUT",
+    "SYNFCT from $AC_MARKER", "SYNFCT from $AC_PARAM", "SYNFCT from $R", "SYNFCT from $R run",
+    "SYNFCT from $AC_TIMER", "SYNFCT from $AC_FIFO[1]", "SYNFCT from $AC_FIFO[2]", "SYNFCT from $AC_FIFO[3]",
+    "SYNFCT from $AC_FIFO[4]", "SYNFCT to $A_OUT", "SYNFCT to $AC_MARKER", "SYNFCT to $AC_PARAM",
+    "SYNFCT to $R", "SYNFCT to $AC_TIMER", "SYNFCT to $AC_FIFO[0]", "SYNFCT to $AC_FIFO[4]",
+    "SYNFCT read 30", "SYNFCT read 32", "SYNFCT step 1", "SYNFCT step 2", "SYNFCT step 3", "SYNFCT step 4",
+    "SYNFCT step 5", "SYNFCT step 6", "SYNFCT at the lower limit", "SYNFCT at the upper limit",
+    "SYNFCT within", "SYNFCT write 33", "SYNFCT write 34",
 ];
 /// What is counted for each keyword; the bare word is for lines without.
 const BY_KEYWORD: [(&str, &[&str]); 8] = [
@@ -43,7 +55,7 @@ impl Seen {
     pub fn counting() -> Seen {
         let by_keyword =
             BY_KEYWORD.iter().flat_map(|(way, words)| words.iter().map(move |word| [way, *word].concat()));
-        let names = EVENTS.iter().map(|name| name.to_string()).chain(by_keyword);
+        let names = EVENTS.iter().chain(&CURVE_EVENTS).map(|name| name.to_string()).chain(by_keyword);
         Seen { counts: Some(names.map(|name| (name, 0)).collect()), ..Seen::default() }
     }
 
@@ -68,6 +80,24 @@ impl Seen {
         if self.counts.is_some() && (499..=501).contains(&thousandths.abs()) {
             let sign = if thousandths < 0 { "-" } else { "" };
             self.note(&format!("marker from {sign}0.{}", thousandths.abs()));
+        }
+    }
+
+    /// Notes what a SYNFCT reads, or the alarm that this raises.
+    pub fn synfct_read(&mut self, source: Variable, read: Result<i64, Code>) {
+        self.synfct("from", "read", source, read.err());
+    }
+
+    /// Notes what a SYNFCT writes, or the alarm that this raises.
+    pub fn synfct_write(&mut self, target: Variable, written: Result<(), Code>) {
+        self.synfct("to", "write", target, written.err());
+    }
+
+    fn synfct(&mut self, way: &str, work: &str, variable: Variable, alarm: Option<Code>) {
+        match alarm {
+            _ if self.counts.is_none() => {}
+            None => self.note(&format!("SYNFCT {way} {}", label(variable))),
+            Some(code) => self.note(&format!("SYNFCT {work} {}", code.number())),
         }
     }
 

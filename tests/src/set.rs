@@ -1,37 +1,37 @@
-//! The loaded set: its lines as written, by rising number, and the trees worked from them.
+//! The loaded set: its FCTDEF lines and its numbered lines as written, each by rising number, and the trees worked from them.
 
 use crate::check;
 use crate::code::Code;
 use crate::token::{Number, Scope, Token};
-use crate::tree::Line;
+use crate::tree::{Curve, Line};
 
-/// Lines that a set may have.
+/// Lines that a set may have, FCTDEF lines among them.
 pub const LINES: usize = 32;
 
-/// Tokens of a written line before its keyword or DO: ID or IDS, `=`, number.
+/// Tokens of a written line before its keyword or DO: ID or IDS, `=`, number. An FCTDEF line's number is its third token too.
 pub const HEAD: usize = 3;
 
 #[derive(Clone, Default)]
 pub struct Set {
-    /// Each line's tokens, numbers in plain form.
+    /// Each FCTDEF line's tokens, numbers in plain form.
+    written_curves: Vec<Vec<Token>>,
+    /// Each numbered line's tokens, numbers in plain form.
     written: Vec<Vec<Token>>,
-    /// The number of lines; other than `written.len()` only by damage.
+    /// The number of numbered lines; other than `written.len()` only by damage.
     count: usize,
-    /// The lines by rank, None if the set is not sound.
-    lines: Option<Vec<Line>>,
+    /// The curves, and the lines by rank, None if the set is not sound.
+    trees: Option<(Vec<Curve>, Vec<Line>)>,
     /// The ranks in the order of their turns.
     turns: Vec<usize>,
 }
 
 impl Set {
     /// The set of these lines, which have passed loading. `by_number` is false only in a slip.
-    pub fn new(lines: &[Vec<Token>], by_number: bool) -> Set {
-        let plain = |line: &Vec<Token>| line.iter().map(|token| plain(*token)).collect();
-        let mut written: Vec<Vec<Token>> = lines.iter().map(plain).collect();
-        written.sort_by_key(|line| number(line));
+    pub fn new(curves: &[Vec<Token>], lines: &[Vec<Token>], by_number: bool) -> Set {
+        let (written_curves, written) = (stored(curves), stored(lines));
         let rank_of = |line: &Vec<Token>| written.iter().position(|other| number(other) == number(line));
         let turns: Vec<usize> = lines.iter().filter_map(rank_of).collect();
-        let mut set = Set { count: written.len(), written, ..Set::default() };
+        let mut set = Set { written_curves, count: written.len(), written, ..Set::default() };
         set.examine();
         if !by_number {
             set.turns = turns;
@@ -41,49 +41,94 @@ impl Set {
 
     /// The lines by rank, or code 22.
     pub fn lines(&self) -> Result<&[Line], Code> {
-        self.lines.as_deref().ok_or(Code::NotSound)
+        let (_, lines) = self.trees.as_ref().ok_or(Code::NotSound)?;
+        Ok(lines)
+    }
+
+    /// The curves by rising number, or code 22.
+    pub fn curves(&self) -> Result<&[Curve], Code> {
+        let (curves, _) = self.trees.as_ref().ok_or(Code::NotSound)?;
+        Ok(curves)
     }
 
     pub fn turns(&self) -> &[usize] {
         &self.turns
     }
 
-    /// The number of lines that the set says it has.
+    /// The number of numbered lines that the set says it has.
     pub fn count(&self) -> usize {
         self.count
     }
 
-    /// The lines as written, those past `count` among them.
+    /// The numbered lines as written, those past `count` among them.
     pub fn written(&self) -> &[Vec<Token>] {
         &self.written
     }
 
-    /// Both hold the same lines as written.
-    pub fn is_same(&self, other: &Set) -> bool {
-        self.written == other.written && self.count == other.count
+    /// The FCTDEF lines as written.
+    pub fn written_curves(&self) -> &[Vec<Token>] {
+        &self.written_curves
     }
 
-    /// Damages the set by `change` and looks anew whether it is sound.
+    /// Both hold the same lines as written.
+    pub fn is_same(&self, other: &Set) -> bool {
+        let same_lines = self.written == other.written && self.count == other.count;
+        same_lines && self.written_curves == other.written_curves
+    }
+
+    /// Damages the numbered lines by `change` and looks anew whether the set is sound.
     pub fn damage(&mut self, change: impl FnOnce(&mut Vec<Vec<Token>>, &mut usize)) {
         change(&mut self.written, &mut self.count);
         self.examine();
     }
 
+    /// Damages the FCTDEF lines.
+    pub fn damage_curves(&mut self, change: impl FnOnce(&mut Vec<Vec<Token>>)) {
+        change(&mut self.written_curves);
+        self.examine();
+    }
+
     fn examine(&mut self) {
-        self.lines = self.sound_lines();
+        self.trees = self.sound_trees();
         self.turns = (0..self.count.min(LINES)).collect();
     }
 
-    /// The lines, if each passes the checks from 4 on, numbers rise, and LOCK and UNLOCK name lines of the set.
-    fn sound_lines(&self) -> Option<Vec<Line>> {
-        if self.count > LINES {
+    /// The curves and lines, if they are few enough, each passes the checks from 4 on, numbers rise, and LOCK, UNLOCK
+    /// and SYNFCT name what is in the set.
+    fn sound_trees(&self) -> Option<(Vec<Curve>, Vec<Line>)> {
+        if self.written_curves.len() + self.count > LINES {
             return None;
         }
+        let curves = self.sound_curves()?;
+        let lines = self.sound_lines()?;
+        let used = lines.iter().all(|line| check::curves_used(line, &curves).is_ok());
+        used.then_some((curves, lines))
+    }
+
+    fn sound_curves(&self) -> Option<Vec<Curve>> {
+        let mut curves: Vec<Curve> = Vec::new();
+        for written in &self.written_curves {
+            let next = check::curve(written, false).ok()?;
+            check::curve_allowed(&next, &curves).ok()?;
+            curves.push(next);
+        }
+        curves.is_sorted_by_key(|curve| curve.number).then_some(curves)
+    }
+
+    fn sound_lines(&self) -> Option<Vec<Line>> {
         let written = self.written.get(..self.count)?;
         let lines: Vec<Line> = written.iter().map(|line| check::line(line)).collect::<Result<_, _>>().ok()?;
         let rising = lines.windows(2).all(|pair| pair[0].number < pair[1].number);
         (rising && lock_of_no_line(lines.iter()).is_none()).then_some(lines)
     }
+}
+
+/// These lines as a set stores them: numbers in plain form, by rising number.
+fn stored(lines: &[Vec<Token>]) -> Vec<Vec<Token>> {
+    let plain = |line: &Vec<Token>| line.iter().map(|token| plain(*token)).collect();
+    let mut written: Vec<Vec<Token>> = lines.iter().map(plain).collect();
+    written.sort_by_key(|line| number(line));
+    written
 }
 
 /// The place among `lines` of the first one with a LOCK or UNLOCK of a number that none of them has.

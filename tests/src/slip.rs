@@ -29,6 +29,12 @@ pub enum Slip {
     MarkersCut,
     /// A half written to a marker goes up, also below zero.
     MarkerHalvesUp,
+    /// A curve is worked without its limits.
+    CurveUnlimited,
+    /// A curve is worked exactly, and its result cut and ranged once.
+    CurveWorkedWhole,
+    /// Code 13 of a SYNFCT is looked for after code 12.
+    UndefinedAfterTwelve,
     /// A print keeps zeros at the end of a fraction.
     PrintKeepsZeros,
     /// A print has a space between a word or number and a variable.
@@ -49,7 +55,7 @@ pub enum Slip {
 
 impl Slip {
     /// In what the control prints.
-    pub const PRINTED: [Slip; 15] = [
+    pub const PRINTED: [Slip; 18] = [
         Slip::EveryByLevel,
         Slip::MemoryClearedAtUnlock,
         Slip::MemoryClearedAtSkip,
@@ -61,6 +67,9 @@ impl Slip {
         Slip::TwelveBeforeFive,
         Slip::MarkersCut,
         Slip::MarkerHalvesUp,
+        Slip::CurveUnlimited,
+        Slip::CurveWorkedWhole,
+        Slip::UndefinedAfterTwelve,
         Slip::PrintKeepsZeros,
         Slip::PrintSpacesDollar,
         Slip::PrintShortensChains,
@@ -84,8 +93,12 @@ impl Slip {
         match form {
             Form::Synrun => !self.is_in_prints() && self != Slip::MemoryKeptAtReset,
             Form::Host | Form::Long => !self.is_in_prints(),
-            Form::Print => self.is_in_prints() || [Slip::TextOrder, Slip::TwelveBeforeFive].contains(&self),
+            Form::Print => self.is_in_prints() || self.is_in_loading(),
         }
+    }
+
+    fn is_in_loading(self) -> bool {
+        [Slip::TextOrder, Slip::TwelveBeforeFive, Slip::UndefinedAfterTwelve].contains(&self)
     }
 
     fn is_in_prints(self) -> bool {

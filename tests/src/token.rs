@@ -90,6 +90,8 @@ pub enum Token {
     Setal,
     Lock,
     Unlock,
+    Fctdef,
+    Synfct,
     Truth(bool),
     Not,
     Joint(Joint),
@@ -101,10 +103,11 @@ pub enum Token {
     Close,
     OpenIndex,
     CloseIndex,
+    Comma,
 }
 
 /// Every word that is a token.
-pub const WORDS: [(&str, Token); 38] = [
+pub const WORDS: [(&str, Token); 40] = [
     ("ID", Token::Scope(Scope::Id)),
     ("IDS", Token::Scope(Scope::Ids)),
     ("WHEN", Token::Keyword(Keyword::When)),
@@ -137,6 +140,8 @@ pub const WORDS: [(&str, Token); 38] = [
     ("SETAL", Token::Setal),
     ("LOCK", Token::Lock),
     ("UNLOCK", Token::Unlock),
+    ("FCTDEF", Token::Fctdef),
+    ("SYNFCT", Token::Synfct),
     ("TRUE", Token::Truth(true)),
     ("FALSE", Token::Truth(false)),
     ("NOT", Token::Not),
@@ -146,7 +151,7 @@ pub const WORDS: [(&str, Token); 38] = [
 ];
 
 /// Every sign that is a token, a longer one before its beginning.
-pub const SIGNS: [(&str, Token); 15] = [
+pub const SIGNS: [(&str, Token); 16] = [
     ("==", Token::Comparison(Comparison::Equal)),
     ("<>", Token::Comparison(Comparison::Unequal)),
     ("<=", Token::Comparison(Comparison::AtMost)),
@@ -162,6 +167,7 @@ pub const SIGNS: [(&str, Token); 15] = [
     (")", Token::Close),
     ("[", Token::OpenIndex),
     ("]", Token::CloseIndex),
+    (",", Token::Comma),
 ];
 
 /// The tokens of a line without its comment, or None if a byte or word makes no token.

@@ -1,4 +1,4 @@
-//! The tree of a line: its condition and actions.
+//! The tree of a line: its condition and actions, or the curve that it defines.
 
 use crate::token::{Comparison, Joint, Keyword, Motion, Name, Scope};
 use crate::value::{Arithmetic, Value};
@@ -33,6 +33,25 @@ pub enum Action {
     Setal(i64),
     Lock(i64),
     Unlock(i64),
+    Synfct(Synfct),
+}
+
+/// SYNFCT: the curve of this number, worked on the source, goes to the target.
+#[derive(Clone, Copy, Debug)]
+pub struct Synfct {
+    pub curve: i64,
+    pub target: Variable,
+    pub source: Variable,
+}
+
+/// What an FCTDEF line defines: a polynomial with its limits.
+#[derive(Clone, Copy, Debug)]
+pub struct Curve {
+    pub number: i64,
+    pub lower: Value,
+    pub upper: Value,
+    /// a0 to a3.
+    pub factors: [Value; 4],
 }
 
 #[derive(Clone, Debug)]
@@ -75,6 +94,14 @@ impl Expression {
 impl Line {
     pub fn keyword(&self) -> Option<Keyword> {
         self.condition.as_ref().map(|(keyword, _)| *keyword)
+    }
+
+    /// The SYNFCT actions of this line.
+    pub fn synfcts(&self) -> impl Iterator<Item = Synfct> + '_ {
+        self.actions.iter().filter_map(|action| match action {
+            Action::Synfct(synfct) => Some(*synfct),
+            _ => None,
+        })
     }
 
     /// The line numbers that LOCK and UNLOCK of this line name.

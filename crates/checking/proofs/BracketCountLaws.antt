@@ -8,11 +8,12 @@ use lib.Dec.{eqb}
 use lib.ListN.{drop, getD}
 use borrow.Author.Tests.{eqb-true, leb-true}
 use Rattle.values.specs.Choice.{both}
-use Rattle.tokens.specs.Token.{ID, IDS, isId, EQUALS, OPEN, CLOSE, MINUS, LEFT, RIGHT, X, W, NUMBER, hasAxis, isAxis, isWhole, between}
+use Rattle.tokens.specs.Token.{ID, IDS, isId, EQUALS, OPEN, CLOSE, COMMA, MINUS, LEFT, RIGHT, IN, IM, X, W, NUMBER, isVariable, hasAxis, isAxis, isWhole, between}
 use Rattle.tokens.specs.Descent.{isIndex, isIndexed}
 use Rattle.tokens.specs.SingleFault.{bracketsOpen, opensTooMany}
 use Rattle.tokens.specs.BetweenLaws.{inside, lies-inside}
 use Rattle.tokens.specs.BracketLaws.{bracket-open, bracket-close, bracket-other}
+use Rattle.checking.specs.Fault.{isGiven, isSynfct}
 use Rattle.checking.specs.SightNumber.{nextOf, depthOf, signsBehind}
 use Rattle.checking.specs.Brackets.{NoBracket, CountsOn, InGrammar, Counted, Onward, InBrackets, SameEnd, Joined}
 
@@ -102,6 +103,37 @@ module _ (s : List ℕ) where
       let i : p + 2 ≡ p + 1 + 1 = omega arith in
       let j : p + 3 + 1 ≡ p + 4 = omega arith in
       rw j at (counts-brackets (p + 1) (p + 3) 1 (omega arith) o c (rw i at (counts-token (p + 2) (p + 3) refl (other-whole _ h) (omega arith))))
+
+  -- , and a variable with its index
+  pub counts-given : (p : ℕ) → isGiven s p ≡ true → CountsOn s p 0 (p + 5)
+  unfolding isGiven
+  counts-given p h =
+      let a = both (eqb (getD s p 0) COMMA) _ h in
+      let b = both (isVariable (getD s (p + 1) 0)) _ (a .1) in
+      let one : p + 1 + 1 ≡ p + 2 = omega arith in
+      let four : p + 1 + 4 ≡ p + 5 = omega arith in
+      let comma = counts-token p (p + 1) (sym (eqb-true _ _ (a .0))) (other-above COMMA (omega arith)) refl in
+      let word = counts-token (p + 1) (p + 2) refl (other-high IN IM (getD s (p + 1) 0) (omega arith) refl (b .0)) (omega arith) in
+      let index = rw (one, four) at (counts-index (getD s (p + 1) 0) (p + 1) (b .1)) in
+      counts-then p (p + 1) (p + 5) 0 (omega arith) (omega arith) comma (counts-then (p + 1) (p + 2) (p + 5) 0 (omega arith) (omega arith) word index)
+
+  -- what stands behind SYNFCT
+  pub counts-synfct : (p : ℕ) → isSynfct s p ≡ true → CountsOn s (p + 1) 1 (p + 14)
+  unfolding isSynfct
+  counts-synfct p h =
+      let a = both (eqb (getD s (p + 1) 0) OPEN) _ h in
+      let b = both (isWhole (getD s (p + 2) 0)) _ (a .1) in
+      let c = both (isGiven s (p + 3)) _ (b .1) in
+      let d = both (isGiven s (p + 8)) _ (c .1) in
+      let two : p + 2 ≡ p + 1 + 1 = omega arith in
+      let eight : p + 3 + 5 ≡ p + 8 = omega arith in
+      let thirteen : p + 8 + 5 ≡ p + 13 = omega arith in
+      let behind : p + 13 + 1 ≡ p + 14 = omega arith in
+      let number = counts-token (p + 2) (p + 3) refl (other-whole _ (b .0)) (omega arith) in
+      let target = rw eight at (counts-given (p + 3) (c .0)) in
+      let variable = rw thirteen at (counts-given (p + 8) (d .0)) in
+      let inner = counts-then (p + 2) (p + 3) (p + 13) 0 (omega arith) (omega arith) number (counts-then (p + 3) (p + 8) (p + 13) 0 (omega arith) (omega arith) target variable) in
+      rw behind at (counts-brackets (p + 1) (p + 13) 1 (omega arith) (eqb-true _ _ (a .0)) (eqb-true _ _ (d .1)) (rw two at inner))
 
   -- ---- what was read
 

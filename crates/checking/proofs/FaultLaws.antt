@@ -9,10 +9,10 @@ use lib.ListN.{getD, drop}
 use borrow.Author.Tests.{not-true, not-false, eq-eqb, ne-eqb}
 use Rattle.values.specs.Codes.{tooDeep, notInGrammar}
 use Rattle.checking.specs.declared.line.Line.{Line}
-use Rattle.tokens.specs.Token.{setSize, FIFO1, FIFO4, END, EQUALS, OPEN, CLOSE, IDS, DO, M, isArithmetic, isFifo, isCall, isNaming, isKeyword, isWhole, whole}
+use Rattle.tokens.specs.Token.{setSize, FIFO1, FIFO4, END, EQUALS, OPEN, CLOSE, COMMA, IDS, DO, M, SYNFCT, isArithmetic, isVariable, isFifo, isCall, isNaming, isKeyword, isWhole, whole}
 use Rattle.tokens.specs.Descent.{Read, read, ends, then, isIndexed, indexAt, expressionAt}
-use Rattle.checking.specs.Fault.{sight, faultFor, isRemoval, assignmentAt, commandAt, actionAt, countFault, actionsAt, namesFrom, numberOf, faultyLine, judged, lineParts, bodyAt, restAt}
-use Rattle.tokens.specs.SingleFault.{lower, codeFault, callFault, opensTooMany}
+use Rattle.checking.specs.Fault.{sight, faultFor, isRemoval, assignmentAt, commandAt, isGiven, isSynfct, synfctFault, synfctAt, unindexedAt, actionAt, countFault, actionsAt, namesFrom, numberOf, faultyLine, judged, lineParts, bodyAt, restAt}
+use Rattle.tokens.specs.SingleFault.{lower, codeFault, callFault, curveFault, readFault, writeFault, opensTooMany}
 use Rattle.values.specs.Choice.{both, chosen, refused}
 use Rattle.tokens.specs.BetweenLaws.{tested}
 use Rattle.checking.specs.SightNumber.{nextOf, truthOf, faultOf, faulted, Noted, bodyFrom}
@@ -75,21 +75,55 @@ command-none s kw p = go (isWhole (getD s (p + 2) 0)) refl
     go true h = simp (commandAt, h)
     go false h = simp (commandAt, h)
 
+-- SYNFCT: a , and a variable with its index; and all that stands behind the word at p
+pub given : (s : List ℕ) (p t w : ℕ) → t ≡ getD s p 0 → w ≡ getD s (p + 1) 0 → eqb t COMMA && (isVariable w && isIndexed s w (p + 1)) ≡ isGiven s p
+unfolding isGiven
+given s p t w e f = rw (e, f)
+
+pub behind-synfct : (s : List ℕ) (p t n u : ℕ) → t ≡ getD s (p + 1) 0 → n ≡ getD s (p + 2) 0 → u ≡ getD s (p + 13) 0 → eqb t OPEN && (isWhole n && (isGiven s (p + 3) && (isGiven s (p + 8) && eqb u CLOSE))) ≡ isSynfct s p
+unfolding isSynfct
+behind-synfct s p t n u e f g = rw (e, f, g)
+
+-- its faults, one by one
+pub synfct-faults : (s : List ℕ) (p : ℕ) {t n f w i g v j h k x : ℕ} → t ≡ getD s (p + 2) 0 → n ≡ whole t → f ≡ curveFault n → w ≡ getD s (p + 4) 0 → i ≡ indexAt s w (p + 4) → g ≡ writeFault w i →
+    v ≡ getD s (p + 9) 0 → j ≡ indexAt s v (p + 9) → h ≡ readFault v j → k ≡ lower g h → x ≡ lower f k → x ≡ synfctFault s p
+unfolding synfctFault
+synfct-faults s p t n f w i g v j h k x = rw (x, k, f, n, t, g, i, w, h, j, v)
+
+module _ (s : List ℕ) (p : ℕ) where
+  pub synfct-none : isSynfct s p ≡ false → ends notInGrammar ≡ synfctAt s p
+  unfolding synfctAt
+  synfct-none h = sym (simp (synfctAt, h))
+
+  pub synfct-read : isSynfct s p ≡ true → read (synfctFault s p) (p + 14) ≡ synfctAt s p
+  unfolding synfctAt
+  synfct-read h = sym (simp (synfctAt, h))
+
+  -- the word w at p has no index behind it
+  module _ (kw w : ℕ) where
+    pub word-synfct : w ≡ SYNFCT → synfctAt s p ≡ unindexedAt s kw w p
+    unfolding unindexedAt
+    word-synfct e = sym (simp (unindexedAt, eq-eqb _ _ e))
+
+    pub word-command : (w ≡ SYNFCT → ⊥) → commandAt s kw w p ≡ unindexedAt s kw w p
+    unfolding unindexedAt
+    word-command ne = sym (simp (unindexedAt, ne-eqb _ _ ne))
+
 -- no action begins with the line's end
 pub no-action : (s : List ℕ) (kw k p : ℕ) → getD s p 0 ≡ END → actionAt s kw k p ≡ ends notInGrammar
-unfolding actionAt assignmentAt
+unfolding actionAt assignmentAt unindexedAt
 no-action s kw k p e = go (isIndexed s (getD s p 0) p) (eqb (getD s (p + 4) 0) EQUALS) refl refl
   where
     go : (a b : Bool) → isIndexed s (getD s p 0) p ≡ a → eqb (getD s (p + 4) 0) EQUALS ≡ b → actionAt s kw k p ≡ ends notInGrammar
     go true true h i = simp (actionAt, h, i) (ap (λ (w : ℕ). assignmentAt s k w p) e)
     go true false h i = simp (actionAt, h, i)
-    go false b h i = simp (actionAt, h) (ap (λ (w : ℕ). commandAt s kw w p) e ∙ command-none s kw p)
+    go false b h i = simp (actionAt, h) (ap (λ (w : ℕ). unindexedAt s kw w p) e ∙ command-none s kw p)
 
 -- an action, by its first token
 module _ (s : List ℕ) (kw k p w : ℕ) (e : w ≡ getD s p 0) where
-  pub action-command : isIndexed s w p ≡ false → commandAt s kw w p ≡ actionAt s kw k p
+  pub action-unindexed : isIndexed s w p ≡ false → unindexedAt s kw w p ≡ actionAt s kw k p
   unfolding actionAt
-  action-command h = rw e (sym (simp (actionAt, rw e at h)))
+  action-unindexed h = rw e (sym (simp (actionAt, rw e at h)))
 
   module _ (h : isIndexed s w p ≡ true) where
     pub action-wrong : (getD s (p + 4) 0 ≡ EQUALS → ⊥) → ends notInGrammar ≡ actionAt s kw k p

@@ -4,4 +4,5 @@ mod BracketCountLaws
 mod LevelLaws
 mod SumLaws
 mod FaultLaws
+mod DefinitionLaws
 mod SignLaws

@@ -6,9 +6,9 @@ use lib.Dec.{eqb, leb}
 use lib.ListN.{drop}
 use Rattle.values.specs.Codes.{tooDeep, notInGrammar, tooManyActions}
 use Rattle.checking.specs.declared.line.Line.{Line}
-use Rattle.tokens.specs.Token.{setSize, END, EQUALS, OPEN, CLOSE, IDS, DO, M, isVariable, isFifo, isDrive, isCall, isNaming, isKeyword, isId, isArithmetic, isLogic, isWhole, whole, maxActions}
+use Rattle.tokens.specs.Token.{setSize, END, EQUALS, OPEN, CLOSE, COMMA, IDS, DO, M, SYNFCT, isVariable, isFifo, isDrive, isCall, isNaming, isKeyword, isId, isArithmetic, isLogic, isWhole, whole, maxActions}
 use Rattle.tokens.specs.Descent.{token, good, Read, read, ends, then, Meaning, isIndexed, indexAt, sumAt, expressionAt}
-use Rattle.tokens.specs.SingleFault.{callFault, codeFault, idFault, lower, numberFault, opensTooMany, readFault, unless, wantingFault, writeFault}
+use Rattle.tokens.specs.SingleFault.{callFault, codeFault, curveFault, idFault, lower, numberFault, opensTooMany, readFault, unless, wantingFault, writeFault}
 
 -- ---- 5 to 8 in an expression
 
@@ -97,12 +97,35 @@ module _ (s : List ℕ) where
         | false ↦ ends notInGrammar
       ]
 
+  -- , and a variable with its index stand from p on
+  unfoldable pub isGiven : ℕ → Bool
+  isGiven p = eqb (token s p) COMMA && (isVariable (token s (p + 1)) && isIndexed s (token s (p + 1)) (p + 1))
+
+  -- behind the word at p: (, a whole number, a target and a variable, each behind a , and )
+  unfoldable pub isSynfct : ℕ → Bool
+  isSynfct p =
+      eqb (token s (p + 1)) OPEN && (isWhole (token s (p + 2)) && (isGiven (p + 3) && (isGiven (p + 8) && eqb (token s (p + 13)) CLOSE)))
+
+  -- of the curve's number, of the target that is written and of the variable that is read; FIFO [0] may not be read here (reading D20)
+  unfoldable pub synfctFault : ℕ → ℕ
+  synfctFault p =
+      lower (curveFault (whole (token s (p + 2))))
+      (lower (writeFault (token s (p + 4)) (indexAt s (token s (p + 4)) (p + 4))) (readFault (token s (p + 9)) (indexAt s (token s (p + 9)) (p + 9))))
+
+  -- SYNFCT at p, a curve's number, a target and a variable in brackets
+  unfoldable pub synfctAt : ℕ → Read ℕ
+  synfctAt p = elim (isSynfct p) [ true ↦ read (synfctFault p) (p + 14) | false ↦ ends notInGrammar ]
+
+  -- an action that begins with the word w at p, no index behind it
+  unfoldable pub unindexedAt : ℕ → ℕ → ℕ → Read ℕ
+  unindexedAt kw w p = elim (eqb w SYNFCT) [ true ↦ synfctAt p | false ↦ commandAt kw w p ]
+
   -- the action at p, of a line with the keyword kw: its lowest fault of 6 to 9
   unfoldable pub actionAt : ℕ → ℕ → ℕ → Read ℕ
   actionAt kw k p =
       elim (isIndexed s (token s p) p) [
         | true ↦ elim (eqb (token s (p + 4)) EQUALS) [ true ↦ assignmentAt k (token s p) p | false ↦ ends notInGrammar ]
-        | false ↦ commandAt kw (token s p) p
+        | false ↦ unindexedAt kw (token s p) p
       ]
 
   -- one or more actions up to the line's end, where n stand before them and f is the lowest fault so far: the lowest fault of 6 to 10
@@ -115,7 +138,7 @@ module _ (s : List ℕ) where
         | false ↦ actionsAt kw k j (n + 1) (lower f g) q
       ])
 
-  -- whether one of these actions names a line: LOCK or UNLOCK
+  -- whether one of these actions names a line or a curve: LOCK, UNLOCK or SYNFCT
   unfoldable pub namesFrom : ℕ → ℕ → ℕ → ℕ → Bool
   namesFrom kw k zero p = false
   namesFrom kw k (suc j) p =

@@ -52,7 +52,7 @@ faulted w = elim (eqb (nextOf w) 0) [ true ↦ ends notInGrammar | false ↦ rea
 abbrev pub signedSight : Bool → Sight → ℕ → Read Sight
 signedSight t a q = read (signed t a) q
 
--- x, which tells of the actions from p on under the keyword kw, tells too whether one of them names a line
+-- x, which tells of the actions from p on under the keyword kw, tells too whether one of them names a line or a curve
 abbrev pub Noted : List ℕ → ℕ → ℕ → ℕ → Type 0
 Noted s kw p x = (nextOf x ≡ 0 → ⊥) → truthOf x ≡ namesFrom s kw setSize setSize p
 

@@ -5,7 +5,7 @@ ghost use Prim.Native.Nat.{_+_, _<_};
 ghost use Rattle.tokens.specs.Token.{setSize, isNaming};
 ghost use Rattle.checking.specs.SightNumber.{nextOf, truthOf, faultOf, faulted, Noted};
 ghost use Rattle.checking.specs.Brackets.{NoBracket, InGrammar, Counted, Onward, SameEnd};
-ghost use Rattle.checking.specs.Fault.{isRemoval, assignedAt, assignmentAt, commandAt, actionAt, countFault, actionsAt};
+ghost use Rattle.checking.specs.Fault.{isRemoval, assignedAt, assignmentAt, commandAt, isGiven, isSynfct, synfctFault, synfctAt, unindexedAt, actionAt, countFault, actionsAt};
 use crate::expression::sum;
 use crate::sight::as_wanted;
 use crate::sight::join_faults;
@@ -17,14 +17,19 @@ use crate::sight_number::number_seen;
 use crate::sight_number::truth_seen;
 use tokens::fault::call_fault;
 use tokens::fault::code_fault;
+use tokens::fault::curve_fault;
+use tokens::fault::lower_of;
+use tokens::fault::read_fault;
 use tokens::fault::write_fault;
 use tokens::token::ACTIONS;
 use tokens::token::CLOSE;
+use tokens::token::COMMA;
 use tokens::token::END;
 use tokens::token::EQUALS;
 use tokens::token::M;
 use tokens::token::OPEN;
 use tokens::token::SIZE;
+use tokens::token::SYNFCT;
 use tokens::token::index_at;
 use tokens::token::is_arithmetic;
 use tokens::token::is_call;
@@ -109,6 +114,75 @@ fn command(set: &[u32; SIZE], keyword: u32, w: u32, at: usize) -> u64
     number_seen(call_fault(w, whole_of(n)), 1, at + 4)
 }
 
+// Whether , and a variable with its index stand from a place on.
+fn is_given(set: &[u32; SIZE], at: usize) -> bool
+    ensures { λ x. ⌜ x ≡ isGiven (now (set .entry)) at ⌝ }
+{
+    if token_at(set, at) != COMMA {
+        return false;
+    }
+    let w = token_at(set, at + 1);
+    if !is_variable(w) {
+        return false;
+    }
+    is_indexed(set, w, at + 1)
+}
+
+// Whether the curve's number, the target and the variable of a SYNFCT stand in brackets behind the word at a place.
+fn is_synfct(set: &[u32; SIZE], at: usize) -> bool
+    requires { ⌜ at < setSize ⌝ }
+    ensures { λ x. ⌜ x ≡ isSynfct (now (set .entry)) at ⌝ }
+{
+    if token_at(set, at + 1) != OPEN {
+        return false;
+    }
+    if !is_whole(token_at(set, at + 2)) {
+        return false;
+    }
+    if !is_given(set, at + 3) {
+        return false;
+    }
+    if !is_given(set, at + 8) {
+        return false;
+    }
+    token_at(set, at + 13) == CLOSE
+}
+
+// The lowest fault of the SYNFCT at a place: its curve's number, its target and its variable.
+fn synfct_fault(set: &[u32; SIZE], at: usize) -> u8
+    requires { ⌜ at < setSize ⌝ }
+    ensures { λ x. ⌜ x ≡ synfctFault (now (set .entry)) at ⌝ }
+{
+    let number = curve_fault(whole_of(token_at(set, at + 2)));
+    let target = token_at(set, at + 4);
+    let write = write_fault(target, index_at(set, target, at + 4));
+    let variable = token_at(set, at + 9);
+    let read = read_fault(variable, index_at(set, variable, at + 9));
+    lower_of(number, lower_of(write, read))
+}
+
+// What is behind the word SYNFCT at a place.
+fn synfct(set: &[u32; SIZE], at: usize) -> u64
+    requires { ⌜ at < setSize ⌝ }
+    ensures { λ x. ⌜ (faulted x ≡ synfctAt (now (set .entry)) at) × Counted (now (set .entry)) (at + 1) x ⌝ }
+{
+    if !is_synfct(set, at) {
+        return NOTHING;
+    }
+    number_seen(synfct_fault(set, at), 1, at + 14)
+}
+
+// An action that begins with a word and no index behind it.
+fn unindexed(set: &[u32; SIZE], keyword: u32, w: u32, at: usize) -> u64
+    requires { ⌜ at < setSize ⌝ }
+    ensures { λ x. ⌜ (faulted x ≡ unindexedAt (now (set .entry)) keyword w at) × ((InGrammar x → NoBracket w) × Counted (now (set .entry)) (at + 1) x) ⌝ }
+{
+    if w == SYNFCT {
+        return synfct(set, at);
+    }
+    command(set, keyword, w, at)
+}
+
 fn action(set: &[u32; SIZE], keyword: u32, at: usize) -> u64
     ensures { λ x. ⌜ (faulted x ≡ actionAt (now (set .entry)) keyword setSize at) × Counted (now (set .entry)) at x ⌝ }
 {
@@ -117,7 +191,7 @@ fn action(set: &[u32; SIZE], keyword: u32, at: usize) -> u64
         return NOTHING;
     }
     if !is_indexed(set, w, at) {
-        return command(set, keyword, w, at);
+        return unindexed(set, keyword, w, at);
     }
     if token_at(set, at + 4) != EQUALS {
         return NOTHING;
@@ -132,7 +206,7 @@ fn count_fault(n: usize) -> u8
     if n <= ACTIONS { 0 } else { TOO_MANY_ACTIONS }
 }
 
-// Whether a line was named before, or the action that begins with a word names one.
+// Whether a line or a curve was named before, or the action that begins with a word names one.
 fn or_naming(names: bool, t: u32) -> bool
     ensures { λ x. ⌜ x ≡ names || isNaming t ⌝ }
 {
@@ -142,7 +216,7 @@ fn or_naming(names: bool, t: u32) -> bool
     is_naming(t)
 }
 
-// What was seen of actions, and whether one of them names a line.
+// What was seen of actions, and whether one of them names a line or a curve.
 fn noted(names: bool, w: u64) -> u64
     ensures { λ x. ⌜ (faulted x ≡ faulted w) × (SameEnd w x × (truthOf x ≡ names)) ⌝ }
 {
@@ -155,7 +229,7 @@ fn noted(names: bool, w: u64) -> u64
     number_seen(fault, depth, i)
 }
 
-// What was seen, and one or more actions behind it up to the line's end: the lowest fault of all, and whether one of them names a line.
+// What was seen, and one or more actions behind it up to the line's end: the lowest fault of all, and whether one of them names a line or a curve.
 pub fn actions(set: &[u32; SIZE], keyword: u32, w: u64) -> u64
     requires { ⌜ InGrammar w ⌝ }
     ensures { λ x. ⌜ (faulted x ≡ actionsAt (now (set .entry)) keyword setSize setSize 0 (faultOf w) (nextOf w)) × (Onward (now (set .entry)) w x × Noted (now (set .entry)) keyword (nextOf w) x) ⌝ }

@@ -32,8 +32,8 @@ use tokens::token::whole_of;
 use values::codes::NOT_IN_GRAMMAR;
 use values::codes::TOO_DEEP;
 
-// The parts of a line: its number, whether it is IDS, its keyword (0: none), where its condition and its actions begin, where it ends, and whether an action of it names a line. A line
-// with a fault has none.
+// The parts of a line: its number, whether it is IDS, its keyword (0: none), where its condition and its actions begin, where it ends, and whether an action of it names a line or a curve. A
+// line with a fault has none.
 pub struct Line {
     pub fault: u8,
     pub number: u8,

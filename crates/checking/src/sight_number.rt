@@ -34,7 +34,7 @@ pub fn next_of(w: u64) -> usize
     (w % ROOM) as usize
 }
 
-// Whether a yes/no was seen; of actions, whether one names a line.
+// Whether a yes/no was seen; of actions, whether one names a line or a curve.
 pub fn truth_of(w: u64) -> bool
     ensures { λ x. ⌜ x ≡ truthOf w ⌝ }
 {

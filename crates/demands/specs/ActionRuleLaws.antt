@@ -8,15 +8,17 @@ use lib.Dec.{eqb, ltb}
 use lib.ListN.{getD, set}
 use borrow.Author.Tests.{ltb-true}
 use Rattle.values.specs.Choice.{either, ifNot}
-use Rattle.tokens.specs.Token.{END, M, SETAL, LOCK, isVariable, isDrive, whole, maxLines, isAxis, isCall}
-use Rattle.tokens.specs.Descent.{Answer, good, stop, _>>=_, indexAt}
+use Rattle.tokens.specs.Token.{END, M, SETAL, LOCK, SYNFCT, isVariable, isDrive, whole, maxLines, isAxis, isCall}
+use Rattle.tokens.specs.Descent.{token, Answer, good, stop, _>>=_, indexAt}
 use Rattle.tokens.specs.ChooseLaws.{through, choose}
+use Rattle.working.specs.Variables.{variableValue}
+use Rattle.working.specs.Operators.{fromWorked}
 use Rattle.working.specs.Working.{rightValue}
-use Rattle.engine.specs.Set.{rankIn}
-use Rattle.engine.specs.Action.{World, Note, Did, fromValueOrAlarm, takenAt, assignmentOf, lockOf, commandOf, driveOf, actionOf}
+use Rattle.engine.specs.Set.{rankIn, curveLine}
+use Rattle.engine.specs.Action.{World, Note, Did, withVars, fromValueOrAlarm, takenAt, assignmentOf, curveAssigned, synfctOf, lockOf, commandOf, driveOf, actionOf}
 use Rattle.engine.specs.Actions.{actionsOf}
 use Rattle.engine.specs.Drive.{driveOrder}
-use Rattle.engine.specs.Write.{writeTo}
+use Rattle.engine.specs.Write.{Vars, writeTo}
 use Rattle.tokens.specs.AnswerLaws.{Ok, is-ok, bind-ok}
 
 -- ---- a world in other flags
@@ -45,11 +47,28 @@ live-append : (cs : List Bool) (ms ns : List Note) → Live cs ms → Live cs ns
 live-append cs [] ns p q = q
 live-append cs (m ∷ ms) ns p q = (p .0, p .1, live-append cs ms ns (p .2) q)
 
+-- SYNFCT writes variables alone: what is so whatever they become is so of what it did
+pub synfct-variables : (s : List ℕ) (x : World) (p : ℕ) (P : Did → Type 0) → ((v : Vars) → P (record { world = withVars x v; next = p + 14; notes = [] })) → Ok P (synfctOf s x p)
+unfolding synfctOf
+synfct-variables s x p P h =
+    let w = token s (p + 4) in
+    let u = token s (p + 9) in
+    bind-ok P (fromWorked (variableValue (x .vars .r) (x .vars .cells) u (indexAt s u (p + 9)))) _
+    (λ a q. bind-ok P (curveAssigned (x .vars) (curveLine s (whole (token s (p + 2))) .curve) a w (indexAt s w (p + 4))) _ (λ v q. h v))
+
 module _ (s numbers : List ℕ) (cancelled : List Bool) (number : ℕ) where
   module _ (l m : List Bool) (x : World) where
     assignment-dress : (w p : ℕ) → assignmentOf s (dress l m x) w p ≡ (assignmentOf s x w p >>= dressDid l m)
     unfolding assignmentOf
     assignment-dress w p = through (dressDid l m) (takenAt s (x .vars) (p + 5)) _ _ (λ a. through (dressDid l m) (writeTo (a .vars) w (indexAt s w p) (a .value)) _ _ (λ v. refl))
+
+    synfct-dress : (p : ℕ) → synfctOf s (dress l m x) p ≡ (synfctOf s x p >>= dressDid l m)
+    unfolding synfctOf
+    synfct-dress p =
+        let w = token s (p + 4) in
+        let u = token s (p + 9) in
+        through (dressDid l m) (fromWorked (variableValue (x .vars .r) (x .vars .cells) u (indexAt s u (p + 9)))) _ _
+        (λ a. through (dressDid l m) (curveAssigned (x .vars) (curveLine s (whole (token s (p + 2))) .curve) a w (indexAt s w (p + 4))) _ _ (λ v. refl))
 
     drive-dress : (w p : ℕ) → driveOf s number (dress l m x) w p ≡ (driveOf s number x w p >>= dressDid l m)
     unfolding driveOf
@@ -67,7 +86,8 @@ module _ (s numbers : List ℕ) (cancelled : List Bool) (number : ℕ) where
     unfolding actionOf
     action-dress p =
         choose (dressDid l m) (eqb (getD s p 0) END) _ _ _ _ refl (choose (dressDid l m) (isVariable (getD s p 0)) _ _ _ _ (assignment-dress (getD s p 0) p)
-        (choose (dressDid l m) (isDrive (getD s p 0)) _ _ _ _ (drive-dress (getD s p 0) p) (command-dress (getD s p 0) p)))
+        (choose (dressDid l m) (isDrive (getD s p 0)) _ _ _ _ (drive-dress (getD s p 0) p)
+        (choose (dressDid l m) (eqb (getD s p 0) SYNFCT) _ _ _ _ (synfct-dress p) (command-dress (getD s p 0) p))))
 
   -- the actions in other flags
   pub actions-dress : (j : ℕ) (l m : List Bool) (x : World) (p : ℕ) → actionsOf s numbers cancelled number j (dress l m x) p ≡ (actionsOf s numbers cancelled number j x p >>= dressDid l m)
@@ -109,12 +129,13 @@ module _ (s numbers : List ℕ) (cancelled : List Bool) (number : ℕ) where
       (λ e. ifNot (Ok (Fair x)) (isAxis (getD s (p + 2) 0)) (λ e. tt)
       (λ e. bind-ok (Fair x) (fromValueOrAlarm (rightValue s (x .vars .r) (x .vars .cells) (p + 5))) _
       (λ a q. bind-ok (Fair x) (driveOrder number (getD s p 0) (indexAt s (getD s p 0) p) (a .0)) _ (λ o q. (tt, refl)))))
+      (λ e. either (Ok (Fair x)) (eqb (getD s p 0) SYNFCT) (λ e. synfct-variables s x p (Fair x) (λ v. (tt, refl)))
       (λ e. either (Ok (Fair x)) (eqb (getD s p 0) M) (λ e. (tt, refl))
       (λ e. either (Ok (Fair x)) (eqb (getD s p 0) SETAL) (λ e. (tt, refl))
       (λ e. ifNot (Ok (Fair x)) (isCall (getD s p 0)) (λ e. tt)
       (λ e. either (Ok (Fair x)) (ltb k maxLines)
       (λ e. either (Ok (Fair x)) (getD cancelled k false) (λ c. (tt, refl)) (λ c. ((ltb-true k maxLines e, c, tt), refl)))
-      (λ e. tt)))))))
+      (λ e. tt))))))))
 
   pub actions-fair : (j : ℕ) (x : World) (p : ℕ) → Ok (Fair x) (actionsOf s numbers cancelled number j x p)
   unfolding actionsOf

@@ -33,7 +33,7 @@ refused-no-set t = go (outcome t)
   where
     go : (o : Outcome) →
         let l : Loaded = elim o [ taken rs ↦ record { code = 0; line = 0; state = powerOn } | refused c k ↦ record { code = c; line = k; state = powerOn } ] in
-        let s : List ℕ = elim o [ taken rs ↦ setOf (byNumber rs) | refused c k ↦ emptySet ] in
+        let s : List ℕ = elim o [ taken q ↦ setOf (q .curves) (byNumber (q .rows)) | refused c k ↦ emptySet ] in
         l .code ≢ 0 → s ≡ emptySet
     go (taken rs) h = absurd (h refl)
     go (refused c k) h = refl

@@ -13,7 +13,7 @@ use lib.Seq.{getD-set-other}
 use borrow.Author.Tests.{eqb-true}
 use Rattle.values.specs.Choice.{either, ifNot}
 use Rattle.values.specs.Value.{feedOf}
-use Rattle.tokens.specs.Token.{END, POS, FA, M, SETAL, isVariable, isDrive, whole, maxLines, maxActions, isAxis, isCall}
+use Rattle.tokens.specs.Token.{END, POS, FA, M, SETAL, SYNFCT, isVariable, isDrive, whole, maxLines, maxActions, isAxis, isCall}
 use Rattle.tokens.specs.Descent.{token, indexAt}
 use Rattle.working.specs.Operators.{isYes, fromWorked}
 use Rattle.working.specs.Working.{rightValue, conditionValue}
@@ -29,7 +29,7 @@ use Rattle.engine.specs.Write.{writeTo}
 use Rattle.engine.specs.Keyword.{tries, acts, remembers}
 use Rattle.engine.specs.Turn.{Entry, worked, Turned, remembered, takesTurn, doTurn, tryTurn, turnOf}
 use Rattle.tokens.specs.AnswerLaws.{Ok, is-ok, bind-ok}
-use Rattle.demands.specs.ActionRuleLaws.{Fair, actions-fair, Noted, actions-noted}
+use Rattle.demands.specs.ActionRuleLaws.{synfct-variables, Fair, actions-fair, Noted, actions-noted}
 use Rattle.demands.specs.Deed.{LeftAlone, acting, DidAll, bytesOf, Each, Gave}
 
 -- ---- orders, one behind the other
@@ -100,12 +100,13 @@ module _ (s numbers : List ℕ) (cancelled : List Bool) (number : ℕ) where
       (λ e. bind-ok (Gives x) (fromValueOrAlarm (rightValue s (x .vars .r) (x .vars .cells) (p + 5))) _
       (λ a q. bind-ok (Gives x) (driveOrder number (getD s p 0) (indexAt s (getD s p 0) p) (a .0)) _
       (λ o q. gave-one Own (x .orders) o (is-ok Own (driveOrder number (getD s p 0) (indexAt s (getD s p 0) p) (a .0)) o q (drive-line number (getD s p 0) (indexAt s (getD s p 0) p) (a .0)))))))
+      (λ e. either (Ok (Gives x)) (eqb (getD s p 0) SYNFCT) (λ e. synfct-variables s x p (Gives x) (λ v. none))
       (λ e. either (Ok (Gives x)) (eqb (getD s p 0) M) (λ e. gave-one Own (x .orders) _ refl)
       (λ e. either (Ok (Gives x)) (eqb (getD s p 0) SETAL) (λ e. gave-one Own (x .orders) _ refl)
       (λ e. ifNot (Ok (Gives x)) (isCall (getD s p 0)) (λ e. tt)
       (λ e. either (Ok (Gives x)) (ltb k maxLines)
       (λ e. either (Ok (Gives x)) (getD cancelled k false) (λ c. none) (λ c. none))
-      (λ e. tt)))))))
+      (λ e. tt))))))))
 
   -- each order that the actions give carries the line's number, and the last of them stands at the line's end
   abbrev pub Ends : World → Did → Type 0

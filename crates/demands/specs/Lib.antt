@@ -1,5 +1,5 @@
 -- Demand 3. History, Run, Acts and Deed are the definitions; Demand3, Consequences, WhatWasDone, Refusals and EngineUnique the theorems, in their order; the files named ..Laws
--- hold what these need; Cases and PTable are computed.
+-- hold what these need; Cases, CurveCases and PTable are computed.
 pub mod History
 pub mod Run
 pub mod FlagLaws
@@ -18,4 +18,5 @@ pub mod FromALoadOn
 pub mod Refusals
 pub mod EngineUnique
 pub mod Cases
+pub mod CurveCases
 pub mod PTable

@@ -1,4 +1,4 @@
--- Laws of the lines of a set: a turn of each loop over them or over the tokens of one.
+-- Laws of the lines of a set: a turn of each loop over them or over the tokens of one, and over its curves.
 use mathlib.Core.Path.{_≡_, refl, sym, ap, _∙_}
 use mathlib.Core.Bool.{Bool, true, false}
 use mathlib.Core.List.{List, map}
@@ -6,18 +6,18 @@ use Prim.Native.Nat.{ℕ, zero, suc, _+_, _-_, _<_, _≤_}
 use native.Mathlib.Omega.{arith}
 use native.Mathlib.Nat.{sub-zero}
 use native.Mathlib.Numerals.{add-one}
-use lib.Dec.{eqb, ltb}
+use lib.Dec.{eqb, ltb, leb}
 use lib.ListN.{length, drop, getD, set, replicate, drop-of-length-le}
 use lib.Seq.{drop-cons}
 use borrow.Author.Tests.{lt-ltb, le-ltb, eq-eqb, ne-eqb}
 use Rattle.checking.specs.declared.line.Line.{Line}
-use Rattle.tokens.specs.Token.{END, isNaming, whole, setSize, maxLines}
+use Rattle.tokens.specs.Token.{END, isNaming, whole, setSize, maxLines, maxCurves}
 use Rattle.checking.specs.Fault.{lineAt}
 use Rattle.engine.specs.declared.set.Lines.{Lines}
 use Rattle.values.specs.PutAt.{putAt}
 use Rattle.engine.specs.SetLinesLaws.{Lined}
 use Rattle.engine.specs.NamesByTreeLaws.{no-names}
-use Rattle.engine.specs.Set.{lineCount, startOf, withoutMark, withEnd, lineOf, noLine, noLines, linesFrom, linesRead, rankIn, namesKnown, lockTable, allKnown, namedLines, soundLines}
+use Rattle.engine.specs.Set.{lineCount, startOf, withoutMark, withEnd, lineOf, noLine, noLines, linesFrom, linesRead, curveStart, rankIn, namesKnown, setTable, allKnown, isCurve, curvesSound, namedLines, soundLines}
 
 one-less : (k : ℕ) → suc k - 1 ≡ k
 one-less k = omega arith
@@ -64,33 +64,25 @@ module _ (s : List ℕ) (known : ℕ → ℕ → Bool) (p t : ℕ) (e : t ≡ ge
     names-other h zero l = absurd (omega arith)
     names-other h (suc m) l = rw (one-less m) (simp (namesKnown, ne-eqb (getD s p 0) END (λ z. f (e ∙ z)), ap isNaming (sym e) ∙ h))
 
-    -- the table says x of the number two places on
-    module _ (h : isNaming t ≡ true) (x : Bool) (k : known (getD s p 0) (whole (getD s (p + 2) 0)) ≡ x) where
+    -- the table says x of the word and of the number v that y has, two places on
+    module _ (h : isNaming t ≡ true) (y v : ℕ) (u : y ≡ getD s (p + 2) 0) (w : v ≡ whole y) (x : Bool) (g : x ≡ known t v) where
+      told : known (getD s p 0) (whole (getD s (p + 2) 0)) ≡ x
+      told = sym (g ∙ ap (λ (a : ℕ). known a v) e ∙ ap (known (getD s p 0)) (w ∙ ap whole u))
+
       pub names-not : x ≡ false → (left : ℕ) → 0 < left → namesKnown s known left p ≡ false
       unfolding namesKnown
       names-not z zero l = absurd (omega arith)
-      names-not z (suc m) l = simp (namesKnown, ne-eqb (getD s p 0) END (λ z. f (e ∙ z)), ap isNaming (sym e) ∙ h, k ∙ z)
+      names-not z (suc m) l = simp (namesKnown, ne-eqb (getD s p 0) END (λ z. f (e ∙ z)), ap isNaming (sym e) ∙ h, told ∙ z)
 
       pub names-on : x ≡ true → (left : ℕ) → 0 < left → namesKnown s known left p ≡ namesKnown s known (left - 1) (p + 1)
       unfolding namesKnown
       names-on z zero l = absurd (omega arith)
-      names-on z (suc m) l = rw (one-less m) (simp (namesKnown, ne-eqb (getD s p 0) END (λ z. f (e ∙ z)), ap isNaming (sym e) ∙ h, k ∙ z))
+      names-on z (suc m) l = rw (one-less m) (simp (namesKnown, ne-eqb (getD s p 0) END (λ z. f (e ∙ z)), ap isNaming (sym e) ∙ h, told ∙ z))
 
 pub names-none : (s : List ℕ) (known : ℕ → ℕ → Bool) (p left : ℕ) → left ≤ 0 → namesKnown s known left p ≡ true
 unfolding namesKnown
 names-none s known p zero h = refl
 names-none s known p (suc m) h = absurd (omega arith)
-
--- by the table of the numbers ns: y stands two places on, v is the number that it has, x that number's rank
-module _ (s ns : List ℕ) (p t : ℕ) (e : t ≡ getD s p 0) (f : t ≡ END → ⊥) (h : isNaming t ≡ true) (y v x : ℕ) (u : y ≡ getD s (p + 2) 0) (w : v ≡ whole y) (g : x ≡ rankIn ns v 0) where
-  named : rankIn ns (whole (getD s (p + 2) 0)) 0 ≡ x
-  named = sym (g ∙ ap (λ (n : ℕ). rankIn ns n 0) (w ∙ ap whole u))
-
-  pub names-unknown : maxLines ≤ x → (left : ℕ) → 0 < left → namesKnown s (lockTable ns) left p ≡ false
-  names-unknown k = names-not s (lockTable ns) p t e f h false (ap (λ (n : ℕ). ltb n maxLines) named ∙ le-ltb x maxLines k) refl
-
-  pub names-lock : x < maxLines → (left : ℕ) → 0 < left → namesKnown s (lockTable ns) left p ≡ namesKnown s (lockTable ns) (left - 1) (p + 1)
-  names-lock k = names-on s (lockTable ns) p t e f h true (ap (λ (n : ℕ). ltb n maxLines) named ∙ lt-ltb x maxLines k) refl
 
 -- ---- the names of the lines of n from rank k on; p is where that line begins
 
@@ -151,16 +143,48 @@ pub read-few : (s : List ℕ) (n : ℕ) → n ≡ lineCount s → n ≤ maxLines
 unfolding linesRead
 read-few s n e h = rw (sub-zero, e, linesRead, le-ltb maxLines (lineCount s) (rw e at h))
 
+-- ---- the curves from curve n on, where the set has k lines before them; it begins at p
+
+module _ (s : List ℕ) (n k p : ℕ) (l : n ≤ maxCurves) (e : p ≡ curveStart s n) where
+  next : suc maxCurves - n ≡ suc (suc maxCurves - (n + 1))
+  next = turn (suc maxCurves) n (omega arith)
+
+  pub curves-none : p ≤ 0 → curvesSound s (suc maxCurves - n) n k ≡ curvesSound s (suc maxCurves - (n + 1)) (n + 1) k
+  unfolding curvesSound
+  curves-none h = rw next (simp (curvesSound, le-ltb 0 (curveStart s n) (rw e at h)))
+
+  module _ (h : 0 < p) (x : Bool) (g : x ≡ isCurve s n) where
+    pub curves-wrong : x ≡ false → curvesSound s (suc maxCurves - n) n k ≡ false
+    unfolding curvesSound
+    curves-wrong z = rw next (simp (curvesSound, lt-ltb 0 (curveStart s n) (rw e at h), sym g ∙ z))
+
+    pub curves-on : x ≡ true → curvesSound s (suc maxCurves - n) n k ≡ curvesSound s (suc maxCurves - (n + 1)) (n + 1) (k + 1)
+    unfolding curvesSound
+    curves-on z = rw next (simp (curvesSound, lt-ltb 0 (curveStart s n) (rw e at h), sym g ∙ z))
+
+pub curves-end : (s : List ℕ) (n k m : ℕ) → m ≤ 0 → curvesSound s m n k ≡ leb k maxLines
+unfolding curvesSound
+curves-end s n k zero h = refl
+curves-end s n k (suc m) h = absurd (omega arith)
+
 -- ---- the lines of a set that passes each check
 
-module _ (s : List ℕ) (l : Lines) (b : Bool) (e : l ≡ linesRead s) (g : b ≡ allKnown s (lockTable (l .numbers)) (l .count) 0) where
-  all-named : allKnown s (lockTable (linesRead s .numbers)) (linesRead s .count) 0 ≡ b
-  all-named = ap (λ (y : Lines). allKnown s (lockTable (y .numbers)) (y .count) 0) (sym e) ∙ sym g
+module _ (s : List ℕ) (l : Lines) (e : l ≡ linesRead s) (x : Bool) (f : x ≡ curvesSound s maxCurves 1 (l .count)) where
+  curved : curvesSound s maxCurves 1 (linesRead s .count) ≡ x
+  curved = ap (λ (y : Lines). curvesSound s maxCurves 1 (y .count)) (sym e) ∙ sym f
 
-  pub named-not : b ≡ false → soundLines s ≡ noLines
-  unfolding soundLines namedLines
-  named-not z = rw (soundLines, namedLines, all-named ∙ z)
+  pub curves-not : x ≡ false → soundLines s ≡ noLines
+  unfolding soundLines
+  curves-not z = rw (soundLines, curved ∙ z)
 
-  pub named-all : b ≡ true → soundLines s ≡ l
-  unfolding soundLines namedLines
-  named-all z = rw (soundLines, namedLines, all-named ∙ z) (sym e)
+  module _ (c : x ≡ true) (b : Bool) (g : b ≡ allKnown s (setTable s (l .numbers)) (l .count) 0) where
+    all-named : allKnown s (setTable s (linesRead s .numbers)) (linesRead s .count) 0 ≡ b
+    all-named = ap (λ (y : Lines). allKnown s (setTable s (y .numbers)) (y .count) 0) (sym e) ∙ sym g
+
+    pub named-not : b ≡ false → soundLines s ≡ noLines
+    unfolding soundLines namedLines
+    named-not z = rw (soundLines, curved ∙ c, namedLines, all-named ∙ z)
+
+    pub named-all : b ≡ true → soundLines s ≡ l
+    unfolding soundLines namedLines
+    named-all z = rw (soundLines, curved ∙ c, namedLines, all-named ∙ z) (sym e)

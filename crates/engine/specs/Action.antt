@@ -1,4 +1,4 @@
--- An action of a line (document 01, "Lines of text", "Values and time" and "A beat"): what it makes of the variables, the locks and the orders, or its alarm. Definitions only.
+-- An action of a line (document 01, "Lines of text", "Values and time" and "A beat"; document 02, Req 03): what it makes of the variables, the locks and the orders, or its alarm. Definitions only.
 use mathlib.Core.Bool.{Bool, true, false, cond}
 use mathlib.Core.List.{List, [], _∷_, _++_}
 use Prim.Native.Nat.{ℕ, _+_}
@@ -7,15 +7,19 @@ use lib.IntN.{ℤ, pos, natAbs}
 use lib.ListN.{getD, set}
 use Rattle.values.specs.Codes.{unsound}
 use Rattle.values.specs.Value.{lessThan}
+use Rattle.values.specs.Curve.{curveOf}
+use Rattle.values.specs.declared.curve.Curve.{Curve}
 use Rattle.engine.specs.Order.{orderBytes}
 use Rattle.engine.specs.declared.order.Order.{Order}
 use Rattle.engine.specs.declared.order.Kind.the-variants as K
-use Rattle.tokens.specs.Token.{END, M, SETAL, LOCK, isVariable, isDrive, isCall, isAxis, whole, maxLines}
+use Rattle.tokens.specs.Token.{END, M, SETAL, LOCK, SYNFCT, isVariable, isDrive, isCall, isAxis, whole, maxLines}
 use Rattle.tokens.specs.Descent.{token, Answer, good, stop, _>>=_, indexAt}
 use Rattle.checking.specs.Fault.{isRemoval}
 use Rattle.working.specs.Working.{rightValue}
+use Rattle.working.specs.Variables.{variableValue}
+use Rattle.working.specs.Operators.{fromWorked}
 use Rattle.working.specs.declared.walk.ValueOrAlarm.{ValueOrAlarm}
-use Rattle.engine.specs.Set.{rankIn}
+use Rattle.engine.specs.Set.{rankIn, curveLine}
 use Rattle.engine.specs.Write.{Vars, changeFifo, withChanged, writeTo}
 use Rattle.engine.specs.Drive.{driveOrder, orderOf}
 
@@ -93,6 +97,20 @@ assignmentOf s x w p =
     writeTo (a .vars) w (indexAt s w p) (a .value) >>= λ v.
     did (a .next) (withVars x v)
 
+-- a curve at x, its result assigned to w[i] by the target's own rule
+unfoldable pub curveAssigned : Vars → Curve → ℤ → ℕ → ℕ → Answer Vars
+curveAssigned v c x w i = fromWorked (curveOf c x) >>= λ y. writeTo v w i y
+
+-- SYNFCT(n,target,variable) where the variable reads a: curve n is worked there, and its result is assigned to the target
+abbrev pub synfctAt : List ℕ → World → ℤ → ℕ → Answer Did
+synfctAt s x a p =
+    curveAssigned (x .vars) (curveLine s (whole (token s (p + 2))) .curve) a (token s (p + 4)) (indexAt s (token s (p + 4)) (p + 4)) >>= λ v.
+    did (p + 14) (withVars x v)
+
+-- the variable is read first
+unfoldable pub synfctOf : List ℕ → World → ℕ → Answer Did
+synfctOf s x p = fromWorked (variableValue (x .vars .r) (x .vars .cells) (token s (p + 9)) (indexAt s (token s (p + 9)) (p + 9))) >>= λ a. synfctAt s x a p
+
 -- POS[axis]=, FA[axis]=, MOV[axis]= and a sum; an index that is no axis is in no sound set
 unfoldable pub driveOf : List ℕ → ℕ → World → ℕ → ℕ → Answer Did
 driveOf s number x w p =
@@ -125,6 +143,10 @@ module _ (s numbers : List ℕ) (cancelled : List Bool) (number : ℕ) where
         | false ↦
             elim (isVariable (token s p)) [
               | true ↦ assignmentOf s x (token s p) p
-              | false ↦ elim (isDrive (token s p)) [ true ↦ driveOf s number x (token s p) p | false ↦ commandOf x (token s p) p ]
+              | false ↦
+                  elim (isDrive (token s p)) [
+                    | true ↦ driveOf s number x (token s p) p
+                    | false ↦ elim (eqb (token s p) SYNFCT) [ true ↦ synfctOf s x p | false ↦ commandOf x (token s p) p ]
+                  ]
             ]
       ]

@@ -8,20 +8,20 @@ use lib.Dec.{eqb}
 use lib.ListN.{length, length-append}
 use borrow.Author.Tests.{eq-eqb, ne-eqb, le-leb, leb-false}
 use Rattle.values.specs.Choice.{told-so, both, decide, chosen, refused, and-true as and-both}
-use Rattle.tokens.specs.Token.{END, EQUALS, OPEN, CLOSE, LEFT, RIGHT, DO, ID, IDS, IM, IN, FIFO4, X, W, POS, MOV, WHEN, EVERY, LOCK, SETAL, UNLOCK, isLock, whole, wholeToken, setSize}
+use Rattle.tokens.specs.Token.{END, EQUALS, OPEN, CLOSE, LEFT, RIGHT, DO, ID, IDS, IM, IN, FIFO4, X, W, POS, MOV, WHEN, EVERY, LOCK, SETAL, UNLOCK, SYNFCT, COMMA, isLock, isNaming, whole, wholeToken, setSize}
 use Rattle.tokens.specs.Descent.{token}
 use Rattle.checking.specs.Fault.{lineAt}
 use Rattle.checking.specs.declared.line.Line.{Line as Told}
-use Rattle.grammar.specs.Tree.{Sum, Action, assign, assignPosition, drive, code, call, Condition, always, under, Line, line, sumTokens, actionTokens, actionsTokens, conditionTokens, lineTokens}
+use Rattle.grammar.specs.Tree.{Sum, Action, assign, assignPosition, drive, code, call, synfct, placeTokens, Condition, always, under, Line, line, sumTokens, actionTokens, actionsTokens, conditionTokens, lineTokens}
 use Rattle.grammar.specs.Meaning.{Stands}
 use Rattle.grammar.specs.TreeFault.{partsFrom}
 use Rattle.grammar.specs.TreeNames.{Name, actionNames, actionsNames, namesIn, hasNames, eachKnown}
 use Rattle.grammar.specs.AgreementLaws.{bounds, stands-split, whole-token}
 use Rattle.grammar.specs.AgreementLine.{line-written, line-fault, line-parts, not-deep}
-use Rattle.grammar.specs.ClosedTokens.{Plain, plain-sum, plain-expression, line-fits}
+use Rattle.grammar.specs.ClosedTokens.{Plain, plain-sum, plain-expression, plain-synfct, line-fits}
 use Rattle.engine.specs.Set.{namesKnown}
 
-each-append : (known : ℕ → ℕ → Bool) (l m : List Name) → eachKnown known (l ++ m) ≡ (eachKnown known l && eachKnown known m)
+pub each-append : (known : ℕ → ℕ → Bool) (l m : List Name) → eachKnown known (l ++ m) ≡ (eachKnown known l && eachKnown known m)
 unfolding eachKnown
 each-append known [] m = refl
 each-append known (n ∷ l) m = rw (each-append known l m) (sym (and-assoc (known (n .word) (n .number)) (eachKnown known l) (eachKnown known m)))
@@ -32,9 +32,15 @@ unfolding eachKnown
 each-so known more [] f h = refl
 each-so known more (n ∷ l) f h = let (a, b) = both (known (n .word) (n .number)) (eachKnown known l) h in and-both (f (n .word) (n .number) a) (each-so known more l f b)
 
--- a token that is neither LOCK nor UNLOCK
-no-lock : (t : ℕ) → (LOCK ≤ t → UNLOCK < t) → isLock t ≡ false
-no-lock t h = decide _ (isLock t) (λ e. let b = bounds LOCK UNLOCK t (told-so _ e) in let l = h (b .0) in absurd (omega arith)) (λ e. e)
+-- a token of a row that names nothing is no word that names
+no-naming : (t : ℕ) → (LOCK ≤ t → SYNFCT < t) → isNaming t ≡ false
+no-naming t h =
+    rw (ne-eqb t SYNFCT (λ e. let l = h (omega arith) in omega arith))
+    (decide _ (isLock t) (λ e. let b = bounds LOCK UNLOCK t (told-so _ e) in let l = h (b .0) in absurd (omega arith)) (λ e. rw e))
+
+-- LOCK and UNLOCK name
+lock-names : (t : ℕ) → isLock t ≡ true → isNaming t ≡ true
+lock-names t e = rw e
 
 module _ (s : List ℕ) (known : ℕ → ℕ → Bool) where
   -- behind a row that names nothing
@@ -44,23 +50,31 @@ module _ (s : List ℕ) (known : ℕ → ℕ → Bool) where
   names-behind (t ∷ l) p i zero m c h e = absurd (omega arith)
   names-behind (t ∷ l) p i (suc left) m c h e =
       let x : eqb (token s p) END ≡ false = rw (h .0) (ne-eqb t END (λ z. let y = c .0 in omega arith)) in
-      let y : isLock (token s p) ≡ false = rw (h .0) (no-lock t (c .1)) in
+      let y : isNaming (token s p) ≡ false = rw (h .0) (no-naming t (c .1)) in
       refused _ _ _ x ∙ refused _ _ _ y ∙ names-behind l (p + 1) i left m (c .2) (h .1) (omega arith)
 
-  -- one that names a number n: LOCK or UNLOCK, and what stands two places behind it
-  names-lock : (left p w n : ℕ) → token s p ≡ w → 0 < w → isLock w ≡ true → whole (token s (p + 2)) ≡ n → namesKnown s known (suc left) p ≡ (known w n && namesKnown s known left (p + 1))
+  -- one that names a number n: the word, and what stands two places behind it
+  names-one : (left p w n : ℕ) → token s p ≡ w → 0 < w → isNaming w ≡ true → whole (token s (p + 2)) ≡ n → namesKnown s known (suc left) p ≡ (known w n && namesKnown s known left (p + 1))
   unfolding namesKnown
-  names-lock left p w n e z k h =
+  names-one left p w n e z k h =
       let x : eqb (token s p) END ≡ false = rw e (ne-eqb w END (λ y. omega arith)) in
-      let y : isLock (token s p) ≡ true = rw e k in
+      let y : isNaming (token s p) ≡ true = rw e k in
       refused _ _ _ x ∙ chosen _ _ _ y ∙ rw (e, h) (as-and (known w n) (namesKnown s known left (p + 1)))
     where
       as-and : (a b : Bool) → elim a as (λ _. Bool) [ true ↦ b | false ↦ false ] ≡ (a && b)
       as-and true b = refl
       as-and false b = refl
 
+  -- a word that names n, and a row that names nothing behind it
+  named-number : (w t n : ℕ) (l : List ℕ) (p q left m : ℕ) → 0 < w → isNaming w ≡ true → Plain (t ∷ wholeToken n ∷ l) → Stands s p (w ∷ t ∷ wholeToken n ∷ l) q → suc left ≡ suc (suc (suc (length l))) + m →
+      namesKnown s known (suc left) p ≡ (known w n && namesKnown s known m q)
+  named-number w t n l p q left m z k c h e =
+      let two : p + 1 + 1 ≡ p + 2 = omega arith in
+      let i : whole (token s (p + 2)) ≡ n = rw (rw two at (h .1 .1 .0)) (whole-token n .1) in
+      names-one left p w n (h .0) z k i ∙ rw (names-behind (t ∷ wholeToken n ∷ l) (p + 1) q left m c (h .1) (omega arith))
+
   -- w[t]= and a right side behind it
-  plain-right : (w t : ℕ) (a : Sum) → (0 < w) × (w < LOCK) → (0 < t) × (LOCK ≤ t → UNLOCK < t) → Plain (w ∷ LEFT ∷ t ∷ RIGHT ∷ EQUALS ∷ sumTokens a)
+  plain-right : (w t : ℕ) (a : Sum) → (0 < w) × (w < LOCK) → (0 < t) × (LOCK ≤ t → SYNFCT < t) → Plain (w ∷ LEFT ∷ t ∷ RIGHT ∷ EQUALS ∷ sumTokens a)
   plain-right w t a h g = (h .0, omega arith, (omega arith, omega arith, (g .0, g .1, (omega arith, omega arith, (omega arith, omega arith, plain-sum a)))))
 
   -- an action: what it names is known, and what is named behind it
@@ -75,18 +89,18 @@ module _ (s : List ℕ) (known : ℕ → ℕ → Bool) where
   action-names (call w v n) p q (suc left) m h e =
       let b = bounds SETAL UNLOCK w v in
       let behind : Plain (OPEN ∷ wholeToken n ∷ CLOSE ∷ []) = omega arith in
-      decide _ (isLock w)
+      decide _ (isNaming w)
       (λ k.
-      let two : p + 1 + 1 ≡ p + 2 = omega arith in
-      let t : whole (token s (p + 2)) ≡ n = rw (rw two at (h .1 .1 .0)) (whole-token n .1) in
-      let named : eachKnown known (actionNames (call w v n)) ≡ known w n = ap (eachKnown known) (chosen (isLock w) (record { word = w; number = n } ∷ []) [] k) ∙ and-true (known w n) in
-      names-lock left p w n (h .0) (omega arith) k t ∙ rw (named, names-behind (OPEN ∷ wholeToken n ∷ CLOSE ∷ []) (p + 1) q left m behind (h .1) (omega arith)))
+      let one : eachKnown known (actionNames (call w v n)) ≡ known w n = ap (eachKnown known) (chosen (isNaming w) (record { word = w; number = n } ∷ []) [] k) ∙ and-true (known w n) in
+      named-number w OPEN n (CLOSE ∷ []) p q left m (omega arith) k behind h e ∙ rw one)
       (λ k.
-      let none : eachKnown known (actionNames (call w v n)) ≡ true = ap (eachKnown known) (refused (isLock w) (record { word = w; number = n } ∷ []) [] k) in
-      names-behind (actionTokens (call w v n)) p q (suc left) m (omega arith, not-lock k, behind) h e ∙ rw none)
+      let none : eachKnown known (actionNames (call w v n)) ≡ true = ap (eachKnown known) (refused (isNaming w) (record { word = w; number = n } ∷ []) [] k) in
+      names-behind (actionTokens (call w v n)) p q (suc left) m (omega arith, not-naming k, behind) h e ∙ rw none)
     where
-      not-lock : isLock w ≡ false → LOCK ≤ w → UNLOCK < w
-      not-lock k l = leb-false w UNLOCK (rw (le-leb LOCK w l) at k)
+      not-naming : isNaming w ≡ false → LOCK ≤ w → SYNFCT < w
+      not-naming k l = absurd (false≢true (sym k ∙ lock-names w (and-both (le-leb LOCK w l) (le-leb w UNLOCK (bounds SETAL UNLOCK w v .1)))))
+  action-names (synfct n y z) p q zero m h e = absurd (omega arith)
+  action-names (synfct n y z) p q (suc left) m h e = named-number SYNFCT OPEN n (COMMA ∷ placeTokens y ++ (COMMA ∷ placeTokens z ++ (CLOSE ∷ []))) p q left m (omega arith) refl (plain-synfct n y z) h e ∙ rw (and-true (known SYNFCT n))
 
   actions-names : (r : List Action) (a : Action) (p q left m : ℕ) → Stands s p (actionsTokens a r) q → left ≡ length (actionsTokens a r) + m → namesKnown s known left p ≡ (eachKnown known (actionsNames a r) && namesKnown s known m q)
   unfolding actionsTokens actionsNames

@@ -16,8 +16,8 @@ use Rattle.tokens.specs.BetweenLaws.{inside}
 use Rattle.checking.specs.Fault.{sight, faultFor, numberOf, faultyLine, actionsAt, lineParts, bodyAt, restAt, lineAt}
 use Rattle.checking.specs.declared.line.Line.{Line}
 use Rattle.engine.specs.declared.set.Lines.{Lines}
-use Rattle.engine.specs.Set.{lineCount, startOf, lineOf, noLine, noLines, linesFrom, linesRead, allKnown, lockTable, namedLines, soundLines}
-use Rattle.engine.specs.SetLinesLaws.{lines-lined}
+use Rattle.engine.specs.Set.{lineCount, startOf, lineOf, noLine, noLines, linesFrom, linesRead, soundLines}
+use Rattle.engine.specs.SetLinesLaws.{by-sound, lines-lined}
 use Rattle.engine.specs.ReadLines.{marksOf, placesOf, allPlaces, linesWritten, lineIn, itemsIn, linesIn}
 
 -- ---- a line's number is a byte, its keyword has 32 bits
@@ -113,11 +113,11 @@ from-regular s (suc m) k last ns ls h e =
     (ap (λ (xs : List ℕ). set xs k (lineOf s k .number)) e ∙ set-number ls k (lineOf s k))
 
 lines-regular : (s : List ℕ) → Regular (soundLines s)
-unfolding soundLines namedLines linesRead
+unfolding linesRead
 lines-regular s =
-    ifNot Regular (allKnown s (lockTable (linesRead s .numbers)) (linesRead s .count) 0) (λ e. none-regular) λ e.
-    either Regular (ltb maxLines (lineCount s)) (λ p. none-regular) λ p.
-    from-regular s (lineCount s) 0 0 (replicate maxLines 0) (replicate maxLines noLine) (none-whole maxLines) (none-numbers maxLines)
+    by-sound Regular s none-regular
+    (either Regular (ltb maxLines (lineCount s)) (λ p. none-regular) λ p.
+    from-regular s (lineCount s) 0 0 (replicate maxLines 0) (replicate maxLines noLine) (none-whole maxLines) (none-numbers maxLines))
 
 -- ---- read back
 

@@ -10,7 +10,8 @@ use borrow.Author.Tests.{ltb-false}
 use Rattle.tokens.specs.Token.{maxLines}
 use Rattle.checking.specs.declared.line.Line.{Line}
 use Rattle.engine.specs.declared.set.Lines.{Lines}
-use Rattle.engine.specs.Set.{lineCount, lineOf, noLine, noLines, linesFrom, linesRead, lockTable, allKnown, namedLines, soundLines}
+use Rattle.engine.specs.Set.{lineCount, lineOf, noLine, noLines, linesFrom, linesRead, soundLines}
+use Rattle.engine.specs.SetLinesLaws.{by-sound}
 
 abbrev choose : Bool → Lines → Lines → Lines
 choose b x y = elim b [ true ↦ x | false ↦ y ]
@@ -37,5 +38,4 @@ read-count s = go (ltb maxLines (lineCount s)) refl
     go false e = from-count s (lineCount s) 0 0 (replicate maxLines 0) (replicate maxLines noLine) (omega (arith, ltb-false maxLines (lineCount s) e))
 
 pub sound-count : (s : List ℕ) → soundLines s .count ≤ maxLines
-unfolding soundLines namedLines
-sound-count s = few (allKnown s (lockTable (linesRead s .numbers)) (linesRead s .count) 0) (linesRead s) noLines (read-count s) (omega arith)
+sound-count s = by-sound (λ l. l .count ≤ maxLines) s (omega arith) (read-count s)

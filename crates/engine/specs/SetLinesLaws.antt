@@ -9,10 +9,17 @@ use lib.ListN.{length, getD, set, replicate, length-set, getD-replicate, List·g
 use lib.Seq.{getD-set-same, getD-set-other}
 use borrow.Author.Tests.{eqb-true, ltb-true, ltb-false}
 use Rattle.values.specs.Choice.{either, ifNot}
-use Rattle.tokens.specs.Token.{maxLines}
+use Rattle.tokens.specs.Token.{maxLines, maxCurves}
 use Rattle.checking.specs.declared.line.Line.{Line}
 use Rattle.engine.specs.declared.set.Lines.{Lines}
-use Rattle.engine.specs.Set.{lineCount, lineOf, noLine, noLines, linesFrom, linesRead, lockTable, allKnown, namedLines, soundLines}
+use Rattle.engine.specs.Set.{lineCount, lineOf, noLine, noLines, linesFrom, linesRead, setTable, allKnown, curvesSound, namedLines, soundLines}
+
+-- the lines of a set are those that are read, or none
+pub by-sound : (P : Lines → Type 0) (s : List ℕ) → P noLines → P (linesRead s) → P (soundLines s)
+unfolding soundLines namedLines
+by-sound P s n r =
+    ifNot P (curvesSound s maxCurves 1 (linesRead s .count)) (λ _. n) λ _.
+    ifNot P (allKnown s (setTable s (linesRead s .numbers)) (linesRead s .count) 0) (λ _. n) (λ _. r)
 
 -- the first k lines of a set, as they stand in lists of 32
 pub record Listed (s : List ℕ) (k : ℕ) (ns : List ℕ) (ls : List Line) : Type 0 where
@@ -111,5 +118,4 @@ read-lined s =
 
 -- and behind
 pub lines-lined : (s : List ℕ) → Lined s (soundLines s)
-unfolding soundLines namedLines
-lines-lined s = ifNot (Lined s) (allKnown s (lockTable (linesRead s .numbers)) (linesRead s .count) 0) (λ e. none-lined s) (λ e. read-lined s)
+lines-lined s = by-sound (Lined s) s (none-lined s) (read-lined s)

@@ -1,4 +1,4 @@
-// One action of a line: an assignment, POS, FA, MOV, M, SETAL, LOCK or UNLOCK, each by its own rule.
+// One action of a line: an assignment, SYNFCT, POS, FA, MOV, M, SETAL, LOCK or UNLOCK, each by its own rule.
 //
 // The variables of the beat, the locks and the orders so far are lent and written in place; a beat that ends in an alarm takes them back.
 ghost use mathlib.Core.Path.{_≡_};
@@ -7,11 +7,11 @@ ghost use Prim.Native.Nat.{ℕ, _+_, _<_};
 ghost use mathlib.Core.List.{List};
 ghost use lib.IntN.{pos};
 ghost use Rattle.working.specs.Working.{rightValue};
-ghost use Rattle.engine.specs.Action.{fromValueOrAlarm, alarmOf, did, ordered, takenAt, assignmentOf, driveOf, lockOf, commandOf, actionOf};
+ghost use Rattle.engine.specs.Action.{fromValueOrAlarm, alarmOf, did, ordered, takenAt, assignmentOf, curveAssigned, synfctAt, synfctOf, driveOf, lockOf, commandOf, actionOf};
 ghost use Rattle.engine.specs.Order.{maxOrders};
 ghost use Rattle.engine.specs.ReadLines.{linesIn};
 ghost use Rattle.engine.specs.Write.{Vars};
-ghost use Rattle.engine.specs.WriteAnswers.{varsOf};
+ghost use Rattle.engine.specs.WriteAnswers.{varsOf, IsWritten};
 ghost use Rattle.engine.specs.ActionAnswers.{worldOf, IsWorked, IsTaken, IsDone, Within};
 ghost use Rattle.tokens.specs.Token.{setSize};
 use crate::drive::drive_order;
@@ -22,6 +22,9 @@ use crate::order::Order;
 use crate::order::put;
 use crate::read::READ;
 use crate::read::rank_of;
+use crate::set::curve_line;
+use crate::write::Wrote;
+use crate::write::not_written;
 use crate::write::take_oldest;
 use crate::write::write;
 use checking::is_removal;
@@ -31,6 +34,7 @@ use tokens::token::LOCK;
 use tokens::token::M;
 use tokens::token::SETAL;
 use tokens::token::SIZE;
+use tokens::token::SYNFCT;
 use tokens::token::index_at;
 use tokens::token::is_axis;
 use tokens::token::is_call;
@@ -40,10 +44,13 @@ use tokens::token::token_at;
 use tokens::token::whole_of;
 use values::arithmetic::Worked;
 use values::codes::UNSOUND;
+use values::curve::Curve;
+use values::curve::value_at;
 use working::right_side;
 use working::variables::CELLS;
 use working::variables::RS;
 use working::variables::TIMERS;
+use working::variables::variable_value;
 
 // What a beat under way holds beside the arrays that are lent: the word of the lines that acted, and the count of orders.
 pub struct Progress {
@@ -177,6 +184,69 @@ fn assign(
         return not_done(x.alarm, progress);
     }
     did_all(t.next, progress)
+}
+
+// A curve at x, its result assigned to w[i] by the target's own rule.
+fn write_curve(
+    r: &mut [i32; RS],
+    cells: &mut [i32; CELLS],
+    runs: &mut [bool; TIMERS],
+    curve: Curve,
+    x: i32,
+    w: u32,
+    i: u32,
+) -> Wrote
+    ensures { λ u. ⌜ IsWritten u (varsOf (now (r .exit)) (now (cells .exit)) (now (runs .exit))) (curveAssigned (varsOf (now (r .entry)) (now (cells .entry)) (now (runs .entry))) curve x w i) ⌝ }
+{
+    match value_at(curve, x) {
+        Worked::Value(y) => write(r, cells, runs, w, i, y),
+        Worked::Alarm(a) => not_written(a),
+    }
+}
+
+// SYNFCT(n,target,variable) where the variable reads x: curve n is worked there, and its result is assigned to the target.
+fn synfct_at(
+    set: &[u32; SIZE],
+    r: &mut [i32; RS],
+    cells: &mut [i32; CELLS],
+    runs: &mut [bool; TIMERS],
+    progress: Progress,
+    x: i32,
+    p: usize,
+) -> Done
+    requires { ⌜ p < setSize ⌝ }
+    ensures { λ d. ⌜ ((locked memory : List Bool) (out : List ℕ) → IsDone d (worldOf (varsOf (now (r .exit)) (now (cells .exit)) (now (runs .exit))) locked memory out (d .progress)) (synfctAt (now (set .entry)) (worldOf (varsOf (now (r .entry)) (now (cells .entry)) (now (runs .entry))) locked memory out progress) x p)) × Within 0 d progress ⌝ }
+{
+    let w = token_at(set, p + 4);
+    let i = index_at(set, w, p + 4);
+    let n = whole_of(token_at(set, p + 2));
+    let line = curve_line(set, n);
+    let u = write_curve(r, cells, runs, line.curve, x, w, i);
+    let written = u.good;
+    if !written {
+        return not_done(u.alarm, progress);
+    }
+    did_all(p + 14, progress)
+}
+
+// SYNFCT(n,target,variable): the variable is read first.
+fn synfct(
+    set: &[u32; SIZE],
+    r: &mut [i32; RS],
+    cells: &mut [i32; CELLS],
+    runs: &mut [bool; TIMERS],
+    progress: Progress,
+    p: usize,
+) -> Done
+    requires { ⌜ p < setSize ⌝ }
+    ensures { λ x. ⌜ ((locked memory : List Bool) (out : List ℕ) → IsDone x (worldOf (varsOf (now (r .exit)) (now (cells .exit)) (now (runs .exit))) locked memory out (x .progress)) (synfctOf (now (set .entry)) (worldOf (varsOf (now (r .entry)) (now (cells .entry)) (now (runs .entry))) locked memory out progress) p)) × Within 0 x progress ⌝ }
+{
+    let v = token_at(set, p + 9);
+    let i = index_at(set, v, p + 9);
+    match variable_value(r, cells, v, i) {
+        Worked::Value(x) => synfct_at(set, r, cells, runs, progress, x, p),
+        Worked::Alarm(a) => not_done(a, progress),
+    }
 }
 
 // An order goes behind those of the beat so far.
@@ -325,6 +395,9 @@ pub fn action(
     }
     if is_drive(w) {
         return drive(set, r, cells, out, progress, number, w, p);
+    }
+    if w == SYNFCT {
+        return synfct(set, r, cells, runs, progress, p);
     }
     command(set, lines, cancelled, locked, out, progress, number, w, p)
 }

@@ -35,6 +35,7 @@ pub use order::ORDERS;
 pub use read::READ;
 pub use read::read_lines;
 pub use set::COUNT_PLACE;
+pub use set::CURVE_PLACE;
 pub use set::FIRST_PLACE;
 pub use set::Lines;
 pub use set::START_PLACE;

@@ -5,10 +5,10 @@ use mathlib.Core.List.{List}
 use Prim.Native.Nat.{ℕ, zero, suc, _+_}
 use lib.Dec.{eqb}
 use Rattle.values.specs.Codes.{notInGrammar}
-use Rattle.tokens.specs.Token.{isNumber, isVariable, isDrive, isCall, isFactor, isTerm, isCompare, isWhole, CLOSE, END, EQUALS, FALSE, M, MINUS, NOT, OPEN, TRUE}
+use Rattle.tokens.specs.Token.{isNumber, isVariable, isDrive, isCall, isFactor, isTerm, isCompare, isWhole, CLOSE, END, EQUALS, FALSE, M, MINUS, NOT, OPEN, SYNFCT, TRUE}
 use Rattle.tokens.specs.Descent.{token, Read, read, ends, then, isRow, isIndexed, joined, more, readProduct, readSum, readRest, readExpression, readClose, readVariable, readTruth, operandFrom, readOperand, sumAt, expressionAt}
 use Rattle.tokens.specs.SingleFault.{lower}
-use Rattle.checking.specs.Fault.{Sight, sight, faultFor, isRemoval, assignedAt, assignmentAt, commandAt, actionAt, actionsAt}
+use Rattle.checking.specs.Fault.{Sight, sight, faultFor, isRemoval, assignedAt, assignmentAt, commandAt, isSynfct, synfctAt, unindexedAt, actionAt, actionsAt}
 
 -- a reading has a result, or ends with 5
 abbrev pub Five : {A : Type 0} → Read A → Type 0
@@ -75,7 +75,7 @@ module _ (s : List ℕ) where
   condition-five k p = faultFor-five true (expressionAt s sight k p) (expression-five (readOperand s sight k) (operand-five k) k p)
 
   action-five : (kw k p : ℕ) → Five (actionAt s kw k p)
-  unfolding actionAt assignmentAt assignedAt commandAt
+  unfolding actionAt assignmentAt assignedAt commandAt unindexedAt synfctAt
   action-five kw k p =
       let w = token s p in
       choice-five (isIndexed s w p) _ _
@@ -84,11 +84,12 @@ module _ (s : List ℕ) where
       (then-five (assignedAt s k (p + 5)) _ (choice-five (isRemoval s (p + 5)) _ _ tt (right-five k (p + 5))) (λ f q. tt))
       (choice-five (isDrive w) _ _ (right-five k (p + 5)) refl))
       refl)
+      (choice-five (eqb w SYNFCT) _ _ (choice-five (isSynfct s p) _ _ tt refl)
       (choice-five (isWhole (token s (p + 2))) _ _
       (choice-five (eqb w M) _ _
       (choice-five (eqb (token s (p + 1)) EQUALS) _ _ tt refl)
       (choice-five (isCall w && (eqb (token s (p + 1)) OPEN && eqb (token s (p + 3)) CLOSE)) _ _ tt refl))
-      refl)
+      refl))
 
   -- and the actions'
   pub actions-five : (kw k j n f p : ℕ) → Five (actionsAt s kw k j n f p)

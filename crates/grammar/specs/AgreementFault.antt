@@ -2,23 +2,23 @@
 use mathlib.Core.Path.{_≡_, refl, sym, ap, _∙_}
 use mathlib.Core.Bool.{true, false, not as no?, _&&_, _||_, and-assoc, or-true, or-false, false≢true}
 use mathlib.Core.List.{List, [], _∷_, _++_}
-use Prim.Native.Nat.{ℕ, zero, suc, pred, _+_, _-_, _≤_}
+use Prim.Native.Nat.{ℕ, zero, suc, pred, _+_, _-_, _<_, _≤_}
 use native.Mathlib.Nat.{not-suc-le-zero, le-trans}
 use native.Mathlib.Omega.{arith}
 use lib.Dec.{T, eqb}
 use lib.ListN.{length, drop, length-append}
 use borrow.Author.Tests.{le-leb, eq-eqb, ne-eqb, eqb-true}
 use Rattle.values.specs.Choice.{holds, both, decide, chosen, refused, same-choice}
-use Rattle.tokens.specs.Token.{setSize, END, EQUALS, OPEN, CLOSE, DO, LEFT, RIGHT, IM, M, isVariable, isDrive, isCall, isWhole, isFifo, isNaming, isKeyword, isId, isFactor, isTerm, NUMBER, whole, wholeToken, axisOf, FALSE, FIFO1, FIFO4, IN, LOCK, MINUS, MOV, NOT, OVER, PLUS, POS, SETAL, TIMES, TRUE, UNLOCK}
-use Rattle.grammar.specs.Tree.{Operand, number, variable, position, truth, bracket, minus, not, product, Factors, noFactor, factor, Sum, sum, Terms, noTerm, term, compare, Action, assign, assignPosition, drive, code, call, Condition, always, under, Line, line, operandTokens, factorsTokens, sumTokens, termsTokens, actionTokens, actionsTokens, conditionTokens, lineTokens}
+use Rattle.tokens.specs.Token.{setSize, END, EQUALS, OPEN, CLOSE, COMMA, DO, LEFT, RIGHT, IM, M, SYNFCT, isVariable, isDrive, isCall, isWhole, isFifo, isNaming, isKeyword, isId, isFactor, isTerm, NUMBER, whole, wholeToken, axisOf, FALSE, FIFO1, FIFO4, IN, LOCK, MINUS, MOV, NOT, OVER, PLUS, POS, SETAL, TIMES, TRUE, UNLOCK}
+use Rattle.grammar.specs.Tree.{Operand, number, variable, position, truth, bracket, minus, not, product, Factors, noFactor, factor, Sum, sum, Terms, noTerm, term, compare, Action, assign, assignPosition, drive, code, call, synfct, Place, placeWord, placeIndex, placeToken, placeTokens, Condition, always, under, Line, line, operandTokens, factorsTokens, sumTokens, termsTokens, actionTokens, actionsTokens, conditionTokens, lineTokens}
 use Rattle.tokens.specs.Descent.{token, read, isIndex, indexOf, isIndexed, indexAt, sumAt}
 use Rattle.grammar.specs.Meaning.{sumMeaning, expressionMeaning, Stands, EndsSum, EndsExpression}
-use Rattle.tokens.specs.SingleFault.{lower, opensTooMany, writeFault, idFault}
-use Rattle.checking.specs.Fault.{sight, faultFor, countFault, numberOf, isRemoval, assignedAt, assignmentAt, commandAt, actionAt, actionsAt, namesFrom, lineParts, bodyAt, restAt, lineAt}
+use Rattle.tokens.specs.SingleFault.{lower, opensTooMany, readFault, writeFault, idFault, curveFault}
+use Rattle.checking.specs.Fault.{sight, faultFor, countFault, numberOf, isRemoval, assignedAt, assignmentAt, commandAt, isGiven, isSynfct, synfctFault, synfctAt, unindexedAt, actionAt, actionsAt, namesFrom, lineParts, bodyAt, restAt, lineAt}
 use Rattle.grammar.specs.TreeFault.{rightFault, isFifoZero, isAlone, isRemovalTree, assignedFault, actionFault, actionsFault, keywordOf, conditionFault, lineFault, conditionPlace, partsFrom, toldFrom}
 use Rattle.grammar.specs.TreeNames.{Name, actionNames, actionsNames, namesIn, hasNames}
 use Rattle.grammar.specs.Agreement.{sum-agrees, expression-agrees}
-use Rattle.grammar.specs.AgreementLaws.{bounds, before, beyond, stands-split, stands-place, parts-fit, numbered, whole-token, number-index, axis-index, index-stands}
+use Rattle.grammar.specs.AgreementLaws.{bounds, before, beyond, stands-split, stands-place, parts-fit, numbered, whole-token, number-index, axis-index, index-stands, place-index}
 use Rattle.grammar.specs.TreeFaultLaws.{lower-none, lower-assoc, lower-first, number-kept, seen-sum, seen-expression, wanted-read}
 
 -- ---- an action
@@ -39,6 +39,7 @@ action-long (assignPosition x v a) = omega arith
 action-long (drive w v x u a) = omega arith
 action-long (code n) = omega arith
 action-long (call w v n) = omega arith
+action-long (synfct n y z) = omega arith
 
 actions-long : (r : List Action) (a : Action) → 1 ≤ length (actionsTokens a r)
 unfolding actionsTokens
@@ -116,11 +117,49 @@ module _ (s : List ℕ) where
       (chosen _ _ _ on ∙ chosen _ _ _ is ∙ rw (h .0), b, rw five at (g .1))
 
   -- or no index behind the word w at p
-  command-stands : (w t kw k p : ℕ) → token s p ≡ w → token s (p + 1) ≡ t → eqb t LEFT ≡ false → actionAt s kw k p ≡ commandAt s kw w p
+  unindexed-stands : (w t kw k p : ℕ) → token s p ≡ w → token s (p + 1) ≡ t → eqb t LEFT ≡ false → actionAt s kw k p ≡ unindexedAt s kw w p
   unfolding actionAt isIndexed
-  command-stands w t kw k p h g e =
+  unindexed-stands w t kw k p h g e =
       let off : isIndexed s (token s p) p ≡ false = rw (g, e) in
       refused _ _ _ off ∙ rw h
+
+  command-stands : (w t kw k p : ℕ) → eqb w SYNFCT ≡ false → token s p ≡ w → token s (p + 1) ≡ t → eqb t LEFT ≡ false → actionAt s kw k p ≡ commandAt s kw w p
+  unfolding unindexedAt
+  command-stands w t kw k p n h g e = unindexed-stands w t kw k p h g e ∙ refused _ _ _ n
+
+  -- , and a place at p
+  given-stands : (y : Place) (l : List ℕ) (p q : ℕ) → Stands s p (COMMA ∷ placeTokens y ++ l) q → (isGiven s p ≡ true) × (token s (p + 1) ≡ placeWord y) × (indexAt s (placeWord y) (p + 1) ≡ placeIndex y) × Stands s (p + 5) l q
+  unfolding isGiven
+  given-stands y l p q h =
+      let (i, f, g) = stands-split s (placeTokens y) l (p + 1) q (h .1) in
+      let (v, x, k) = place-index y in
+      let (a, b, c) = index-stands s (placeWord y) (placeToken y) (p + 1) i x f in
+      let five : i ≡ p + 5 = omega arith in
+      let w : token s (p + 1) ≡ placeWord y = f .0 in
+      (rw (h .0, w, v) a, w, b ∙ k, rw five at g)
+
+  -- SYNFCT and what stands in brackets behind it
+  synfct-agrees : (n : ℕ) (y z : Place) (p q : ℕ) → Stands s p (actionTokens (synfct n y z)) q → synfctAt s p ≡ read (lower (curveFault n) (lower (writeFault (placeWord y) (placeIndex y)) (readFault (placeWord z) (placeIndex z)))) q
+  unfolding actionTokens synfctAt isSynfct synfctFault
+  synfct-agrees n y z p q h =
+      let two : p + 1 + 1 ≡ p + 2 = omega arith in
+      let three : p + 1 + 1 + 1 ≡ p + 3 = omega arith in
+      let four : p + 3 + 1 ≡ p + 4 = omega arith in
+      let eight : p + 3 + 5 ≡ p + 8 = omega arith in
+      let nine : p + 8 + 1 ≡ p + 9 = omega arith in
+      let thirteen : p + 8 + 5 ≡ p + 13 = omega arith in
+      let (x, m) = whole-token n in
+      let t : token s (p + 2) ≡ wholeToken n = rw two at (h .1 .1 .0) in
+      let (a, b, c, d) = given-stands y (COMMA ∷ placeTokens z ++ (CLOSE ∷ [])) (p + 3) q (rw three at (h .1 .1 .1)) in
+      let (f, g, i, j) = given-stands z (CLOSE ∷ []) (p + 8) q (rw eight at d) in
+      let w : token s (p + 4) ≡ placeWord y = rw four at b in
+      let v : token s (p + 9) ≡ placeWord z = rw nine at g in
+      let c′ : indexAt s (placeWord y) (p + 4) ≡ placeIndex y = rw four at c in
+      let i′ : indexAt s (placeWord z) (p + 9) ≡ placeIndex z = rw nine at i in
+      let e : token s (p + 13) ≡ CLOSE = rw thirteen at (j .0) in
+      let fourteen : p + 14 ≡ q = let k = j .1 in omega arith in
+      let all : isSynfct s p ≡ true = rw (h .1 .0, t, x, a, f, e) in
+      chosen _ _ _ all ∙ rw (t, m, w, c′, v, i′, fourteen)
 
   assign-agrees : (kw w t i : ℕ) (a : Sum) (k p q : ℕ) → isVariable w ≡ true → isIndex w t ≡ true → indexOf w t ≡ i → length (sumTokens a) ≤ k → Stands s p (w ∷ LEFT ∷ t ∷ RIGHT ∷ EQUALS ∷ sumTokens a) q → EndsSum (token s q) → actionAt s kw k p ≡ read (lower (writeFault w i) (assignedFault a)) q
   unfolding assignmentAt
@@ -129,7 +168,7 @@ module _ (s : List ℕ) where
       b ∙ chosen _ _ _ v ∙ rw (assigned-agrees a k (p + 5) q l d e, c, y)
 
   action-agrees : (kw : ℕ) (a : Action) (k p q : ℕ) → length (actionTokens a) ≤ k → Stands s p (actionTokens a) q → EndsSum (token s q) → actionAt s kw k p ≡ read (actionFault kw a) q
-  unfolding actionTokens actionFault assignmentAt commandAt
+  unfolding actionTokens actionFault assignmentAt commandAt unindexedAt
   action-agrees kw (assign w v i a) k p q l h e =
       let f = numbered w v in
       let x = number-index w i (f .2) in
@@ -148,7 +187,7 @@ module _ (s : List ℕ) where
       let (x, y) = whole-token n in
       let t : token s (p + 2) ≡ wholeToken n = rw two at (h .1 .1 .0) in
       let b : isWhole (token s (p + 2)) ≡ true = rw t x in
-      command-stands M EQUALS kw k p (h .0) (h .1 .0) refl ∙ chosen _ _ _ b ∙ chosen _ _ _ (eq-eqb (token s (p + 1)) EQUALS (h .1 .0)) ∙ rw (t, y, three)
+      command-stands M EQUALS kw k p refl (h .0) (h .1 .0) refl ∙ chosen _ _ _ b ∙ chosen _ _ _ (eq-eqb (token s (p + 1)) EQUALS (h .1 .0)) ∙ rw (t, y, three)
   action-agrees kw (call w v n) k p q l h e =
       let two : p + 1 + 1 ≡ p + 2 = omega arith in
       let three : p + 1 + 1 + 1 ≡ p + 3 = omega arith in
@@ -159,7 +198,8 @@ module _ (s : List ℕ) where
       let b : isWhole (token s (p + 2)) ≡ true = rw t x in
       let c : token s (p + 3) ≡ CLOSE = rw three at (h .1 .1 .1 .0) in
       let d : (isCall w && (eqb (token s (p + 1)) OPEN && eqb (token s (p + 3)) CLOSE)) ≡ true = rw (holds (isCall w) v, h .1 .0, c) in
-      command-stands w OPEN kw k p (h .0) (h .1 .0) refl ∙ chosen _ _ _ b ∙ refused _ _ _ (ne-eqb w M (λ z. omega arith)) ∙ chosen _ _ _ d ∙ rw (t, y, four)
+      command-stands w OPEN kw k p (ne-eqb w SYNFCT (λ z. omega arith)) (h .0) (h .1 .0) refl ∙ chosen _ _ _ b ∙ refused _ _ _ (ne-eqb w M (λ z. omega arith)) ∙ chosen _ _ _ d ∙ rw (t, y, four)
+  action-agrees kw (synfct n y z) k p q l h e = unindexed-stands SYNFCT OPEN kw k p (h .0) (h .1 .0) refl ∙ synfct-agrees n y z p q h
 
   -- ---- actions
 
@@ -171,6 +211,7 @@ module _ (s : List ℕ) where
   action-word (drive w v x u a) p q h = let b = bounds POS MOV w v in let e = h .0 in omega arith
   action-word (code n) p q h = let e = h .0 in omega arith
   action-word (call w v n) p q h = let b = bounds SETAL UNLOCK w v in let e = h .0 in omega arith
+  action-word (synfct n y z) p q h = let e = h .0 in omega arith
 
   pub actions-word : (a : Action) (r : List Action) (p q : ℕ) → Stands s p (actionsTokens a r) q → IN ≤ token s p
   unfolding actionsTokens
@@ -211,15 +252,19 @@ module _ (s : List ℕ) where
   naming : (w p : ℕ) → token s p ≡ w → isNaming w ≡ false → isNaming (token s p) ≡ false
   naming w p e h = rw e h
 
+  below-naming : (w : ℕ) → w < LOCK → isNaming w ≡ false
+  below-naming w h = rw (before LOCK UNLOCK w h, ne-eqb w SYNFCT (λ z. omega arith))
+
   action-naming : (a : Action) (p q : ℕ) → Stands s p (actionTokens a) q → isNaming (token s p) ≡ hasNames (actionNames a)
   unfolding actionTokens
-  action-naming (assign w v i a) p q h = let b = bounds IN FIFO4 w v in naming w p (h .0) (before LOCK UNLOCK w (omega arith))
+  action-naming (assign w v i a) p q h = let b = bounds IN FIFO4 w v in naming w p (h .0) (below-naming w (omega arith))
   action-naming (assignPosition x v a) p q h = naming IM p (h .0) refl
-  action-naming (drive w v x u a) p q h = let b = bounds POS MOV w v in naming w p (h .0) (before LOCK UNLOCK w (omega arith))
+  action-naming (drive w v x u a) p q h = let b = bounds POS MOV w v in naming w p (h .0) (below-naming w (omega arith))
   action-naming (code n) p q h = naming M p (h .0) refl
   action-naming (call w v n) p q h =
       let name : List Name = record { word = w; number = n } ∷ [] in
       ap isNaming (h .0) ∙ decide _ (isNaming w) (λ e. e ∙ ap hasNames (sym (chosen (isNaming w) name [] e))) (λ e. e ∙ ap hasNames (sym (refused (isNaming w) name [] e)))
+  action-naming (synfct n y z) p q h = ap isNaming (h .0)
 
   has-append : (l m : List Name) → (hasNames l || hasNames m) ≡ hasNames (l ++ m)
   has-append [] m = refl

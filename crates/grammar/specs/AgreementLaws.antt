@@ -11,6 +11,7 @@ use Rattle.values.specs.Numbers.{clash}
 use Rattle.values.specs.Choice.{holds, told-so, both}
 use Rattle.tokens.specs.Token.{NUMBER, LEFT, RIGHT, IM, between, isNumber, isVariable, isNumbered, hasAxis, isAxis, isWhole, numberCarried, whole, wholeToken, axisOf, FIFO4, IN}
 use Rattle.tokens.specs.Descent.{Answer, good, stop, Read, read, ends, _>>=_, then, upTo, isIndex, indexOf, isIndexed, indexAt}
+use Rattle.grammar.specs.Tree.{Place, cell, axis, placeWord, placeIndex, placeToken}
 use Rattle.grammar.specs.Meaning.{Stands}
 
 -- ---- tests
@@ -139,3 +140,10 @@ pub variable-kind : (w : ℕ) → isVariable w ≡ true → (hasAxis w ≡ true 
 variable-kind w h =
     let b = bounds IN IM w (told-so _ h) in
     (λ a. let c = leb-true IM w a in omega arith, λ a. let c = leb-false IM w a in told-so _ (within IN FIFO4 w (b .0) (omega arith)))
+
+-- ---- a place
+
+-- its word is a variable, and the token of its index is an index of it
+pub place-index : (y : Place) → (isVariable (placeWord y) ≡ true) × (isIndex (placeWord y) (placeToken y) ≡ true) × (indexOf (placeWord y) (placeToken y) ≡ placeIndex y)
+place-index (cell w v i) = let f = numbered w v in let x = number-index w i (f .2) in (f .1, x .0, x .1)
+place-index (axis x v) = let g = axis-index IM x refl v in (refl, g .0, g .1)

@@ -11,12 +11,12 @@ use borrow.Author.Tests.{le-leb, lt-leb, eq-eqb, eqb-true, eqb-false}
 use Rattle.values.specs.Codes.{tooDeep, notInGrammar}
 use Rattle.values.specs.Choice.{told-so, both, decide, choice, chosen, refused}
 use Rattle.checking.specs.declared.line.Line.{Line as Told}
-use Rattle.tokens.specs.Token.{setSize, END, EQUALS, LEFT, RIGHT, DO, IM, isVariable, hasAxis, isFifo, isDrive, isCall, isKeyword, isId, isWhole, whole, CLOSE, FIFO1, FIFO4, IN, M, MOV, OPEN, POS}
-use Rattle.grammar.specs.Tree.{variable, product, noFactor, Sum, sum, noTerm, Action, assign, assignPosition, drive, code, call, Condition, always, under, Line, line, treeNumber, sumTokens, actionTokens, actionsTokens, conditionTokens, lineTokens}
+use Rattle.tokens.specs.Token.{setSize, END, EQUALS, LEFT, RIGHT, DO, IM, isVariable, hasAxis, isFifo, isDrive, isCall, isKeyword, isId, isWhole, whole, CLOSE, COMMA, FIFO1, FIFO4, IN, M, MOV, OPEN, POS, SYNFCT}
+use Rattle.grammar.specs.Tree.{variable, product, noFactor, Sum, sum, noTerm, Action, assign, assignPosition, drive, code, call, synfct, Place, cell, axis, placeTokens, Condition, always, under, Line, line, treeNumber, sumTokens, actionTokens, actionsTokens, conditionTokens, lineTokens}
 use Rattle.tokens.specs.Descent.{token, Read, read, ends, isIndexed, indexAt, sumAt, expressionAt}
 use Rattle.grammar.specs.Meaning.{Stands}
 use Rattle.tokens.specs.SingleFault.{lower, opensTooMany}
-use Rattle.checking.specs.Fault.{Sight, sight, faultFor, isRemoval, assignedAt, assignmentAt, commandAt, actionAt, actionsAt, lineParts, bodyAt, restAt, lineAt}
+use Rattle.checking.specs.Fault.{Sight, sight, faultFor, isRemoval, assignedAt, assignmentAt, commandAt, isGiven, isSynfct, synfctAt, unindexedAt, actionAt, actionsAt, lineParts, bodyAt, restAt, lineAt}
 use Rattle.grammar.specs.TreeFault.{lineFault, Proper, partsFrom, toldFrom}
 use Rattle.grammar.specs.AgreementLaws.{bounds, within, ends-read, then-read, stands-join, whole-written, number-written, axis-written, variable-kind}
 use Rattle.grammar.specs.AgreementRead.{sum-found, expression-found}
@@ -115,12 +115,56 @@ module _ (s : List ℕ) where
       (λ _ e. ends-read _ notInGrammar q f e)))
       (λ _ e. ends-read _ notInGrammar q f e)
 
+  -- , and a place
+  place-found : (p : ℕ) → isGiven s p ≡ true → (y : Place) × Stands s p (COMMA ∷ placeTokens y) (p + 5)
+  unfolding isGiven
+  place-found p h =
+      let (c, g) = both (eqb (token s p) COMMA) _ h in
+      let w = token s (p + 1) in
+      let (t, x) = both (isVariable w) _ g in
+      let kind = variable-kind w t in
+      let five : p + 1 + 4 ≡ p + 5 = omega arith in
+      let comma = eqb-true (token s p) COMMA c in
+      decide _ (hasAxis w)
+      (λ r.
+      let (b, v, n) = axis-written s w (p + 1) refl r x in
+      let z : Stands s (p + 1) (IM ∷ LEFT ∷ token s (p + 1 + 2) ∷ RIGHT ∷ []) (p + 1 + 4) = (kind .0 r, b .1) in
+      (axis (token s (p + 1 + 2)) v, (comma, rw five at z)))
+      (λ r. (cell w (kind .1 r) (indexAt s w (p + 1)), (comma, rw five at (number-written s w (p + 1) refl r x))))
+
+  synfct-found : (p f q : ℕ) → token s p ≡ SYNFCT → synfctAt s p ≡ read f q → (a : Action) × Stands s p (actionTokens a) q
+  unfolding synfctAt isSynfct actionTokens
+  synfct-found p f q w h =
+      let two : p + 1 + 1 ≡ p + 2 = omega arith in
+      let three : p + 2 + 1 ≡ p + 3 = omega arith in
+      let eight : p + 3 + 5 ≡ p + 8 = omega arith in
+      let thirteen : p + 8 + 5 ≡ p + 13 = omega arith in
+      choice _ (isSynfct s p) _ _ _ h
+      (λ t e.
+      let (o, a) = both (eqb (token s (p + 1)) OPEN) _ t in
+      let (n, b) = both (isWhole (token s (p + 2))) _ a in
+      let (c, g) = both (isGiven s (p + 3)) _ b in
+      let (d, i) = both (isGiven s (p + 8)) _ g in
+      let (y, u) = place-found (p + 3) c in
+      let (z, v) = place-found (p + 8) d in
+      let j : p + 14 ≡ q = cc in
+      let k : p + 13 + 1 ≡ q = omega arith in
+      let l = stands-join s (COMMA ∷ placeTokens z) (CLOSE ∷ []) (p + 8) (p + 13) q (rw thirteen at v) (eqb-true (token s (p + 13)) CLOSE i, k) in
+      let m = stands-join s (COMMA ∷ placeTokens y) (COMMA ∷ placeTokens z ++ (CLOSE ∷ [])) (p + 3) (p + 8) q (rw eight at u) l in
+      (synfct (whole (token s (p + 2))) y z, (w, (eqb-true (token s (p + 1)) OPEN o, rw (two, three) (whole-written (token s (p + 2)) n, m)))))
+      (λ _ e. ends-read _ notInGrammar q f e)
+
+  unindexed-found : (kw p f q : ℕ) → unindexedAt s kw (token s p) p ≡ read f q → (a : Action) × Stands s p (actionTokens a) q
+  unfolding unindexedAt
+  unindexed-found kw p f q h =
+      choice _ (eqb (token s p) SYNFCT) _ _ _ h (λ t e. synfct-found p f q (eqb-true (token s p) SYNFCT t) e) (λ _ e. command-found kw p f q e)
+
   action-found : (kw k p f q : ℕ) → actionAt s kw k p ≡ read f q → (a : Action) × Stands s p (actionTokens a) q
   unfolding actionAt
   action-found kw k p f q h =
       choice _ (isIndexed s (token s p) p) _ _ _ h
       (λ x h. choice _ (eqb (token s (p + 4)) EQUALS) _ _ _ h (λ y e. assignment-found k p f q x (eqb-true (token s (p + 4)) EQUALS y) e) (λ _ e. ends-read _ notInGrammar q f e))
-      (λ _ e. command-found kw p f q e)
+      (λ _ e. unindexed-found kw p f q e)
 
   actions-found : (kw k j n f p g q : ℕ) → actionsAt s kw k j n f p ≡ read g q → (a : Action) × (r : List Action) × Stands s p (actionsTokens a r) q × (token s q ≡ END)
   unfolding actionsAt actionsTokens

@@ -1,6 +1,6 @@
--- The tokens of a line: none but the last is 0, and LOCK or UNLOCK is not the last before it; so they lie inside the list. Assumes nothing.
+-- The tokens of a line: none but the last is 0, and LOCK, UNLOCK or SYNFCT is not the last before it; so they lie inside the list. Assumes nothing.
 use mathlib.Core.Path.{_≡_, refl, sym, _∙_}
-use mathlib.Core.Bool.{true, false}
+use mathlib.Core.Bool.{Bool, true, false}
 use mathlib.Core.List.{List, [], _∷_, _++_, append-assoc}
 use Prim.Native.Nat.{ℕ, suc, _+_, _≤_, _<_}
 use native.Mathlib.Omega.{arith}
@@ -8,25 +8,25 @@ use lib.Dec.{leb}
 use lib.ListN.{length, length-append, List·getD-eq-default}
 use borrow.Author.Tests.{leb-true, leb-false}
 use Rattle.values.specs.Choice.{decide}
-use Rattle.tokens.specs.Token.{END, EQUALS, CLOSE, DO, LOCK, UNLOCK, wholeToken, AllReal, AND, ATLEAST, EVERY, FIFO4, ID, IDS, IN, MINUS, MOV, OVER, PLUS, POS, SAME, SETAL, TIMES, W, WHEN, X, XOR}
+use Rattle.tokens.specs.Token.{END, EQUALS, OPEN, CLOSE, COMMA, DO, LOCK, UNLOCK, SYNFCT, wholeToken, AllReal, AND, ATLEAST, EVERY, FIFO4, ID, IDS, IN, MINUS, MOV, OVER, PLUS, POS, SAME, SETAL, TIMES, W, WHEN, X, XOR}
 use Rattle.tokens.specs.Descent.{token}
-use Rattle.grammar.specs.Tree.{Operand, number, variable, position, truth, bracket, minus, not, Product, product, Factors, noFactor, factor, Sum, sum, Terms, noTerm, term, Expression, single, compare, row, Sums, last, next, Action, assign, assignPosition, drive, code, call, Condition, always, under, Line, line, operandTokens, productTokens, factorsTokens, sumTokens, termsTokens, expressionTokens, sumsTokens, actionTokens, actionsTokens, conditionTokens, lineTokens}
+use Rattle.grammar.specs.Tree.{Operand, number, variable, position, truth, bracket, minus, not, Product, product, Factors, noFactor, factor, Sum, sum, Terms, noTerm, term, Expression, single, compare, row, Sums, last, next, Action, assign, assignPosition, drive, code, call, synfct, Place, cell, axis, placeTokens, Condition, always, under, Line, line, operandTokens, productTokens, factorsTokens, sumTokens, termsTokens, expressionTokens, sumsTokens, actionTokens, actionsTokens, conditionTokens, lineTokens, Parameter, Definition, parameterTokens, definitionFront}
 use Rattle.grammar.specs.Meaning.{Stands}
 use Rattle.grammar.specs.AgreementLaws.{bounds, stands-split, stands-place}
 
--- no token of a row is 0, a LOCK or an UNLOCK
+-- no token of a row is 0, a LOCK, an UNLOCK or a SYNFCT
 abbrev pub Plain : List ℕ → Type 0
 Plain [] = Unit {0}
-Plain (t ∷ l) = (0 < t) × (LOCK ≤ t → UNLOCK < t) × Plain l
+Plain (t ∷ l) = (0 < t) × (LOCK ≤ t → SYNFCT < t) × Plain l
 
 plain-join : (l m : List ℕ) → Plain l → Plain m → Plain (l ++ m)
 plain-join [] m h g = g
 plain-join (t ∷ l) m h g = (h .0, h .1, plain-join l m (h .2) g)
 
--- no token of a row is 0, and behind a LOCK or UNLOCK the row goes on
+-- no token of a row is 0, and behind a LOCK, UNLOCK or SYNFCT the row goes on
 abbrev pub Closed : List ℕ → Type 0
 Closed [] = Unit {0}
-Closed (t ∷ l) = (0 < t) × (LOCK ≤ t → t ≤ UNLOCK → 0 < length l) × Closed l
+Closed (t ∷ l) = (0 < t) × (LOCK ≤ t → t ≤ SYNFCT → 0 < length l) × Closed l
 
 closed-join : (l m : List ℕ) → Closed l → Closed m → Closed (l ++ m)
 closed-join [] m h g = g
@@ -73,9 +73,23 @@ mutual
   plain-sums (last a) o h g = (h, omega arith, plain-sum a)
   plain-sums (next a r) o h g = (h, omega arith, plain-join (sumTokens a) (sumsTokens o r) (plain-sum a) (plain-sums r o h g))
 
--- five tokens that are no LOCK or UNLOCK, and a right side behind them
-closed-right : (t u v w x : ℕ) (a : Sum) → (0 < t) × (t < LOCK) → (0 < u) × (u < LOCK) → (0 < v) × (LOCK ≤ v → UNLOCK < v) → (0 < w) × (w < LOCK) → (0 < x) × (x < LOCK) → Closed (t ∷ u ∷ v ∷ w ∷ x ∷ sumTokens a)
+-- of a place
+plain-place : (y : Place) → Plain (placeTokens y)
+plain-place (cell w v i) = let b = bounds IN FIFO4 w v in omega arith
+plain-place (axis x v) = let b = bounds X W x v in omega arith
+
+-- five tokens that are no LOCK, UNLOCK or SYNFCT, and a right side behind them
+closed-right : (t u v w x : ℕ) (a : Sum) → (0 < t) × (t < LOCK) → (0 < u) × (u < LOCK) → (0 < v) × (LOCK ≤ v → SYNFCT < v) → (0 < w) × (w < LOCK) → (0 < x) × (x < LOCK) → Closed (t ∷ u ∷ v ∷ w ∷ x ∷ sumTokens a)
 closed-right t u v w x a h i j k m = (h .0, omega arith, (i .0, omega arith, (j .0, omega arith, (k .0, omega arith, (m .0, omega arith, plain-closed (sumTokens a) (plain-sum a))))))
+
+-- what stands behind the word SYNFCT
+abbrev pub behindSynfct : ℕ → Place → Place → List ℕ
+behindSynfct n y z = OPEN ∷ wholeToken n ∷ COMMA ∷ placeTokens y ++ (COMMA ∷ placeTokens z ++ (CLOSE ∷ []))
+
+pub plain-synfct : (n : ℕ) (y z : Place) → Plain (behindSynfct n y z)
+plain-synfct n y z =
+    let q : Plain (COMMA ∷ placeTokens z ++ (CLOSE ∷ [])) = (omega arith, omega arith, plain-join (placeTokens z) (CLOSE ∷ []) (plain-place z) (omega arith)) in
+    (omega arith, omega arith, (omega arith, omega arith, (omega arith, omega arith, plain-join (placeTokens y) (COMMA ∷ placeTokens z ++ (CLOSE ∷ [])) (plain-place y) q)))
 
 pub closed-action : (a : Action) → Closed (actionTokens a)
 unfolding actionTokens
@@ -85,6 +99,7 @@ closed-action (drive w v x u a) =
     let b = bounds POS MOV w v in let c = bounds X W x u in closed-right _ _ _ _ _ a (omega arith) (omega arith) (omega arith) (omega arith) (omega arith)
 closed-action (code n) = omega arith
 closed-action (call w v n) = let b = bounds SETAL UNLOCK w v in omega arith
+closed-action (synfct n y z) = (omega arith, omega arith, plain-closed (behindSynfct n y z) (plain-synfct n y z))
 
 closed-actions : (r : List Action) (a : Action) → Closed (actionsTokens a r)
 unfolding actionsTokens
@@ -108,6 +123,23 @@ pub front-closed : (l : Line) → Closed (front l)
 front-closed (line w v n c a r) =
     let b = bounds ID IDS w v in
     (omega arith, omega arith, (omega arith, omega arith, (omega arith, omega arith, closed-join (conditionTokens c) (DO ∷ actionsTokens a r) (closed-condition c) (omega arith, omega arith, closed-actions r a))))
+
+-- a parameter and the sign behind it
+plain-parameter : (m : Bool) (n t : ℕ) → 0 < t → t < LOCK → Plain (parameterTokens (record { negative = m; number = n }) t)
+unfolding parameterTokens
+plain-parameter true n t h g = omega arith
+plain-parameter false n t h g = omega arith
+
+plain-part : (x : Parameter) (t : ℕ) (l : List ℕ) → 0 < t → t < LOCK → Plain l → Plain (parameterTokens x t ++ l)
+plain-part x t l h g k = plain-join (parameterTokens x t) l (plain-parameter (x .negative) (x .number) t h g) k
+
+pub definition-closed : (d : Definition) → Closed (definitionFront d)
+unfolding definitionFront
+definition-closed d =
+    let z = plain-parameter (d .a3 .negative) (d .a3 .number) CLOSE (omega arith) (omega arith) in
+    let y = plain-part (d .a1) COMMA _ (omega arith) (omega arith) (plain-part (d .a2) COMMA _ (omega arith) (omega arith) z) in
+    let x = plain-part (d .upper) COMMA _ (omega arith) (omega arith) (plain-part (d .a0) COMMA _ (omega arith) (omega arith) y) in
+    plain-closed (definitionFront d) (omega arith, omega arith, (omega arith, omega arith, (omega arith, omega arith, (omega arith, omega arith, plain-part (d .lower) COMMA _ (omega arith) (omega arith) x))))
 
 -- a closed row and a row of real tokens that stand at one place, each up to a 0, are one
 pub same-row : (s l m : List ℕ) (p q r : ℕ) → Closed l → AllReal m → Stands s p (l ++ (END ∷ [])) q → Stands s p (m ++ (END ∷ [])) r → l ≡ m

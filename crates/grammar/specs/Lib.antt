@@ -1,6 +1,6 @@
 -- The grammar of a line. Tree, Meaning, TreeFault, TreeNames, TreeOf and NumbersTo are the definitions; the definition of loading (Load of reader) stands on Tree, TreeFault, TreeNames and TreeOf. That writing and
--- reading agree is shown in Agreement.., ClosedTokens and LineByTree, that TreeOf finds just the line which is written in TreeOfLaws; the other files named ..Laws hold what these need, NumbersToLaws what holds of a
--- line with other numbers; LineTable computes worked lines of the documents.
+-- reading agree is shown in Agreement.., ClosedTokens, LineByTree and DefinitionByTree, that TreeOf finds just the line which is written in TreeOfLaws; the other files named ..Laws hold what these need, NumbersToLaws what holds of a
+-- line with other numbers; LineTable and DefinitionTable compute worked lines of the documents.
 pub mod Tree
 pub mod Meaning
 pub mod TreeNames
@@ -16,7 +16,10 @@ pub mod AgreementEnds
 pub mod AgreementLine
 pub mod StandsLaws
 pub mod LineByTree
+pub mod AgreementDefinition
+pub mod DefinitionByTree
 pub mod TreeOfLaws
 pub mod LineTable
+pub mod DefinitionTable
 pub mod NumbersTo
 pub mod NumbersToLaws

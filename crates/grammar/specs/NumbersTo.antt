@@ -1,9 +1,9 @@
--- A line of the grammar with other numbers: what each of its numbers carries is changed in one way; indices, line numbers and the numbers of M, SETAL, LOCK and UNLOCK stay. Definitions only.
+-- A line of the grammar, and a definition, with other numbers: what each of its numbers carries is changed in one way; indices, line numbers and the numbers of M, SETAL, LOCK, UNLOCK and SYNFCT stay. Definitions only.
 use mathlib.Core.Bool.{true, false}
 use mathlib.Core.List.{map}
 use Prim.Native.Nat.{ℕ, _+_}
 use Rattle.tokens.specs.Token.{NUMBER, isNumber, numberCarried}
-use Rattle.grammar.specs.Tree.{Operand, number, variable, position, truth, bracket, minus, not, Product, product, Factors, noFactor, factor, Sum, sum, Terms, noTerm, term, Expression, single, compare, row, Sums, last, next, Action, assign, assignPosition, drive, code, call, Condition, always, under, Line, line}
+use Rattle.grammar.specs.Tree.{Operand, number, variable, position, truth, bracket, minus, not, Product, product, Factors, noFactor, factor, Sum, sum, Terms, noTerm, term, Expression, single, compare, row, Sums, last, next, Action, assign, assignPosition, drive, code, call, synfct, Condition, always, under, Line, line, Parameter, Definition}
 
 module _ (f : ℕ → ℕ) where
   -- a token: a number carries the changed one, any other stays
@@ -49,6 +49,7 @@ module _ (f : ℕ → ℕ) where
   actionTo (drive w v x u a) = drive w v x u (sumTo a)
   actionTo (code n) = code n
   actionTo (call w v n) = call w v n
+  actionTo (synfct n y z) = synfct n y z
 
   unfoldable pub conditionTo : Condition → Condition
   conditionTo always = always
@@ -56,3 +57,18 @@ module _ (f : ℕ → ℕ) where
 
   unfoldable pub numbersTo : Line → Line
   numbersTo (line w v n c a r) = line w v n (conditionTo c) (actionTo a) (map actionTo r)
+
+  -- the parameters of a definition; its curve's number stays
+  unfoldable pub parameterTo : Parameter → Parameter
+  parameterTo x = record { negative = x .negative; number = f (x .number) }
+
+  unfoldable pub definitionTo : Definition → Definition
+  definitionTo d = record {
+    number = d .number;
+    lower = parameterTo (d .lower);
+    upper = parameterTo (d .upper);
+    a0 = parameterTo (d .a0);
+    a1 = parameterTo (d .a1);
+    a2 = parameterTo (d .a2);
+    a3 = parameterTo (d .a3);
+  }

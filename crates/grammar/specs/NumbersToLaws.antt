@@ -10,16 +10,16 @@ use lib.IntN.{ℤ}
 use lib.ListN.{length-map}
 use borrow.Author.Tests.{leb-true, leb-false, le-leb, lt-leb, ne-eqb}
 use Rattle.values.specs.Choice.{decide, chosen, refused}
-use Rattle.tokens.specs.Token.{END, EQUALS, MINUS, OPEN, CLOSE, LEFT, RIGHT, IM, NUMBER, IN, FIFO4, X, W, TIMES, OVER, PLUS, SAME, ATLEAST, AND, XOR, POS, MOV, SETAL, UNLOCK, WHEN, EVERY, ID, IDS, isNumber, numberCarried, whole, wholeToken}
+use Rattle.tokens.specs.Token.{END, EQUALS, MINUS, OPEN, CLOSE, COMMA, LEFT, RIGHT, IM, NUMBER, IN, FIFO4, X, W, TIMES, OVER, PLUS, SAME, ATLEAST, AND, XOR, POS, MOV, SETAL, UNLOCK, WHEN, EVERY, ID, IDS, isNumber, numberCarried, whole, wholeToken}
 use Rattle.tokens.specs.Descent.{Answer, good, stop, _>>=_, Meaning}
 use Rattle.tokens.specs.SingleFault.{bracketsOpen, opensTooMany, numberFault}
 use Rattle.checking.specs.Fault.{sight}
 use Rattle.working.specs.Working.{valueOver}
-use Rattle.grammar.specs.Tree.{Operand, number, variable, position, truth, bracket, minus, not, Product, product, Factors, noFactor, factor, Sum, sum, Terms, noTerm, term, Expression, single, compare, row, Sums, last, next, Action, assign, assignPosition, drive, code, call, Condition, always, under, Line, line, treeNumber, operandTokens, productTokens, factorsTokens, sumTokens, termsTokens, expressionTokens, sumsTokens, actionTokens, actionsTokens, conditionTokens, lineTokens}
+use Rattle.grammar.specs.Tree.{Operand, number, variable, position, truth, bracket, minus, not, Product, product, Factors, noFactor, factor, Sum, sum, Terms, noTerm, term, Expression, single, compare, row, Sums, last, next, Action, assign, assignPosition, drive, code, call, synfct, Place, cell, axis, placeTokens, Condition, always, under, Line, line, treeNumber, operandTokens, productTokens, factorsTokens, sumTokens, termsTokens, expressionTokens, sumsTokens, actionTokens, actionsTokens, conditionTokens, lineTokens, Parameter, Definition, parameterTokens, definitionFront}
 use Rattle.grammar.specs.Meaning.{operandMeaning, productMeaning, factorsMeaning, sumMeaning, termsMeaning, expressionMeaning, sumsMeaning}
-use Rattle.grammar.specs.TreeFault.{rightFault, isFifoZero, isAlone, isRemovalTree, assignedFault, actionFault, actionsFault, keywordOf, conditionFault, lineFault}
+use Rattle.grammar.specs.TreeFault.{rightFault, isFifoZero, isAlone, isRemovalTree, assignedFault, actionFault, actionsFault, keywordOf, conditionFault, lineFault, parameterValue, curveIn, withParameter, numbersFault, definitionFault}
 use Rattle.grammar.specs.TreeNames.{actionNames, actionsNames, namesIn}
-use Rattle.grammar.specs.NumbersTo.{tokenTo, operandTo, productTo, factorsTo, sumTo, termsTo, expressionTo, sumsTo, actionTo, conditionTo, numbersTo}
+use Rattle.grammar.specs.NumbersTo.{tokenTo, operandTo, productTo, factorsTo, sumTo, termsTo, expressionTo, sumsTo, actionTo, conditionTo, numbersTo, parameterTo, definitionTo}
 use Rattle.grammar.specs.AgreementLaws.{bounds}
 
 -- a change of what numbers carry that keeps whole numbers, and the thousandths of all
@@ -199,6 +199,12 @@ module _ (f : ℕ → ℕ) (keeps : Keeps f) where
   unfolding tokenTo
   target-to w t u h e g = step _ _ (to-other w h) (step _ _ refl (step _ _ e (step _ _ refl (step _ _ refl g))))
 
+  -- a place stays
+  place-to : (y : Place) → Changed (placeTokens y) (placeTokens y)
+  unfolding tokenTo
+  place-to (cell w v i) = let b = bounds IN FIFO4 w v in step _ _ (to-other w (omega arith)) (step _ _ refl (step _ _ (to-whole i) (step _ _ refl none)))
+  place-to (axis x v) = let b = bounds X W x v in step _ _ refl (step _ _ refl (step _ _ (to-other x (omega arith)) (step _ _ refl none)))
+
   action-to : (a : Action) → Changed (actionTokens a) (actionTokens (actionTo f a))
   unfolding actionTokens actionTo tokenTo
   action-to (assign w v i a) = let b = bounds IN FIFO4 w v in target-to w _ _ (omega arith) (to-whole i) (sum-to a)
@@ -206,6 +212,7 @@ module _ (f : ℕ → ℕ) (keeps : Keeps f) where
   action-to (drive w v x u a) = let b = bounds POS MOV w v in let c = bounds X W x u in target-to w x x (omega arith) (to-other x (omega arith)) (sum-to a)
   action-to (code n) = step _ _ refl (step _ _ refl (step _ _ (to-whole n) none))
   action-to (call w v n) = let b = bounds SETAL UNLOCK w v in step _ _ (to-other w (omega arith)) (step _ _ refl (step _ _ (to-whole n) (step _ _ refl none)))
+  action-to (synfct n y z) = step _ _ refl (step _ _ refl (step _ _ (to-whole n) (step _ _ refl (join (place-to y) (step _ _ refl (join (place-to z) (step _ _ refl none)))))))
 
   actions-to : (r : List Action) (a : Action) → Changed (actionsTokens a r) (actionsTokens (actionTo f a) (map (actionTo f) r))
   unfolding actionsTokens
@@ -226,6 +233,28 @@ module _ (f : ℕ → ℕ) (keeps : Keeps f) where
   -- THE TOKENS of the line with other numbers are those of the line, each changed
   pub to-tokens : (l : Line) → map (tokenTo f) (lineTokens l) ≡ lineTokens (numbersTo f l)
   to-tokens l = line-to l .same
+
+  -- a parameter and the sign behind it
+  parameter-to : (m : Bool) (n t : ℕ) → t < NUMBER → Changed (parameterTokens (record { negative = m; number = n }) t) (parameterTokens (record { negative = m; number = f n }) t)
+  unfolding parameterTokens tokenTo
+  parameter-to true n t h = step _ _ refl (step _ _ (to-number n) (step _ _ (to-other t h) none))
+  parameter-to false n t h = step _ _ (to-number n) (step _ _ (to-other t h) none)
+
+  part-to : (x : Parameter) (t : ℕ) {l m : List ℕ} → t < NUMBER → Changed l m → Changed (parameterTokens x t ++ l) (parameterTokens (parameterTo f x) t ++ m)
+  unfolding parameterTo
+  part-to x t h g = join (parameter-to (x .negative) (x .number) t h) g
+
+  definition-to : (d : Definition) → Changed (definitionFront d) (definitionFront (definitionTo f d))
+  unfolding definitionFront definitionTo parameterTo tokenTo
+  definition-to d =
+      let z = parameter-to (d .a3 .negative) (d .a3 .number) CLOSE (omega arith) in
+      let y = part-to (d .a1) COMMA (omega arith) (part-to (d .a2) COMMA (omega arith) z) in
+      let x = part-to (d .upper) COMMA (omega arith) (part-to (d .a0) COMMA (omega arith) y) in
+      step _ _ refl (step _ _ refl (step _ _ (to-whole (d .number)) (step _ _ refl (part-to (d .lower) COMMA (omega arith) x))))
+
+  -- of a definition too
+  pub to-definition-tokens : (d : Definition) → map (tokenTo f) (definitionFront d) ≡ definitionFront (definitionTo f d)
+  to-definition-tokens d = definition-to d .same
 
   -- as many brackets are open
   pub to-opens : (l : List ℕ) (n : ℕ) → opensTooMany (map (tokenTo f) l) n ≡ opensTooMany l n
@@ -268,6 +297,7 @@ module _ (f : ℕ → ℕ) (keeps : Keeps f) where
   action-same kw (drive w v x u a) = right-same a
   action-same kw (code n) = refl
   action-same kw (call w v n) = refl
+  action-same kw (synfct n y z) = refl
 
   actions-same : (kw : ℕ) (r : List Action) (a : Action) → actionsFault kw (actionTo f a) (map (actionTo f) r) ≡ actionsFault kw a r
   unfolding actionsFault
@@ -286,6 +316,30 @@ module _ (f : ℕ → ℕ) (keeps : Keeps f) where
       let (k, g) = condition-same c in
       rw (k, g, actions-same (keywordOf c) r a, length-map r (actionTo f))
 
+  -- ---- a definition
+
+  value-to : (x : Parameter) → parameterValue (parameterTo f x) ≡ parameterValue x
+  unfolding parameterTo
+  value-to x = rw (keeps .value (x .number))
+
+  -- A DEFINITION defines the same curve
+  pub to-curve : (d : Definition) → curveIn (definitionTo f d) ≡ curveIn d
+  unfolding curveIn definitionTo
+  to-curve d = rw (value-to (d .lower), value-to (d .upper), value-to (d .a0), value-to (d .a1), value-to (d .a2), value-to (d .a3))
+
+  number-to : (g : ℕ) (x : Parameter) → withParameter g (parameterTo f x) ≡ withParameter g x
+  unfolding parameterTo numberFault
+  number-to g x = rw (keeps .value (x .number))
+
+  numbers-to : (d : Definition) → numbersFault (definitionTo f d) ≡ numbersFault d
+  unfolding numbersFault definitionTo
+  numbers-to d = rw (number-to _ (d .lower), number-to _ (d .upper), number-to _ (d .a0), number-to _ (d .a1), number-to _ (d .a2), number-to _ (d .a3))
+
+  -- and has the same fault
+  pub to-definition-fault : (d : Definition) → definitionFault (definitionTo f d) ≡ definitionFault d
+  unfolding definitionFault
+  to-definition-fault d = rw (to-curve d, numbers-to d)
+
 -- ---- a line's number stays, and what it names
 
 pub to-line-number : (f : ℕ → ℕ) (l : Line) → treeNumber (numbersTo f l) ≡ treeNumber l
@@ -299,6 +353,7 @@ action-names-to f (assignPosition x v a) = refl
 action-names-to f (drive w v x u a) = refl
 action-names-to f (code n) = refl
 action-names-to f (call w v n) = refl
+action-names-to f (synfct n y z) = refl
 
 actions-names-to : (f : ℕ → ℕ) (r : List Action) (a : Action) → actionsNames (actionTo f a) (map (actionTo f) r) ≡ actionsNames a r
 unfolding actionsNames

@@ -1,10 +1,10 @@
--- The grammar of document 01, "Lines of text", as trees, brackets kept, and how a tree is written as tokens. Definitions only.
+-- The grammar of document 01, "Lines of text", and of document 02, Req 03, as trees, brackets kept, and how a tree is written as tokens. Definitions only.
 use mathlib.Core.Path.{_≡_}
 use mathlib.Core.Bool.{Bool, true, false}
 use mathlib.Core.List.{List, [], _∷_, _++_}
 use Prim.Native.Nat.{ℕ, _+_}
 use lib.Dec.{T}
-use Rattle.tokens.specs.Token.{END, EQUALS, MINUS, OPEN, CLOSE, LEFT, RIGHT, DO, TRUE, FALSE, NOT, IM, M, NUMBER, isNumbered, isAxis, isDrive, isCall, isKeyword, isId, isFactor, isTerm, isCompare, isLogic, wholeToken}
+use Rattle.tokens.specs.Token.{END, EQUALS, MINUS, OPEN, CLOSE, LEFT, RIGHT, DO, TRUE, FALSE, NOT, COMMA, FCTDEF, IM, M, SYNFCT, NUMBER, isNumbered, isAxis, isDrive, isCall, isKeyword, isId, isFactor, isTerm, isCompare, isLogic, wholeToken, axisOf}
 
 -- operand: number (what its token carries); variable with index; TRUE; FALSE; bracketed expression; - operand; NOT operand
 -- product: operands joined by * /; sum: products joined by + -; left to right
@@ -42,13 +42,19 @@ mutual
     last : Sum → Sums
     next : Sum → Sums → Sums
 
--- action: variable = sum; POS[axis]=, FA[axis]=, MOV[axis]= and a sum; M= number; SETAL(number), LOCK(number), UNLOCK(number)
+-- place: a variable with its index
+pub data Place : Type 0 where
+  cell : (w : ℕ) → T (isNumbered w) → ℕ → Place
+  axis : (x : ℕ) → T (isAxis x) → Place
+
+-- action: variable = sum; POS[axis]=, FA[axis]=, MOV[axis]= and a sum; M= number; SETAL(number), LOCK(number), UNLOCK(number); SYNFCT(number,target,variable), a place each
 pub data Action : Type 0 where
   assign : (w : ℕ) → T (isNumbered w) → ℕ → Sum → Action
   assignPosition : (x : ℕ) → T (isAxis x) → Sum → Action
   drive : (w : ℕ) → T (isDrive w) → (x : ℕ) → T (isAxis x) → Sum → Action
   code : ℕ → Action
   call : (w : ℕ) → T (isCall w) → ℕ → Action
+  synfct : ℕ → Place → Place → Action
 
 pub data Condition : Type 0 where
   always : Condition
@@ -58,7 +64,22 @@ pub data Condition : Type 0 where
 pub data Line : Type 0 where
   line : (w : ℕ) → T (isId w) → ℕ → Condition → Action → List Action → Line
 
--- its number
+-- parameter: a number (what its token carries), or - and a number
+pub record Parameter : Type 0 where
+  pub negative : Bool
+  pub number : ℕ
+
+-- definition: FCTDEF(number,lower,upper,a0,a1,a2,a3), six parameters behind a curve's number
+pub record Definition : Type 0 where
+  pub number : ℕ
+  pub lower : Parameter
+  pub upper : Parameter
+  pub a0 : Parameter
+  pub a1 : Parameter
+  pub a2 : Parameter
+  pub a3 : Parameter
+
+-- a line's number
 abbrev pub treeNumber : Line → ℕ
 treeNumber (line w v n c a r) = n
 
@@ -104,12 +125,29 @@ unfoldable mutual
   sumsTokens o (last a) = o ∷ sumTokens a
   sumsTokens o (next a r) = o ∷ sumTokens a ++ sumsTokens o r
 
+-- a place: its word, its index, and the token of its index
+abbrev pub placeWord : Place → ℕ
+placeWord (cell w v i) = w
+placeWord (axis x v) = IM
+
+abbrev pub placeIndex : Place → ℕ
+placeIndex (cell w v i) = i
+placeIndex (axis x v) = axisOf x
+
+abbrev pub placeToken : Place → ℕ
+placeToken (cell w v i) = wholeToken i
+placeToken (axis x v) = x
+
+abbrev pub placeTokens : Place → List ℕ
+placeTokens y = indexed (placeWord y) (placeToken y)
+
 unfoldable pub actionTokens : Action → List ℕ
 actionTokens (assign w v i a) = indexed w (wholeToken i) ++ (EQUALS ∷ sumTokens a)
 actionTokens (assignPosition x v a) = indexed IM x ++ (EQUALS ∷ sumTokens a)
 actionTokens (drive w v x u a) = indexed w x ++ (EQUALS ∷ sumTokens a)
 actionTokens (code n) = M ∷ EQUALS ∷ wholeToken n ∷ []
 actionTokens (call w v n) = w ∷ OPEN ∷ wholeToken n ∷ CLOSE ∷ []
+actionTokens (synfct n y z) = SYNFCT ∷ OPEN ∷ wholeToken n ∷ COMMA ∷ placeTokens y ++ (COMMA ∷ placeTokens z ++ (CLOSE ∷ []))
 
 unfoldable pub actionsTokens : Action → List Action → List ℕ
 actionsTokens a [] = actionTokens a
@@ -127,3 +165,22 @@ lineTokens (line w v n c a r) =
 -- the line l is written as the tokens ts
 abbrev pub WrittenAs : Line → List ℕ → Type 0
 WrittenAs l ts = lineTokens l ≡ ts ++ (END ∷ [])
+
+-- a parameter, and the sign t behind it
+unfoldable pub parameterTokens : Parameter → ℕ → List ℕ
+parameterTokens x t = elim (x .negative) [ true ↦ MINUS ∷ (NUMBER + x .number) ∷ t ∷ [] | false ↦ (NUMBER + x .number) ∷ t ∷ [] ]
+
+-- the tokens of a definition but the 0 that ends it
+unfoldable pub definitionFront : Definition → List ℕ
+definitionFront d =
+    FCTDEF ∷ OPEN ∷ wholeToken (d .number) ∷ COMMA
+    ∷ parameterTokens (d .lower) COMMA
+    ++ (parameterTokens (d .upper) COMMA
+    ++ (parameterTokens (d .a0) COMMA
+    ++ (parameterTokens (d .a1) COMMA
+    ++ (parameterTokens (d .a2) COMMA
+    ++ parameterTokens (d .a3) CLOSE))))
+
+-- the definition d is written as the tokens ts
+abbrev pub DefinedAs : Definition → List ℕ → Type 0
+DefinedAs d ts = definitionFront d ≡ ts

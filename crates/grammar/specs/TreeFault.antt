@@ -1,19 +1,24 @@
--- Faults 6 to 10 of a line as a tree, and what the check tells of a line that is written as it (document 01, "Lines of text" and "Codes"). Definitions only.
+-- Faults 6 to 10 of a line as a tree, 7 and 13 of a definition as a tree, and what the check tells of a line that is written as it (document 01, "Lines of text" and "Codes"; document 02, Req 03). Definitions only.
 use mathlib.Core.Path.{_≡_}
 use mathlib.Core.Logic.{_⊎_}
 use mathlib.Core.Bool.{Bool, true, false, cond, _&&_}
 use mathlib.Core.List.{List, [], _∷_}
 use Prim.Native.Nat.{ℕ, suc, _+_, _-_, _≤_}
 use lib.Dec.{eqb}
+use lib.IntN.{ℤ}
 use lib.ListN.{length}
 use Rattle.values.specs.Codes.{confused, tooManyActions}
+use Rattle.values.specs.Size.{signedNumber}
+use Rattle.values.specs.declared.curve.Curve.{Curve}
 use Rattle.checking.specs.declared.line.Line.{Line as Told}
-use Rattle.tokens.specs.Token.{IDS, IM, isFifo, axisOf}
-use Rattle.grammar.specs.Tree.{Operand, number, variable, position, truth, bracket, minus, not, product, Factors, noFactor, factor, Sum, sum, Terms, noTerm, term, Action, assign, assignPosition, drive, code, call, Condition, always, under, Line, line, conditionTokens, lineTokens}
+use Rattle.checking.specs.declared.definition.Definition.{Definition as Defined}
+use Rattle.checking.specs.CurveDefinition.{limitsFault, judgedCurve}
+use Rattle.tokens.specs.Token.{IDS, IM, isFifo, thousandths, axisOf}
+use Rattle.grammar.specs.Tree.{Operand, number, variable, position, truth, bracket, minus, not, product, Factors, noFactor, factor, Sum, sum, Terms, noTerm, term, Action, assign, assignPosition, drive, code, call, synfct, placeWord, placeIndex, Condition, always, under, Line, line, Parameter, Definition, conditionTokens, lineTokens, definitionFront}
 use Rattle.grammar.specs.TreeNames.{namesIn, hasNames}
 use Rattle.tokens.specs.Descent.{Answer, good, stop}
 use Rattle.grammar.specs.Meaning.{sumMeaning, expressionMeaning}
-use Rattle.tokens.specs.SingleFault.{lower, writeFault, codeFault, idFault, callFault}
+use Rattle.tokens.specs.SingleFault.{lower, readFault, writeFault, codeFault, idFault, callFault, curveFault, numberFault}
 use Rattle.checking.specs.Fault.{Sight, wanting, sight, countFault, faultyLine}
 
 -- ---- 6 to 8 in an expression
@@ -60,6 +65,7 @@ actionFault kw (assignPosition x v a) = lower (writeFault IM (axisOf x)) (assign
 actionFault kw (drive w v x u a) = rightFault a
 actionFault kw (code n) = codeFault kw n
 actionFault kw (call w v n) = callFault w n
+actionFault kw (synfct n y z) = lower (curveFault n) (lower (writeFault (placeWord y) (placeIndex y)) (readFault (placeWord z) (placeIndex z)))
 
 -- one or more actions
 unfoldable pub actionsFault : ℕ → Action → List Action → ℕ
@@ -110,3 +116,37 @@ partsFrom p (line w v n c a r) = record {
 -- its lowest fault, or its parts
 unfoldable pub toldFrom : ℕ → Line → Told
 toldFrom p l = elim (eqb (lineFault l) 0) [ true ↦ partsFrom p l | false ↦ faultyLine (lineFault l) ]
+
+-- ---- a definition
+
+-- a parameter's value
+abbrev pub parameterValue : Parameter → ℤ
+parameterValue x = signedNumber (x .negative) (thousandths (x .number))
+
+-- the curve that it defines
+unfoldable pub curveIn : Definition → Curve
+curveIn d = record {
+  lower = parameterValue (d .lower);
+  upper = parameterValue (d .upper);
+  a0 = parameterValue (d .a0);
+  a1 = parameterValue (d .a1);
+  a2 = parameterValue (d .a2);
+  a3 = parameterValue (d .a3);
+}
+
+-- the lowest fault of two, the second that of a parameter's number
+abbrev pub withParameter : ℕ → Parameter → ℕ
+withParameter f x = lower f (numberFault (x .number))
+
+-- 7 of its curve's number and of its parameters' numbers
+unfoldable pub numbersFault : Definition → ℕ
+numbersFault d =
+    withParameter (withParameter (withParameter (withParameter (withParameter (withParameter (curveFault (d .number)) (d .lower)) (d .upper)) (d .a0)) (d .a1)) (d .a2)) (d .a3)
+
+-- the lowest fault of a definition: 7, or 13 of its limits
+unfoldable pub definitionFault : Definition → ℕ
+definitionFault d = lower (numbersFault d) (limitsFault (curveIn d))
+
+-- what the check tells of a definition that is written from p on: its lowest fault, or its curve
+unfoldable pub definedFrom : ℕ → Definition → Defined
+definedFrom p d = judgedCurve (d .number) (numbersFault d) (curveIn d) (p + length (definitionFront d))

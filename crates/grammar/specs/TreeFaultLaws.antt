@@ -1,25 +1,26 @@
--- Laws of the faults of trees: the lower of two faults, the check's sight of a tree, and which faults a line can have. Assumes nothing.
+-- Laws of the faults of trees: the lower of two faults, the check's sight of a tree, and which faults a line and a definition can have. Assumes nothing.
 use mathlib.Core.Path.{_≡_, refl}
 use mathlib.Core.Bool.{Bool, true, false, cond, not as no?, Bool·beq, _&&_, _||_}
 use mathlib.Core.List.{List, [], _∷_}
-use mathlib.Core.Logic.{inl, inr}
-use Prim.Native.Nat.{ℕ, zero, suc, min, _<_}
+use mathlib.Core.Logic.{_⊎_, _↔_, inl, inr}
+use Prim.Native.Nat.{ℕ, zero, suc, min, _<_, _≤_}
 use native.Mathlib.Omega.{arith}
 use lib.Dec.{T, eqb, leb, eqb·suc-zero}
 use lib.ListN.{length}
 use borrow.Author.Tests.{ne-eqb}
-use Rattle.values.specs.Codes.{confused, outside, readOnly, mAlone, tooManyActions}
-use Rattle.values.specs.Choice.{both, decide}
-use Rattle.tokens.specs.Token.{between, IM, isFifo, thousandths, axisOf, EVERY, SETAL, WHEN, maxActions}
-use Rattle.values.specs.Value.{top}
+use Rattle.values.specs.Codes.{confused, outside, readOnly, mAlone, tooManyActions, wrongCurve}
+use Rattle.values.specs.Choice.{both, decide, contrary}
+use Rattle.tokens.specs.Token.{between, IM, isFifo, thousandths, axisOf, EVERY, SETAL, WHEN, maxActions, maxCurves}
+use Rattle.values.specs.Value.{top, lessThan}
 use Rattle.tokens.specs.Index.{isInside}
 use Rattle.tokens.specs.SingleFaultLaws.{none-first}
-use Rattle.grammar.specs.Tree.{Operand, number, variable, position, truth, bracket, minus, not, Product, product, Factors, noFactor, factor, Sum, sum, Terms, noTerm, term, Expression, single, compare, row, Sums, last, next, Action, assign, assignPosition, drive, code, call, Condition, always, under, Line, line}
+use Rattle.grammar.specs.Tree.{Operand, number, variable, position, truth, bracket, minus, not, Product, product, Factors, noFactor, factor, Sum, sum, Terms, noTerm, term, Expression, single, compare, row, Sums, last, next, Action, assign, assignPosition, drive, code, call, synfct, placeWord, placeIndex, Condition, always, under, Line, line, Parameter, Definition}
 use Rattle.tokens.specs.Descent.{Answer, good, stop, read, _>>=_, upTo}
 use Rattle.grammar.specs.Meaning.{operandMeaning, productMeaning, factorsMeaning, sumMeaning, termsMeaning, expressionMeaning, sumsMeaning}
-use Rattle.tokens.specs.SingleFault.{lower, unless, wantingFault, numberFault, readFault, isWritable, writeFault, codeFault, idFault, callFault}
+use Rattle.tokens.specs.SingleFault.{lower, unless, wantingFault, numberFault, readFault, isWritable, writeFault, codeFault, idFault, callFault, curveFault}
+use Rattle.checking.specs.CurveDefinition.{limitsFault}
 use Rattle.checking.specs.Fault.{Sight, wanting, joinSights, sight, faultFor, countFault, numberOf}
-use Rattle.grammar.specs.TreeFault.{Proper, wantedFault, rightFault, isRemovalTree, assignedFault, actionFault, actionsFault, keywordOf, conditionFault, lineFault}
+use Rattle.grammar.specs.TreeFault.{Proper, wantedFault, rightFault, isRemovalTree, assignedFault, actionFault, actionsFault, keywordOf, conditionFault, lineFault, curveIn, withParameter, numbersFault, definitionFault}
 use Rattle.grammar.specs.AgreementLaws.{bounds}
 
 -- ---- the lower of two faults
@@ -162,12 +163,13 @@ unfolding assignedFault
 assigned-proper a = cond-proper (isRemovalTree a) _ _ (inl refl) (right-proper a)
 
 action-proper : (kw : ℕ) (a : Action) → Proper (actionFault kw a)
-unfolding actionFault codeFault callFault
+unfolding actionFault codeFault callFault curveFault
 action-proper kw (assign w v i a) = lower-proper _ _ (write-proper w i) (assigned-proper a)
 action-proper kw (assignPosition x v a) = lower-proper _ _ (write-proper IM (axisOf x)) (assigned-proper a)
 action-proper kw (drive w v x u a) = right-proper a
 action-proper kw (code n) = lower-proper _ _ (unless-proper (leb n 99) outside tt) (unless-proper (eqb kw WHEN || eqb kw EVERY) mAlone tt)
 action-proper kw (call w v n) = cond-proper (eqb w SETAL) _ _ (unless-proper (between 65000 69999 n) outside tt) (id-proper n)
+action-proper kw (synfct n y z) = lower-proper _ _ (unless-proper (between 1 maxCurves n) outside tt) (lower-proper _ _ (write-proper (placeWord y) (placeIndex y)) (read-proper (placeWord z) (placeIndex z)))
 
 actions-proper : (kw : ℕ) (r : List Action) (a : Action) → Proper (actionsFault kw a r)
 unfolding actionsFault
@@ -182,3 +184,46 @@ condition-proper (under w v e) = wanted-proper true (expressionMeaning sight e) 
 pub line-proper : (l : Line) → Proper (lineFault l)
 unfolding lineFault countFault
 line-proper (line w v n c a r) = lower-proper _ _ (lower-proper _ _ (id-proper n) (condition-proper c)) (lower-proper _ _ (actions-proper (keywordOf c) r a) (unless-proper (leb (suc (length r)) maxActions) tooManyActions tt))
+
+-- ---- a definition
+
+parameter-proper : (f : ℕ) (x : Parameter) → Proper f → Proper (withParameter f x)
+parameter-proper f x h = lower-proper _ _ h (number-proper (x .number))
+
+numbers-proper : (d : Definition) → Proper (numbersFault d)
+unfolding numbersFault curveFault
+numbers-proper d =
+    parameter-proper _ (d .a3) (parameter-proper _ (d .a2) (parameter-proper _ (d .a1) (parameter-proper _ (d .a0)
+    (parameter-proper _ (d .upper) (parameter-proper _ (d .lower) (unless-proper (between 1 maxCurves (d .number)) outside tt))))))
+
+-- 13 stands behind the others
+limits-behind : (a : ℕ) (b : Bool) → Proper a → Proper (lower a (cond b wrongCurve 0)) ⊎ (lower a (cond b wrongCurve 0) ≡ wrongCurve)
+limits-behind a true (inl e) = rw (e, none-first wrongCurve) (inr refl)
+limits-behind a false (inl e) = rw (e, none-first 0) (inl (inl refl))
+limits-behind a true (inr h) = let m = lower-min a wrongCurve (omega arith) (omega arith) in inl (inr (omega (arith, h)))
+limits-behind a false (inr h) = rw (lower-none a) (inl (inr h))
+
+-- the fault of a definition is none, one of 6 to 10, or 13,
+pub definition-range : (d : Definition) → Proper (definitionFault d) ⊎ (definitionFault d ≡ wrongCurve)
+unfolding definitionFault limitsFault
+definition-range d = limits-behind (numbersFault d) (lessThan (curveIn d .upper) (curveIn d .lower)) (numbers-proper d)
+
+-- so neither 4 nor 5
+pub definition-proper : (d : Definition) → (definitionFault d ≡ 0) ⊎ (confused ≤ definitionFault d)
+definition-proper d = by-range (definition-range d)
+  where
+    by-range : Proper (definitionFault d) ⊎ (definitionFault d ≡ wrongCurve) → (definitionFault d ≡ 0) ⊎ (confused ≤ definitionFault d)
+    by-range (inl (inl e)) = inl e
+    by-range (inl (inr h)) = inr (h .0)
+    by-range (inr e) = inr (omega arith)
+
+first-13 : (a : ℕ) (b : Bool) → Proper a → (lower a (cond b wrongCurve 0) ≡ wrongCurve) ↔ ((a ≡ 0) × (b ≡ true))
+first-13 a true (inl e) = ((λ _. (e, refl)), (λ _. rw (e, none-first wrongCurve)))
+first-13 a false (inl e) = ((λ h. let z : _≡_ {A = ℕ} 0 wrongCurve = rw (e, none-first 0) at h in absurd (omega arith)), (λ h. contrary (h .1) refl))
+first-13 a true (inr h) = let m = lower-min a wrongCurve (omega arith) (omega arith) in ((λ e. absurd (omega arith)), (λ x. let z = x .0 in absurd (omega arith)))
+first-13 a false (inr h) = ((λ e. let z : a ≡ wrongCurve = rw (lower-none a) at e in absurd (omega arith)), (λ x. contrary (x .1) refl))
+
+-- 13 OF A DEFINITION, both ways: its numbers have no fault, and its lower limit is above its upper one
+pub definition-13 : (d : Definition) → (definitionFault d ≡ wrongCurve) ↔ ((numbersFault d ≡ 0) × (lessThan (curveIn d .upper) (curveIn d .lower) ≡ true))
+unfolding definitionFault limitsFault
+definition-13 d = first-13 (numbersFault d) (lessThan (curveIn d .upper) (curveIn d .lower)) (numbers-proper d)

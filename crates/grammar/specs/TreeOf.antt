@@ -1,4 +1,4 @@
--- The line that is written as some tokens, if there is one. Definitions only.
+-- The line that is written as some tokens, if there is one, and the definition. Definitions only.
 -- What is guessed from the tokens counts only if it is written as them, and each line is guessed from its own tokens: `tree-of-tokens` (TreeOfLaws) says that both ways. So how it is guessed need not be
 -- believed; `k` bounds the tokens left, and where the tokens are no line anything is guessed.
 use mathlib.Core.Bool.{Bool, true, false, _&&_}
@@ -7,8 +7,8 @@ use mathlib.Core.Option.{Option, none, some}
 use Prim.Native.Nat.{ℕ, zero, suc}
 use lib.Dec.{T, eqb, ltb}
 use lib.ListN.{length, getD, drop}
-use Rattle.tokens.specs.Token.{END, MINUS, OPEN, NOT, TRUE, IM, isNumber, isNumbered, isAxis, isDrive, isCall, isKeyword, isId, isFactor, isTerm, isCompare, isLogic, numberCarried, whole}
-use Rattle.grammar.specs.Tree.{Operand, number, variable, position, truth, bracket, minus, not, Product, product, Factors, noFactor, factor, Sum, sum, Terms, noTerm, term, Expression, single, compare, row, Sums, last, next, Action, assign, assignPosition, drive, code, call, Condition, always, under, Line, line, lineTokens}
+use Rattle.tokens.specs.Token.{END, MINUS, OPEN, NOT, TRUE, IN, IM, SYNFCT, isNumber, isNumbered, isAxis, isDrive, isCall, isKeyword, isId, isFactor, isTerm, isCompare, isLogic, numberCarried, whole}
+use Rattle.grammar.specs.Tree.{Operand, number, variable, position, truth, bracket, minus, not, Product, product, Factors, noFactor, factor, Sum, sum, Terms, noTerm, term, Expression, single, compare, row, Sums, last, next, Action, assign, assignPosition, drive, code, call, synfct, Place, cell, axis, Condition, always, under, Line, line, Parameter, Definition, lineTokens, definitionFront}
 
 -- by a test, which the first way is told of
 abbrev pub given : {X : Type 0} (b : Bool) → (T b → X) → X → X
@@ -84,6 +84,10 @@ operandGuess (suc k) ts = operandFirst (operandGuess k) k ts (first ts)
 abbrev pub rightGuess : ℕ → List ℕ → Sum × List ℕ
 rightGuess k ts = sumGuess (operandGuess k) k (drop 5 ts)
 
+-- a place that begins some tokens
+unfoldable pub placeGuess : List ℕ → Place
+placeGuess ts = given (isNumbered (first ts)) (λ v. cell (first ts) v (whole (third ts))) (given (isAxis (third ts)) (λ v. axis (third ts) v) (cell IN tt 0))
+
 unfoldable pub actionGuess : ℕ → List ℕ → ℕ → Action × List ℕ
 actionGuess k ts w =
     given (isNumbered w) (λ v. let a = rightGuess k ts in (assign w v (whole (third ts)) (a .0), a .1))
@@ -91,7 +95,11 @@ actionGuess k ts w =
       | true ↦ given (isAxis (third ts)) (λ v. let a = rightGuess k ts in (assignPosition (third ts) v (a .0), a .1)) (code 0, [])
       | false ↦
           given (isDrive w) (λ v. given (isAxis (third ts)) (λ u. let a = rightGuess k ts in (drive w v (third ts) u (a .0), a .1)) (code 0, []))
-          (given (isCall w) (λ v. (call w v (whole (third ts)), drop 4 ts)) (code (whole (third ts)), drop 3 ts))
+          (given (isCall w) (λ v. (call w v (whole (third ts)), drop 4 ts))
+          (elim (eqb w SYNFCT) [
+            | true ↦ (synfct (whole (third ts)) (placeGuess (drop 4 ts)) (placeGuess (drop 9 ts)), drop 14 ts)
+            | false ↦ (code (whole (third ts)), drop 3 ts)
+          ]))
     ])
 
 -- one or more, up to the last token
@@ -126,3 +134,26 @@ ifWritten ts l = elim (sameTokens (lineTokens l) (ts ++ (END ∷ []))) [ true �
 -- THE LINE THAT IS WRITTEN AS THE TOKENS ts
 unfoldable pub treeOf : List ℕ → Option Line
 treeOf ts = given (isId (first ts)) (λ v. ifWritten ts (lineGuess (first ts) v ts)) none
+
+-- ---- a definition
+
+-- a parameter and the sign behind it
+unfoldable pub parameterGuess : List ℕ → Parameter × List ℕ
+parameterGuess ts =
+    elim (eqb (first ts) MINUS) [
+      | true ↦ (record { negative = true; number = numberCarried (getD ts 1 END) }, drop 3 ts)
+      | false ↦ (record { negative = false; number = numberCarried (first ts) }, drop 2 ts)
+    ]
+
+unfoldable pub definitionGuess : List ℕ → Definition
+definitionGuess ts =
+    let l = parameterGuess (drop 4 ts) in
+    let u = parameterGuess (l .1) in
+    let a = parameterGuess (u .1) in
+    let b = parameterGuess (a .1) in
+    let c = parameterGuess (b .1) in
+    record { number = whole (third ts); lower = l .0; upper = u .0; a0 = a .0; a1 = b .0; a2 = c .0; a3 = parameterGuess (c .1) .0 }
+
+-- THE DEFINITION THAT IS WRITTEN AS THE TOKENS ts
+unfoldable pub definitionOf : List ℕ → Option Definition
+definitionOf ts = elim (sameTokens (definitionFront (definitionGuess ts)) ts) [ true ↦ some (definitionGuess ts) | false ↦ none ]

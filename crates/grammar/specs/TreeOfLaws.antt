@@ -4,7 +4,7 @@ use mathlib.Core.Bool.{Bool, true, false}
 use mathlib.Core.List.{List, [], _∷_, _++_, tail, append-assoc, append-nil}
 use mathlib.Core.Logic.{_↔_}
 use mathlib.Core.Option.{Option, none, some, Option·some-injective}
-use Prim.Native.Nat.{ℕ, zero, suc, pred, _+_, _≤_}
+use Prim.Native.Nat.{ℕ, zero, suc, pred, _+_, _-_, _≤_}
 use native.Mathlib.Nat.{not-suc-le-zero, le-refl}
 use native.Mathlib.Omega.{arith}
 use lib.Dec.{T, eqb, ltb}
@@ -12,10 +12,10 @@ use lib.ListN.{length, length-append}
 use borrow.Author.Tests.{le-leb, lt-ltb, eq-eqb, ne-eqb, eqb-true}
 use Rattle.values.specs.Choice.{holds, told-so, contrary, both, decide, choice, chosen, refused, and-true}
 use Rattle.values.specs.Numbers.{clash}
-use Rattle.tokens.specs.Token.{END, CLOSE, DO, IM, NUMBER, isNumbered, isAxis, isDrive, isCall, isKeyword, isId, isFactor, isTerm, isCompare, isLogic, numberCarried, FIFO4, IN, MOV, POS, SETAL, UNLOCK, X}
-use Rattle.grammar.specs.Tree.{Operand, number, variable, position, truth, bracket, minus, not, Product, product, Factors, noFactor, factor, Sum, sum, Terms, noTerm, term, Expression, single, compare, row, Sums, last, next, Action, assign, assignPosition, drive, code, call, Condition, always, under, Line, line, operandTokens, productTokens, factorsTokens, sumTokens, termsTokens, expressionTokens, sumsTokens, actionTokens, actionsTokens, conditionTokens, lineTokens, WrittenAs}
+use Rattle.tokens.specs.Token.{END, MINUS, CLOSE, COMMA, DO, IM, NUMBER, isNumbered, isAxis, isDrive, isCall, isKeyword, isId, isFactor, isTerm, isCompare, isLogic, numberCarried, FIFO4, IN, MOV, POS, SETAL, UNLOCK, X}
+use Rattle.grammar.specs.Tree.{Operand, number, variable, position, truth, bracket, minus, not, Product, product, Factors, noFactor, factor, Sum, sum, Terms, noTerm, term, Expression, single, compare, row, Sums, last, next, Action, assign, assignPosition, drive, code, call, synfct, Place, cell, axis, placeTokens, Condition, always, under, Line, line, operandTokens, productTokens, factorsTokens, sumTokens, termsTokens, expressionTokens, sumsTokens, actionTokens, actionsTokens, conditionTokens, lineTokens, WrittenAs, Parameter, Definition, parameterTokens, definitionFront, DefinedAs}
 use Rattle.grammar.specs.Meaning.{EndsSum, EndsExpression}
-use Rattle.grammar.specs.TreeOf.{given, first, factorsGuess, productGuess, termsGuess, sumGuess, sumsGuess, expressionGuess, operandFirst, operandGuess, actionGuess, actionsGuess, conditionGuess, lineGuess, sameTokens, ifWritten, treeOf}
+use Rattle.grammar.specs.TreeOf.{given, first, factorsGuess, productGuess, termsGuess, sumGuess, sumsGuess, expressionGuess, operandFirst, operandGuess, placeGuess, actionGuess, actionsGuess, conditionGuess, lineGuess, sameTokens, ifWritten, treeOf, parameterGuess, definitionGuess, definitionOf}
 use Rattle.grammar.specs.AgreementLaws.{bounds, beyond, parts-fit, numbered, whole-token}
 use Rattle.grammar.specs.Agreement.{term-ends, compare-ends, logic-ends, logic-compares, close-ends}
 use Rattle.grammar.specs.AgreementFault.{action-long, word-ends, do-ends}
@@ -177,6 +177,11 @@ mutual
 
 -- ---- actions
 
+place-guess : (y : Place) (m : List ℕ) → placeGuess (placeTokens y ++ m) ≡ y
+unfolding placeGuess
+place-guess (cell w v i) m = given-so (isNumbered w) v _ _ ∙ rw (whole-token i .1)
+place-guess (axis x v) m = given-so (isAxis x) v _ _
+
 action-guess : (a : Action) (k : ℕ) (m : List ℕ) → length (actionTokens a) ≤ k → EndsSum (first m) → actionGuess k (actionTokens a ++ m) (first (actionTokens a ++ m)) ≡ (a, m)
 unfolding actionTokens actionGuess
 action-guess (assign w v i a) k m l e = given-so (isNumbered w) v _ _ ∙ rw (sum-guess a k m (omega arith) e, whole-token i .1)
@@ -188,6 +193,7 @@ action-guess (code n) k m l e = rw (whole-token n .1)
 action-guess (call w v n) k m l e =
     let b = bounds SETAL UNLOCK w v in
     given-not (isNumbered w) _ _ (beyond IN FIFO4 w (omega arith)) ∙ refused _ _ _ (ne-eqb w IM (λ z. omega arith)) ∙ given-not (isDrive w) _ _ (beyond POS MOV w (omega arith)) ∙ given-so (isCall w) v _ _ ∙ rw (whole-token n .1)
+action-guess (synfct n y z) k m l e = rw (whole-token n .1, place-guess y (COMMA ∷ placeTokens z ++ (CLOSE ∷ m)), place-guess z (CLOSE ∷ m))
 
 -- an action begins with a word
 action-first : (a : Action) (m : List ℕ) → IN ≤ first (actionTokens a ++ m)
@@ -197,6 +203,7 @@ action-first (assignPosition x v a) m = omega arith
 action-first (drive w v x u a) m = let b = bounds POS MOV w v in omega arith
 action-first (code n) m = omega arith
 action-first (call w v n) m = let b = bounds SETAL UNLOCK w v in omega arith
+action-first (synfct n y z) m = omega arith
 
 actions-first : (r : List Action) (a : Action) → IN ≤ first (actionsTokens a r)
 unfolding actionsTokens
@@ -308,3 +315,44 @@ no-tree ts = (
 -- A LINE HAS ONE TREE: no two lines are written as the same tokens
 pub one-tree : (l m : Line) → lineTokens l ≡ lineTokens m → l ≡ m
 one-tree l m h = Option·some-injective l m (sym (tree-of-line l) ∙ written-found m (front l) (sym h ∙ front-end l))
+
+-- ---- a definition
+
+parameter-guess : (m : Bool) (n t : ℕ) (l : List ℕ) → parameterGuess (parameterTokens (record { negative = m; number = n }) t ++ l) ≡ (record { negative = m; number = n }, l)
+unfolding parameterTokens parameterGuess
+parameter-guess true n t l = let e : NUMBER + n - NUMBER ≡ n = omega arith in rw e
+parameter-guess false n t l = let e : NUMBER + n - NUMBER ≡ n = omega arith in refused _ _ _ (ne-eqb (NUMBER + n) MINUS (λ z. omega arith)) ∙ rw e
+
+part-guess : (x : Parameter) (t : ℕ) (l : List ℕ) → parameterGuess (parameterTokens x t ++ l) ≡ (x, l)
+part-guess x t l = parameter-guess (x .negative) (x .number) t l
+
+definition-guess : (d : Definition) → definitionGuess (definitionFront d) ≡ d
+unfolding definitionGuess definitionFront
+definition-guess d =
+    let z = rw (append-nil (parameterTokens (d .a3) CLOSE)) at (part-guess (d .a3) CLOSE []) in
+    rw (whole-token (d .number) .1, part-guess (d .lower) COMMA _, part-guess (d .upper) COMMA _, part-guess (d .a0) COMMA _, part-guess (d .a1) COMMA _, part-guess (d .a2) COMMA _, z)
+
+-- THE DEFINITION OF SOME TOKENS, both ways
+pub definition-of-tokens : (ts : List ℕ) (d : Definition) → (definitionOf ts ≡ some d) ↔ DefinedAs d ts
+unfolding definitionOf
+definition-of-tokens ts d = (
+  (λ h. choice _ (sameTokens (definitionFront (definitionGuess ts)) ts) _ _ (some d) h
+      (λ t e. rw (Option·some-injective (definitionGuess ts) d e) at (same-so (definitionFront (definitionGuess ts)) ts t))
+      (λ _ e. clash (cc))),
+  (λ w. rw (← w) (rw (definitionOf, definition-guess d) (chosen _ _ _ (same-self (definitionFront d)) ∙ ap some (definition-guess d)))),
+)
+
+-- no definition is found exactly if none is written so
+pub no-definition : (ts : List ℕ) → (definitionOf ts ≡ none) ↔ ((d : Definition) → DefinedAs d ts → ⊥)
+no-definition ts = (
+  (λ e d h. clash (let z = sym e ∙ definition-of-tokens ts d .1 h in cc)),
+  (λ h. go (definitionOf ts) refl h),
+)
+  where
+    go : (o : Option Definition) → definitionOf ts ≡ o → ((d : Definition) → DefinedAs d ts → ⊥) → definitionOf ts ≡ none
+    go none e h = e
+    go (some d) e h = absurd (h d (definition-of-tokens ts d .0 e))
+
+-- no two definitions are written as the same tokens
+pub one-definition : (d e : Definition) → definitionFront d ≡ definitionFront e → d ≡ e
+one-definition d e h = sym (definition-guess d) ∙ ap definitionGuess h ∙ definition-guess e

@@ -1,23 +1,30 @@
--- Laws of the lines that are read from a set in which some rows are laid: the set passes each check from 4 on. Nothing is assumed.
-use mathlib.Core.Path.{_≡_, refl, sym, _∙_}
+-- Laws of the lines that are read from a set in which some rows are laid and some curves are held: the set passes each check from 4 on. Nothing is assumed.
+use mathlib.Core.Path.{_≡_, refl, sym, ap, _∙_}
 use mathlib.Core.Bool.{Bool, true}
 use mathlib.Core.List.{List, [], _∷_}
 use Prim.Native.Nat.{ℕ, zero, suc, _+_, _≤_, _<_}
 use native.Mathlib.Omega.{arith}
-use lib.Dec.{eqb}
+use lib.Dec.{eqb, ltb}
 use lib.ListN.{length, getD, set, replicate, length-set, length-replicate}
 use lib.Seq.{getD-set-same, getD-set-other}
-use borrow.Author.Tests.{eq-eqb, lt-ltb, le-ltb}
-use Rattle.values.specs.Choice.{decide, chosen, refused}
-use Rattle.tokens.specs.Token.{setSize, maxLines}
+use borrow.Author.Tests.{eq-eqb, lt-ltb, le-ltb, le-leb}
+use Rattle.values.specs.Choice.{decide, chosen, refused, and-true}
+use Rattle.tokens.specs.Token.{setSize, maxLines, maxCurves}
 use Rattle.checking.specs.declared.line.Line.{Line}
+use Rattle.checking.specs.declared.definition.Definition.{Definition as Told}
 use Rattle.engine.specs.declared.set.Lines.{Lines}
-use Rattle.engine.specs.Set.{lineCount, startOf, lineOf, noLine, linesFrom, linesRead, rankIn, isKnown, lockTable, allKnown, namedLines, soundLines}
-use Rattle.reader.specs.Row.{Row, noRow, ranked}
-use Rattle.loading.specs.PlacedLaws.{heldTokens, Laid}
-use Rattle.loading.specs.StoredLineLaws.{written, held, names-held}
+use Rattle.engine.specs.Set.{lineCount, startOf, lineOf, curveStart, curveLine, noLine, linesFrom, linesRead, rankIn, isKnown, curvesFrom, setTable, curvesSound, allKnown, namedLines, soundLines}
+use Rattle.reader.specs.Row.{Row, isThere, curvesThere, curveCount, noRow, ranked}
+use Rattle.reader.specs.Load.{curveFaultOf, curveNumberIn}
+use Rattle.loading.specs.PlacedLaws.{heldTokens, Laid, CurvesHeld}
+use Rattle.loading.specs.StoredLineLaws.{written, held, names-held, written-curve, held-curve}
 use Rattle.loading.specs.TakenLaws.{All, Fine, Named}
 use Rattle.loading.specs.ByNumberLaws.{Rises}
+
+-- of some curves, from curve n on, each that is there is without a fault and has its number
+abbrev pub FineFrom : List (List ℕ) → ℕ → Type 0
+FineFrom [] n = Unit {0}
+FineFrom (ts ∷ cs) n = (isThere ts ≡ true → (curveFaultOf ts ≡ 0) × (curveNumberIn ts ≡ n)) × FineFrom cs (n + 1)
 
 module _ (s : List ℕ) where
   -- ---- 4 to 11
@@ -77,21 +84,55 @@ module _ (s : List ℕ) where
       let h = names-held (r .tokens) w s (startOf s k) (startOf s k + length (heldTokens (r .tokens))) size (p .0) known known′ g (a .0) in
       chosen _ _ _ h ∙ all-names rs (k + 1) known known′ size (f .1) (a .1) (p .1) g
 
+  -- ---- 13
+
+  -- a set has the curves that are there,
+  pub curves-there : (cs : List (List ℕ)) (n : ℕ) → CurvesHeld s cs n → curvesFrom s (length cs) n ≡ curvesThere cs
+  unfolding curvesFrom
+  curves-there [] n h = refl
+  curves-there (ts ∷ cs) n h = rw (start-there, curves-there cs (n + 1) (h .1))
+    where
+      start-there : ltb 0 (curveStart s n) ≡ isThere ts
+      start-there =
+          decide _ (isThere ts)
+          (λ t. lt-ltb 0 (curveStart s n) (h .0 .begins t) ∙ sym t)
+          (λ t. let z = h .0 .none t in le-ltb 0 (curveStart s n) (omega arith) ∙ sym t)
+
+  -- and where these are without a fault and of their numbers, they are sound, if with k lines there are few enough
+  curves-fine : (cs : List (List ℕ)) (n k : ℕ) → CurvesHeld s cs n → FineFrom cs n → curveCount cs + k ≤ maxLines → curvesSound s (length cs) n k ≡ true
+  unfolding curvesSound curveCount
+  curves-fine [] n k h f few = le-leb k maxLines (omega arith)
+  curves-fine (ts ∷ cs) n k h f few =
+      decide _ (isThere ts)
+      (λ t.
+      let (e, m) = f .0 t in
+      let w = written-curve ts e in
+      let (_, g) = held-curve ts w s (curveStart s n) _ (h .0 .stands t) in
+      let a : curveLine s n .fault ≡ 0 = ap (λ (d : Told). d .fault) g in
+      let b : curveLine s n .number ≡ n = ap (λ (d : Told). d .number) g ∙ sym (w .number) ∙ m in
+      let c : 1 + curveCount cs + k ≤ maxLines = rw (t, curveCount) at few in
+      chosen _ _ _ (lt-ltb 0 (curveStart s n) (h .0 .begins t)) ∙ chosen _ _ _ (and-true (eq-eqb (curveLine s n .fault) 0 a) (eq-eqb (curveLine s n .number) n b))
+      ∙ curves-fine cs (n + 1) (k + 1) (h .1) (f .1) (omega arith))
+      (λ t.
+      let z = h .0 .none t in
+      refused _ _ _ (le-ltb 0 (curveStart s n) (omega arith)) ∙ curves-fine cs (n + 1) k (h .1) (f .1) (rw (t, curveCount) at few))
+
   -- ---- the set
 
-  -- A SET IN WHICH ROWS ARE LAID is read as they are, and is sound: they have no fault, their numbers rise, and they name only what the set has
-  pub rows-read : (rs : List Row) (known′ : ℕ → ℕ → Bool) → lineCount s ≡ length rs → length s ≤ setSize → length rs ≤ maxLines → All Fine rs →
-      All (Named known′) rs → Laid s (ranked rs 0) → Rises 0 rs →
-      ((l : Lines) → ReadLines rs 0 (replicate maxLines 0) l → (w n : ℕ) → known′ w n ≡ true → lockTable (l .numbers) w n ≡ true) → ReadLines rs 0 (replicate maxLines 0) (soundLines s)
+  -- A SET IN WHICH ROWS ARE LAID AND CURVES ARE HELD is read as the rows are, and is sound: none has a fault, numbers rise, they are few enough, and the rows name only what the set has
+  pub rows-read : (cs : List (List ℕ)) (rs : List Row) (known′ : ℕ → ℕ → Bool) → lineCount s ≡ length rs → length s ≤ setSize → length cs ≡ maxCurves → curveCount cs + length rs ≤ maxLines →
+      CurvesHeld s cs 1 → FineFrom cs 1 → All Fine rs → All (Named known′) rs → Laid s (ranked rs 0) → Rises 0 rs →
+      ((l : Lines) → ReadLines rs 0 (replicate maxLines 0) l → (w n : ℕ) → known′ w n ≡ true → setTable s (l .numbers) w n ≡ true) → ReadLines rs 0 (replicate maxLines 0) (soundLines s)
   unfolding soundLines namedLines linesRead
-  rows-read rs known′ c size few f a p h g =
+  rows-read cs rs known′ c size three few u v f a p h g =
       let zeros = replicate {A = ℕ} maxLines 0 in
       let r = read-lines rs 0 0 zeros (replicate maxLines noLine) (let z = length-replicate {A = ℕ} maxLines 0 in omega arith) (laid-read rs 0 0 0 size f p h refl) in
       let e : linesRead s ≡ linesFrom s (length rs) 0 0 zeros (replicate maxLines noLine) = refused _ _ _ (le-ltb maxLines (lineCount s) (omega arith)) ∙ rw c in
       let r′ : ReadLines rs 0 zeros (linesRead s) = rw e r in
       let m : linesRead s .count ≡ length rs = let z = r′ .count in omega arith in
-      let k : allKnown s (lockTable (linesRead s .numbers)) (linesRead s .count) 0 ≡ true = rw m (all-names rs 0 (lockTable (linesRead s .numbers)) known′ size f a p (g (linesRead s) r′)) in
-      let x : soundLines s ≡ linesRead s = chosen _ _ _ k in
+      let k : allKnown s (setTable s (linesRead s .numbers)) (linesRead s .count) 0 ≡ true = rw m (all-names rs 0 (setTable s (linesRead s .numbers)) known′ size f a p (g (linesRead s) r′)) in
+      let i : curvesSound s maxCurves 1 (linesRead s .count) ≡ true = rw (m, ← three) (curves-fine cs 1 (length rs) u v few) in
+      let x : soundLines s ≡ linesRead s = chosen _ _ _ i ∙ chosen _ _ _ k in
       rw x r′
 
 -- ---- numbers that are known

@@ -28,11 +28,11 @@ use Rattle.loading.specs.LoadedLaws.{taken-read}
 
 -- ---- the set
 
--- the lines of a set that was loaded are sound: at most 32, numbers distinct and rising, and each passes every loading check from 4 on
+-- the lines of a set that was loaded are sound: with its curves at most 32, numbers distinct and rising, and each passes every loading check from 4 on
 pub load-lines-sound : (t : List ℕ) → soundLines (loadSet t) .sound ≡ true
 load-lines-sound t =
     by-outcome _ t
-    (λ rs h. rw (taken-answer t rs h .2) (taken-read t rs h .sound))
+    (λ q h. rw (taken-answer t q h .2) (taken-read t q h .sound))
     (λ c k h. rw (refused-empty t c k h) empty-sound)
 
 -- EVERY TEXT gives a set that is sound with the state of power-on: one that is refused gives the empty set
@@ -43,7 +43,7 @@ load-sound t = power-on (loadSet t) (load-lines-sound t)
 pub load-size : (t : List ℕ) → length (loadSet t) ≡ setSize
 load-size t =
     by-outcome _ t
-    (λ rs h. ap length (taken-answer t rs h .2) ∙ set-length (byNumber rs))
+    (λ q h. ap length (taken-answer t q h .2) ∙ set-length (q .curves) (byNumber (q .rows)))
     (λ c k h. ap length (refused-empty t c k h) ∙ empty-length)
 
 -- ---- from a load on

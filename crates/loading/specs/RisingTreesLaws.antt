@@ -1,27 +1,33 @@
--- Laws of some by rising number: they are the same, their numbers rise, and nothing else is so. So the rows of a text by rising number are told by its trees by rising number. Nothing is assumed.
+-- Laws of some by rising number: they are the same, their numbers rise, and nothing else is so. So the rows of a text by rising number are told by its trees by rising number, and its curves by its definitions.
+-- Nothing is assumed.
 use mathlib.Core.Path.{_≡_, refl, sym, ap, subst, _∙_}
-use mathlib.Core.Bool.{true, false}
+use mathlib.Core.Bool.{true, false, false≢true}
 use mathlib.Core.List.{List, [], _∷_, map}
 use mathlib.Core.Logic.{_⊎_, inl, inr, ⊎-elim}
-use Prim.Native.Nat.{ℕ, zero, suc, _≤_, _<_}
+use Prim.Native.Nat.{ℕ, zero, suc, _+_, _-_, _≤_, _<_}
 use native.Mathlib.Omega.{arith}
 use lib.Dec.{ltb}
 use lib.ListN.{length, getD}
-use borrow.Author.Tests.{ltb-true, ltb-false, lt-ltb}
-use Rattle.values.specs.Choice.{decide, chosen}
+use borrow.Author.Tests.{ltb-true, ltb-false, lt-ltb, le-leb}
+use Rattle.values.specs.Choice.{decide, contrary, chosen, refused as not-chosen, and-true}
 use Rattle.tokens.specs.Token.{maxLines}
-use Rattle.grammar.specs.Tree.{Line, lineTokens, treeNumber}
+use Rattle.grammar.specs.Tree.{Line, lineTokens, treeNumber, Definition, definitionFront, DefinedAs}
+use Rattle.grammar.specs.TreeOfLaws.{one-definition}
 use Rattle.engine.specs.Set.{withEnd}
 use Rattle.soundness.specs.AnswerCodes.{OneOf}
-use Rattle.text.specs.Lines.{Numbered}
-use Rattle.reader.specs.Row.{Row, noRow, byNumber}
+use Rattle.text.specs.Lines.{Numbered, tokenLines}
+use Rattle.reader.specs.Row.{Row, isThere, noRow, byNumber}
 use Rattle.reader.specs.Load.{rowOf}
 use Rattle.reader.specs.Draft.{Apart}
-use Rattle.loading.specs.TakenLaws.{All}
+use Rattle.loading.specs.TakenLaws.{All, thereOf, keptOf}
 use Rattle.loading.specs.ByNumberLaws.{Of, apart-number, by-rises, by-of, by-rank}
-use Rattle.loading.specs.TextTrees.{Distinct, put, inOrder, risingTrees, RisesBy, GoodLines}
-use Rattle.loading.specs.TextTreesLaws.{numbers, number-row}
+use Rattle.loading.specs.TextTrees.{Distinct, put, inOrder, risingTrees, curveNumber, risingDefinitions, RisesBy, GoodLines, IsLines}
+use Rattle.loading.specs.TextNamesLaws.{numbers}
+use Rattle.loading.specs.TextTreesLaws.{there-at, front-there, number-row}
+use Rattle.loading.specs.TextLinesLaws.{text-curves}
+use Rattle.loading.specs.LoadedCurves.{AreDefinitions}
 use Rattle.loading.specs.LoadedTurns.{AreTrees}
+use Rattle.loading.specs.TextCurvesLaws.{good-definitions}
 
 -- ---- the same
 
@@ -78,7 +84,8 @@ module _ {A : Type 0} (f : A → ℕ) where
       let b = o y (inl refl) in
       rw (t, put) (h .0, put-rises x ys (f y) (omega (arith, b)) (h .1) (λ z g. o z (inr g))))
 
-  one-number : (xs : List A) (z : A) → OneOf z xs → OneOf (f z) (map f xs)
+  -- the number of one of some is one of their numbers
+  pub one-number : (xs : List A) (z : A) → OneOf z xs → OneOf (f z) (map f xs)
   one-number (x ∷ xs) z (inl e) = inl (ap f e)
   one-number (x ∷ xs) z (inr o) = inr (one-number xs z o)
 
@@ -209,3 +216,80 @@ pairs-order [] [] h = tt
 pairs-order [] (r ∷ rs) h = absurd h
 pairs-order (x ∷ xs) [] h = absurd h
 pairs-order (x ∷ xs) (r ∷ rs) h = pairs-put x r (risingTrees xs) (inOrder number rs) (h .0) (h .1) (pairs-order xs rs (h .2))
+
+-- ---- definitions and curves
+
+-- what rises from above n + 1 on rises from above n on
+rises-lower : {A : Type 0} (f : A → ℕ) (xs : List A) (n : ℕ) → RisesBy f (n + 1) xs → RisesBy f n xs
+rises-lower f [] n h = tt
+rises-lower f (x ∷ xs) n h = (let l = h .0 in omega arith, h .1)
+
+module _ (ds : List Definition) where
+  -- the definitions, some of ds, of curves with the numbers from above n on
+  record Fronts (cs : List (List ℕ)) (n : ℕ) : Type 0 where
+    defined : List Definition
+    rises : RisesBy curveNumber n defined
+    fronts : map definitionFront defined ≡ thereOf cs
+    of : (z : Definition) → OneOf z defined → OneOf z ds
+    each : (j : ℕ) → isThere (getD cs j []) ≡ true → (z : Definition) × OneOf z defined × DefinedAs z (getD cs j [])
+
+  -- a curve with the number above n, or none
+  one-front : (ts : List ℕ) (cs : List (List ℕ)) (n : ℕ) (d : Definition) → isThere ts ≡ true → OneOf d ds → curveNumber d ≡ n + 1 → DefinedAs d ts → Fronts cs (n + 1) → Fronts (ts ∷ cs) n
+  unfolding thereOf
+  one-front ts cs n d t o e w r = record {
+    defined = d ∷ r .defined;
+    rises = (omega arith, subst (λ (m : ℕ). RisesBy curveNumber m (r .defined)) (sym e) (r .rises));
+    fronts = rw (w, r .fronts) (sym (chosen (isThere ts) _ _ t));
+    of = of-each;
+    each = each-of;
+  }
+    where
+      of-each : (z : Definition) → OneOf z (d ∷ r .defined) → OneOf z ds
+      of-each z (inl i) = subst (λ (x : Definition). OneOf x ds) i o
+      of-each z (inr i) = r .of z i
+
+      each-of : (j : ℕ) → isThere (getD (ts ∷ cs) j []) ≡ true → (z : Definition) × OneOf z (d ∷ r .defined) × DefinedAs z (getD (ts ∷ cs) j [])
+      each-of zero u = (d, inl refl, w)
+      each-of (suc j) u = let (z, i, v) = r .each j u in (z, inr i, v)
+
+  no-front : (ts : List ℕ) (cs : List (List ℕ)) (n : ℕ) → isThere ts ≡ false → Fronts cs (n + 1) → Fronts (ts ∷ cs) n
+  unfolding thereOf
+  no-front ts cs n t r = record {
+    defined = r .defined;
+    rises = rises-lower curveNumber (r .defined) n (r .rises);
+    fronts = r .fronts ∙ sym (not-chosen (isThere ts) _ _ t);
+    of = r .of;
+    each = each-of;
+  }
+    where
+      each-of : (j : ℕ) → isThere (getD (ts ∷ cs) j []) ≡ true → (z : Definition) × OneOf z (r .defined) × DefinedAs z (getD (ts ∷ cs) j [])
+      each-of zero u = contrary u t
+      each-of (suc j) u = r .each j u
+
+  have-fronts : (cs : List (List ℕ)) (n : ℕ) → ((j : ℕ) → isThere (getD cs j []) ≡ true → (d : Definition) × OneOf d ds × (curveNumber d ≡ n + 1 + j) × DefinedAs d (getD cs j [])) → Fronts cs n
+  unfolding thereOf
+  have-fronts [] n h = record { defined = []; rises = tt; fronts = refl; of = λ z o. absurd o; each = λ j t. absurd (false≢true t) }
+  have-fronts (ts ∷ cs) n h =
+      let r = have-fronts cs (n + 1) (λ j t. let (d, o, e, w) = h (suc j) t in (d, o, omega arith, w)) in
+      decide _ (isThere ts) (λ t. let (d, o, e, w) = h 0 t in one-front ts cs n d t o (omega arith) w r) (λ t. no-front ts cs n t r)
+
+-- THE CURVES THAT ARE THERE, by number, are the tokens of their definitions by rising number
+pub definitions-order : (ds : List Definition) (cs : List (List ℕ)) → AreDefinitions ds cs → Distinct (map curveNumber ds) → thereOf cs ≡ map definitionFront (risingDefinitions ds)
+definitions-order ds cs are apart =
+    let r = have-fronts ds cs 0 (λ j t.
+    let i : suc j - 1 ≡ j = omega arith in
+    let (d, o, e) = are .each (suc j) (and-true (le-leb 1 (suc j) (omega arith)) (rw i (there-at cs j ∙ t))) in
+    let k : curveNumber d - 1 ≡ j = omega arith in
+    (d, o, omega arith, rw k at (are .written d o))) in
+    let same = same-rising curveNumber (r .defined) (risingDefinitions ds) 0 (r .rises) (order-rises curveNumber ds apart (λ z o. are .number z o .0))
+    (λ z o. one-order curveNumber ds z (r .of z o))
+    (λ z o.
+    let i = order-one curveNumber ds z o in
+    let w = are .written z i in
+    let (y, p, v) = r .each (curveNumber z - 1) (front-there z _ w) in
+    subst (λ (x : Definition). OneOf x (r .defined)) (one-definition y z (v ∙ sym w)) p) in
+    sym (r .fronts) ∙ ap (map definitionFront) same
+
+-- so those of a text
+pub rising-definitions : (t : List ℕ) (ds : List Definition) (xs : List Line) → IsLines t ds xs → thereOf (keptOf t .curves) ≡ map definitionFront (risingDefinitions ds)
+rising-definitions t ds xs x = definitions-order ds (keptOf t .curves) (good-definitions _ ds (text-curves (tokenLines t) ds xs (x .good)) (x .apart)) (x .apart)

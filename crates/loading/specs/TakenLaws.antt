@@ -1,22 +1,22 @@
--- Laws of a text that is taken: its lines with tokens are the rows, each without a fault, and they name only lines of the text. Nothing is assumed.
-use mathlib.Core.Path.{_≡_, refl, sym, _∙_}
-use mathlib.Core.Bool.{Bool, true}
+-- Laws of a text that is taken: its lines with tokens are the curves and behind them the rows, each without a fault, and the rows name only what the text has. Nothing is assumed.
+use mathlib.Core.Path.{_≡_, refl, sym, ap, _∙_}
+use mathlib.Core.Bool.{Bool, true, false}
 use mathlib.Core.List.{List, [], _∷_, _++_, map, append-assoc, append-nil}
-use Prim.Native.Nat.{ℕ, zero, suc, _≤_, _<_}
+use Prim.Native.Nat.{ℕ, zero, suc, _-_, _≤_, _<_}
 use native.Mathlib.Omega.{arith}
-use lib.Dec.{ltb}
-use lib.ListN.{length, getD}
-use borrow.Author.Tests.{ltb-false}
+use lib.Dec.{eqb, ltb}
+use lib.ListN.{length, getD, set, length-append}
+use borrow.Author.Tests.{ltb-false, eqb-true, eq-eqb}
 use Rattle.values.specs.Codes.{notInSet}
-use Rattle.values.specs.Choice.{decide, choice}
+use Rattle.values.specs.Choice.{both, decide, choice, contrary, and-true}
 use Rattle.values.specs.Numbers.{clash}
 use Rattle.tokens.specs.Token.{maxLines, textSize}
-use Rattle.engine.specs.Set.{lockTable}
 use Rattle.text.specs.Tokens.{tokensOf}
 use Rattle.text.specs.Lines.{Numbered, textLines, bodies, isBlank, numbered, tokenLines}
-use Rattle.reader.specs.Row.{Row, numbersOf, noRow}
-use Rattle.reader.specs.RisingLaws.{next-row, no-fault}
-use Rattle.reader.specs.Load.{faultOf, numberIn, isNamed, Outcome, taken, refused, rowOf, rowsFrom, firstNot, firstUnknown, named, outcome}
+use Rattle.reader.specs.Row.{Row, Kept, nothing, isThere, noRow}
+use Rattle.reader.specs.Load.{faultOf, numberIn, curveNumberIn, isNamed, Outcome, taken, refused, rowOf, withRow, withCurve, keptWith, rowsFrom, firstNot, firstUnknown, keptTable, named, outcome}
+use Rattle.reader.specs.KeptLaws.{next-row, by-kind, taken-so}
+use Rattle.loading.specs.TextTrees.{beginsCurve, curveLines, rowLines}
 
 -- ---- what holds of each row
 
@@ -36,59 +36,106 @@ all-last P (q ∷ rs) r h g = (h .0, all-last P rs r (h .1) g)
 -- ---- the text
 
 -- what a text that is taken has passed
-pub record Taking (t : List ℕ) (rs : List Row) : Type 0 where
+pub record Taking (t : List ℕ) (q : Kept) : Type 0 where
   pub short : length t ≤ textSize
   pub few : length (tokenLines t) ≤ maxLines
-  pub rows : rowsFrom [] (tokenLines t) ≡ taken rs
-  pub known : firstUnknown (lockTable (numbersOf rs)) rs ≡ 0
+  pub rows : rowsFrom nothing (tokenLines t) ≡ taken q
+  pub known : firstUnknown (keptTable q) (q .rows) ≡ 0
 
-named-taken : (o : Outcome) (rs : List Row) → named o ≡ taken rs → (o ≡ taken rs) × (firstUnknown (lockTable (numbersOf rs)) rs ≡ 0)
+named-taken : (o : Outcome) (q : Kept) → named o ≡ taken q → (o ≡ taken q) × (firstUnknown (keptTable q) (q .rows) ≡ 0)
 unfolding named
-named-taken (taken qs) rs h = go (firstUnknown (lockTable (numbersOf qs)) qs) refl
+named-taken (taken p) q h = go (firstUnknown (keptTable p) (p .rows)) refl
   where
-    go : (k : ℕ) → firstUnknown (lockTable (numbersOf qs)) qs ≡ k → (taken qs ≡ taken rs) × (firstUnknown (lockTable (numbersOf rs)) rs ≡ 0)
-    go zero e = let f : taken qs ≡ taken rs = rw (e, named) at h in let g : qs ≡ rs = cc in (f, rw (← g) e)
-    go (suc k) e = let f : refused notInSet (suc k) ≡ taken rs = rw (e, named) at h in clash (cc)
-named-taken (refused c k) rs h = clash (cc)
+    go : (k : ℕ) → firstUnknown (keptTable p) (p .rows) ≡ k → (taken p ≡ taken q) × (firstUnknown (keptTable q) (q .rows) ≡ 0)
+    go zero e = let f : taken p ≡ taken q = rw (e, named) at h in let g : p ≡ q = cc in (f, rw (← g) e)
+    go (suc k) e = let f : refused notInSet (suc k) ≡ taken q = rw (e, named) at h in clash (cc)
+named-taken (refused c k) q h = clash (cc)
 
-pub taking : (t : List ℕ) (rs : List Row) → outcome t ≡ taken rs → Taking t rs
+pub taking : (t : List ℕ) (q : Kept) → outcome t ≡ taken q → Taking t q
 unfolding outcome
-taking t rs h =
-    choice _ (ltb textSize (length t)) _ _ (taken rs) h (λ _ e. clash (cc)) λ a f.
-    choice _ (ltb maxLines (length (tokenLines t))) _ _ (taken rs) f (λ _ e. clash (cc)) λ b g.
-    let (r, k) = named-taken (rowsFrom [] (tokenLines t)) rs g in
+taking t q h =
+    choice _ (ltb textSize (length t)) _ _ (taken q) h (λ _ e. clash (cc)) λ a f.
+    choice _ (ltb maxLines (length (tokenLines t))) _ _ (taken q) f (λ _ e. clash (cc)) λ b g.
+    let (r, k) = named-taken (rowsFrom nothing (tokenLines t)) q g in
     record { short = ltb-false textSize (length t) a; few = ltb-false maxLines (length (tokenLines t)) b; rows = r; known = k }
 
--- ---- the rows are the lines with tokens, in their order
+-- ---- the lines with tokens, in their order
 
-pub rows-all : (ls : List Numbered) (rs qs : List Row) → rowsFrom rs ls ≡ taken qs → qs ≡ rs ++ map rowOf ls
+-- the tokens of some lines, each set at the place of the curve that they define
+unfoldable pub withCurves : List (List ℕ) → List Numbered → List (List ℕ)
+withCurves cs [] = cs
+withCurves cs (l ∷ ls) = withCurves (set cs (curveNumberIn (tokensOf (l .body) .list) - 1) (tokensOf (l .body) .list)) ls
+
+-- those that are there, by number
+unfoldable pub thereOf : List (List ℕ) → List (List ℕ)
+thereOf [] = []
+thereOf (ts ∷ cs) = elim (isThere ts) [ true ↦ ts ∷ thereOf cs | false ↦ thereOf cs ]
+
+-- below a numbered line they are rows
+rows-behind : (ls : List Numbered) (k q : Kept) → 1 ≤ length (k .rows) → rowsFrom k ls ≡ taken q → (q .rows ≡ k .rows ++ map rowOf ls) × (q .curves ≡ k .curves)
 unfolding rowsFrom
-rows-all [] rs qs h = let e : rs ≡ qs = cc in sym e ∙ sym (append-nil rs)
-rows-all (l ∷ ls) rs qs h =
-    next-row _ rs l ls (taken qs) h
-    (λ f g. rows-all ls (rs ++ (rowOf l ∷ [])) qs g ∙ append-assoc rs (rowOf l ∷ []) (map rowOf ls))
-    (λ k f g. clash (cc))
+rows-behind [] k q n h = let e : k ≡ q = cc in (ap (λ (x : Kept). x .rows) (sym e) ∙ sym (append-nil (k .rows)), ap (λ (x : Kept). x .curves) (sym e))
+rows-behind (l ∷ ls) k q n h =
+    next-row _ k l ls (taken q) h
+    (λ f g. by-kind k (λ x. rowsFrom x ls ≡ taken q → (q .rows ≡ k .rows ++ map rowOf (l ∷ ls)) × (q .curves ≡ k .curves)) l f
+    (λ c e. let z = eqb-true (length (k .rows)) 0 (both (eqb (length (k .rows)) 0) _ (c .defining) .0) in absurd (omega arith))
+    (λ c e.
+    let m = length-append (k .rows) (rowOf l ∷ []) in
+    let (a, b) = rows-behind ls (withRow k (rowOf l)) q (omega arith) e in
+    (a ∙ append-assoc (k .rows) (rowOf l ∷ []) (map rowOf ls), b)) g)
+    (λ j f g. clash (cc))
 
--- THE ROWS THAT ARE TAKEN are the lines with tokens of the text
-pub taken-rows : (t : List ℕ) (rs : List Row) → outcome t ≡ taken rs → rs ≡ map rowOf (tokenLines t)
-taken-rows t rs h = rows-all (tokenLines t) [] rs (taking t rs h .rows)
+-- what is kept with some lines, below no numbered one
+abbrev Keeps : Kept → List Numbered → Kept → Type 0
+Keeps k ls q = (q .rows ≡ map rowOf (rowLines ls)) × (q .curves ≡ withCurves (k .curves) (curveLines ls))
+
+pub text-kept : (ls : List Numbered) (k q : Kept) → k .rows ≡ [] → rowsFrom k ls ≡ taken q → Keeps k ls q
+unfolding rowsFrom curveLines rowLines withCurves
+text-kept [] k q n h = let e : k ≡ q = cc in (ap (λ (x : Kept). x .rows) (sym e) ∙ n, ap (λ (x : Kept). x .curves) (sym e))
+text-kept (l ∷ ls) k q n h =
+    next-row _ k l ls (taken q) h
+    (λ f g. by-kind k (λ x. rowsFrom x ls ≡ taken q → Keeps k (l ∷ ls) q) l f
+    (λ c e.
+    let b = both (eqb (length (k .rows)) 0) (beginsCurve l) (c .defining) .1 in
+    rw (curveLines, rowLines, b) (text-kept ls (withCurve k (tokensOf (l .body) .list)) q n e))
+    (λ c e.
+    let b : beginsCurve l ≡ false = decide _ (beginsCurve l) (λ t. contrary (and-true (eq-eqb (length (k .rows)) 0 (ap length n)) t) (c .other)) (λ t. t) in
+    let m = length-append (k .rows) (rowOf l ∷ []) in
+    let (x, y) = rows-behind ls (withRow k (rowOf l)) q (omega arith) e in
+    rw (curveLines, rowLines, b) (x ∙ ap (λ (r : List Row). (r ++ (rowOf l ∷ [])) ++ map rowOf ls) n, y)) g)
+    (λ j f g. clash (cc))
+
+-- what is kept of a text that is taken
+abbrev pub keptOf : List ℕ → Kept
+keptOf t = record { curves = withCurves (nothing .curves) (curveLines (tokenLines t)); rows = map rowOf (rowLines (tokenLines t)) }
+
+pub taken-kept : (t : List ℕ) (q : Kept) → rowsFrom nothing (tokenLines t) ≡ taken q → q ≡ keptOf t
+taken-kept t q h = let (a, b) = text-kept (tokenLines t) nothing q refl h in λ i. record { curves = b i; rows = a i }
+
+-- THE ROWS THAT ARE TAKEN are the lines with tokens of the text behind those that begin with FCTDEF,
+pub taken-rows : (t : List ℕ) (q : Kept) → outcome t ≡ taken q → q .rows ≡ map rowOf (rowLines (tokenLines t))
+taken-rows t q h = text-kept (tokenLines t) nothing q refl (taking t q h .rows) .0
+
+-- and these are the curves, each in the place of its number
+pub taken-defined : (t : List ℕ) (q : Kept) → outcome t ≡ taken q → q .curves ≡ withCurves (nothing .curves) (curveLines (tokenLines t))
+taken-defined t q h = text-kept (tokenLines t) nothing q refl (taking t q h .rows) .1
 
 -- each of some lines consists of tokens alone
 abbrev pub AllTokens : List Numbered → Type 0
 AllTokens [] = Unit {0}
 AllTokens (l ∷ ls) = (tokensOf (l .body) .good ≡ true) × AllTokens ls
 
-rows-tokens : (ls : List Numbered) (rs qs : List Row) → rowsFrom rs ls ≡ taken qs → AllTokens ls
+rows-tokens : (ls : List Numbered) (k q : Kept) → rowsFrom k ls ≡ taken q → AllTokens ls
 unfolding rowsFrom
-rows-tokens [] rs qs h = tt
-rows-tokens (l ∷ ls) rs qs h =
-    next-row _ rs l ls (taken qs) h
-    (λ f g. (no-fault rs (tokensOf (l .body)) f .0, rows-tokens ls (rs ++ (rowOf l ∷ [])) qs g))
-    (λ k f g. clash (cc))
+rows-tokens [] k q h = tt
+rows-tokens (l ∷ ls) k q h =
+    next-row _ k l ls (taken q) h
+    (λ f g. (by-kind k (λ _. tokensOf (l .body) .good ≡ true) l f (λ c. c .good) (λ c. c .good), rows-tokens ls (keptWith k l) q g))
+    (λ j f g. clash (cc))
 
 -- and they consist of tokens alone
-pub taken-tokens : (t : List ℕ) (rs : List Row) → outcome t ≡ taken rs → AllTokens (tokenLines t)
-taken-tokens t rs h = rows-tokens (tokenLines t) [] rs (taking t rs h .rows)
+pub taken-tokens : (t : List ℕ) (q : Kept) → outcome t ≡ taken q → AllTokens (tokenLines t)
+taken-tokens t q h = rows-tokens (tokenLines t) nothing q (taking t q h .rows)
 
 -- ---- each row
 
@@ -114,21 +161,21 @@ pub text-placed : (t : List ℕ) → Placed (tokenLines t)
 unfolding tokenLines
 text-placed t = numbered-placed (bodies (textLines t)) 1 (omega arith)
 
-rows-fine : (ls : List Numbered) (rs qs : List Row) → All Fine rs → Placed ls → rowsFrom rs ls ≡ taken qs → All Fine qs
-unfolding rowsFrom
-rows-fine [] rs qs a p h = let e : rs ≡ qs = cc in rw (← e) a
-rows-fine (l ∷ ls) rs qs a p h =
-    next-row _ rs l ls (taken qs) h
-    (λ f g.
-    let (b, c, d) = no-fault rs (tokensOf (l .body)) f in
-    rows-fine ls (rs ++ (rowOf l ∷ [])) qs (all-last Fine rs (rowOf l) a (record { place = p .0; clean = c; number = refl })) (p .1) g)
-    (λ k f g. clash (cc))
+pub rows-placed : (ls : List Numbered) → Placed ls → Placed (rowLines ls)
+unfolding rowLines
+rows-placed [] h = tt
+rows-placed (l ∷ ls) h = decide _ (beginsCurve l) (λ t. rw (rowLines, t) (rows-placed ls (h .1))) (λ t. rw (rowLines, t) h)
 
-pub text-fine : (t : List ℕ) (rs : List Row) → rowsFrom [] (tokenLines t) ≡ taken rs → All Fine rs
-text-fine t rs h = rows-fine (tokenLines t) [] rs tt (text-placed t) h
+pub text-fine : (t : List ℕ) (q : Kept) → rowsFrom nothing (tokenLines t) ≡ taken q → All Fine (q .rows)
+text-fine t q h =
+    taken-so (λ k ms. All Fine (k .rows) × Placed ms)
+    (λ k l ms p c. (p .0, p .1 .1))
+    (λ k l ms p c. (all-last Fine (k .rows) (rowOf l) (p .0) (record { place = p .1 .0; clean = c .clean; number = refl }), p .1 .1))
+    (tokenLines t) nothing q (tt, text-placed t) h
+    .0
 
-pub taken-fine : (t : List ℕ) (rs : List Row) → outcome t ≡ taken rs → All Fine rs
-taken-fine t rs h = text-fine t rs (taking t rs h .rows)
+pub taken-fine : (t : List ℕ) (q : Kept) → outcome t ≡ taken q → All Fine (q .rows)
+taken-fine t q h = text-fine t q (taking t q h .rows)
 
 -- ---- 12
 
@@ -144,5 +191,5 @@ first-named known (r ∷ rs) f h =
     (λ t e. (t, first-named known rs (f .1) e))
     (λ _ e. let p = f .0 .place in absurd (omega arith))
 
-pub taken-named : (t : List ℕ) (rs : List Row) → outcome t ≡ taken rs → All (Named (lockTable (numbersOf rs))) rs
-taken-named t rs h = first-named (lockTable (numbersOf rs)) rs (taken-fine t rs h) (taking t rs h .known)
+pub taken-named : (t : List ℕ) (q : Kept) → outcome t ≡ taken q → All (Named (keptTable q)) (q .rows)
+taken-named t q h = first-named (keptTable q) (q .rows) (taken-fine t q h) (taking t q h .known)

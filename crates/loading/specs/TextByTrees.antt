@@ -1,44 +1,50 @@
--- WHAT LOADING ANSWERS, OVER TREES: a text is taken exactly if its lines with tokens are lines of the grammar without a fault of 3 to 12, and else refused with code and line as document 01 orders it. Theorems;
--- nothing is assumed.
-use mathlib.Core.Path.{_≡_, sym, ap, subst, _∙_}
-use mathlib.Core.List.{List, [], map}
-use mathlib.Core.Logic.{_↔_}
+-- WHAT LOADING ANSWERS, OVER TREES: a text is taken exactly if its lines with tokens are definitions and lines of the grammar without a fault of 3 to 13, and else refused with code and line as documents 01 and
+-- 02 order it. Theorems; nothing is assumed.
+use mathlib.Core.Path.{_≡_, refl, sym, ap, subst, _∙_}
+use mathlib.Core.List.{List, map}
+use mathlib.Core.Logic.{_↔_, inr}
 use Prim.Native.Nat.{ℕ, zero, suc, _≤_, _<_}
 use native.Mathlib.Omega.{arith}
-use lib.ListN.{length, length-map}
-use Rattle.values.specs.Codes.{tooLong, tooManyLines, notInSet}
+use lib.ListN.{length}
+use Rattle.values.specs.Codes.{tooLong, tooManyLines, notInSet, wrongCurve}
 use Rattle.values.specs.Numbers.{clash}
-use Rattle.grammar.specs.Tree.{Line, treeNumber}
+use Rattle.grammar.specs.Tree.{Line, treeNumber, Definition}
 use Rattle.tokens.specs.Token.{maxLines}
-use Rattle.engine.specs.Set.{lockTable}
 use Rattle.text.specs.Lines.{tokenLines}
-use Rattle.reader.specs.Row.{Row, numbersOf}
-use Rattle.reader.specs.Load.{taken, refused, rowOf, rowsFrom, firstUnknown, outcome, loadAnswer}
-use Rattle.loading.specs.LoadAnswers.{taken-answer, refused-answer, by-load, code-1, code-2, code-line}
-use Rattle.loading.specs.TakenLaws.{taking, rows-all, text-placed}
-use Rattle.loading.specs.TextTrees.{Distinct, FirstFaulty, AllNameOnly, FirstUnnamed, Small, IsLines, Takes, Refuses, long, many, faulty, unnamed}
-use Rattle.loading.specs.TextTreesLaws.{numbers, refused-rows, rows-refused, faulty-range, taken-trees, trees-taken, all-named, named-all, first-unnamed, unnamed-first, unnamed-place}
+use Rattle.reader.specs.Row.{Kept, nothing}
+use Rattle.reader.specs.Load.{taken, refused, rowsFrom, firstUnknown, keptTable, outcome, loadAnswer}
+use Rattle.reader.specs.KeptLaws.{taken-apart}
+use Rattle.loading.specs.LoadAnswers.{taken-answer, refused-answer, OfLine, no-12, by-load, code-1, code-2, code-line}
+use Rattle.loading.specs.TakenLaws.{taking, keptOf, taken-kept, text-placed, rows-placed}
+use Rattle.loading.specs.TextTrees.{curveNumber, noneAbove, WrongCurve, rowLines, FirstBad, FirstFaulty, AllNameOnly, FirstUnnamed, Small, IsLines, Takes, Refuses, long, many, faulty, unnamed}
+use Rattle.loading.specs.TextNamesLaws.{all-named, named-all, first-unnamed, unnamed-first, unnamed-place}
+use Rattle.loading.specs.TextTreesLaws.{StandsFor, none-stands}
+use Rattle.loading.specs.TextLinesLaws.{refused-rows, rows-refused, faulty-range, taken-trees, trees-taken, first-wrong, wrong-first, text-lines}
 
 module _ (t : List ℕ) where
   -- loading answers the code c and the line k
   abbrev pub Answers : ℕ → ℕ → Type 0
   Answers c k = (loadAnswer t .code ≡ c) × (loadAnswer t .line ≡ k)
 
-  rows-outcome : Small t → (rs : List Row) → rowsFrom [] (tokenLines t) ≡ taken rs → firstUnknown (lockTable (numbersOf rs)) rs ≡ 0 → outcome t ≡ taken rs
-  rows-outcome x rs e f =
+  -- the first line that names what is not known, of what is kept
+  abbrev unknownIn : Kept → ℕ
+  unknownIn q = firstUnknown (keptTable q) (q .rows)
+
+  rows-outcome : Small t → (q : Kept) → rowsFrom nothing (tokenLines t) ≡ taken q → unknownIn q ≡ 0 → outcome t ≡ taken q
+  rows-outcome x q e f =
       let short = x .short in
       let few = x .few in
       by-load _ t
       (λ m h. absurd (omega arith))
       (λ l m h. absurd (omega arith))
       (λ l m d j a b g h. clash (cc))
-      (λ l m qs j g u h.
-      let p : qs ≡ rs = cc in
-      let q : suc j ≡ 0 = sym u ∙ ap (λ (r : List Row). firstUnknown (lockTable (numbersOf r)) r) p ∙ f in
+      (λ l m r j g u h.
+      let p : r ≡ q = cc in
+      let z : suc j ≡ 0 = sym u ∙ ap unknownIn p ∙ f in
       absurd (omega arith))
-      (λ l m qs h. let y = taking t qs h .rows in let p : qs ≡ rs = cc in h ∙ ap taken p)
+      (λ l m r h. let y = taking t r h .rows in let p : r ≡ q = cc in h ∙ ap taken p)
 
-  faulty-answers : (c k : ℕ) → Small t → rowsFrom [] (tokenLines t) ≡ refused c k → Answers c k
+  faulty-answers : (c k : ℕ) → Small t → rowsFrom nothing (tokenLines t) ≡ refused c k → Answers c k
   faulty-answers c k x e =
       let short = x .short in
       let few = x .few in
@@ -46,132 +52,176 @@ module _ (t : List ℕ) where
       (λ m h. absurd (omega arith))
       (λ l m h. absurd (omega arith))
       (λ l m d j a b f h. let z = refused-answer t d j h in let p : d ≡ c = cc in let q : j ≡ k = cc in (z .0 ∙ p, z .1 ∙ q))
-      (λ l m rs j f g h. clash (cc))
-      (λ l m rs h. let z = taking t rs h .rows in clash (cc))
+      (λ l m q j f g h. clash (cc))
+      (λ l m q h. let z = taking t q h .rows in clash (cc))
 
-  unknown-answers : (rs : List Row) (k : ℕ) → Small t → rowsFrom [] (tokenLines t) ≡ taken rs → firstUnknown (lockTable (numbersOf rs)) rs ≡ suc k → Answers notInSet (suc k)
-  unknown-answers rs k x e f =
+  unknown-answers : (q : Kept) (k : ℕ) → Small t → rowsFrom nothing (tokenLines t) ≡ taken q → unknownIn q ≡ suc k → Answers notInSet (suc k)
+  unknown-answers q k x e f =
       let short = x .short in
       let few = x .few in
       by-load _ t
       (λ m h. absurd (omega arith))
       (λ l m h. absurd (omega arith))
       (λ l m d j a b g h. clash (cc))
-      (λ l m qs j g u h.
+      (λ l m r j g u h.
       let z = refused-answer t notInSet (suc j) h in
-      let p : qs ≡ rs = cc in
-      let q : suc j ≡ suc k = sym u ∙ ap (λ (r : List Row). firstUnknown (lockTable (numbersOf r)) r) p ∙ f in
-      (z .0, z .1 ∙ q))
-      (λ l m qs h.
-      let y = taking t qs h in
+      let p : r ≡ q = cc in
+      let y : suc j ≡ suc k = sym u ∙ ap unknownIn p ∙ f in
+      (z .0, z .1 ∙ y))
+      (λ l m r h.
+      let y = taking t r h in
       let g = y .rows in
-      let p : qs ≡ rs = cc in
-      let q : 0 ≡ suc k = sym (y .known) ∙ ap (λ (r : List Row). firstUnknown (lockTable (numbersOf r)) r) p ∙ f in
+      let p : r ≡ q = cc in
+      let z : 0 ≡ suc k = sym (y .known) ∙ ap unknownIn p ∙ f in
       absurd (omega arith))
 
   -- ---- to trees and back
 
-  -- the rows are the lines with tokens; as many
-  rows-few : Small t → length (map rowOf (tokenLines t)) ≤ maxLines
-  rows-few x = let f = x .few in let n = length-map (tokenLines t) rowOf in omega arith
+  -- what is kept has the numbers of these trees
+  abbrev pub Keeps : List Definition → List Line → Type 0
+  Keeps ds xs = StandsFor (keptOf t) (record { curves = map curveNumber ds; numbers = map treeNumber xs })
 
-  -- lines that are taken are lines of the grammar
+  rows-few : Small t → rowsFrom nothing (tokenLines t) ≡ taken (keptOf t) → length (keptOf t .rows) ≤ maxLines
+  rows-few x e = taken-apart (tokenLines t) (keptOf t) (x .few) e .1
+
+  -- as the definition finds it
+  kept-rows : (q : Kept) → rowsFrom nothing (tokenLines t) ≡ taken q → rowsFrom nothing (tokenLines t) ≡ taken (keptOf t)
+  kept-rows q e = e ∙ ap taken (taken-kept t q e)
+
+  kept-unknown : (q : Kept) (n : ℕ) → rowsFrom nothing (tokenLines t) ≡ taken q → unknownIn q ≡ n → unknownIn (keptOf t) ≡ n
+  kept-unknown q n e u = ap unknownIn (sym (taken-kept t q e)) ∙ u
+
+  -- lines that are taken are definitions and lines of the grammar
   record ByTrees : Type 0 where
+    defined : List Definition
     trees : List Line
-    lines : IsLines t trees
-    same : numbers (map rowOf (tokenLines t)) ≡ map treeNumber trees
+    lines : IsLines t defined trees
+    keeps : Keeps defined trees
 
-  rows-trees : Small t → (rs : List Row) → rowsFrom [] (tokenLines t) ≡ taken rs → ByTrees
-  rows-trees x rs e =
+  rows-trees : Small t → rowsFrom nothing (tokenLines t) ≡ taken (keptOf t) → ByTrees
+  rows-trees x e =
       let f = x .few in
-      let q = rows-all (tokenLines t) [] rs e in
-      let (xs, g, n, d) = taken-trees (tokenLines t) [] rs (omega arith) tt e in
-      record { trees = xs; lines = record { small = x; good = g; distinct = subst Distinct n d }; same = ap numbers (sym q) ∙ n }
+      let w = taken-trees (tokenLines t) nothing (keptOf t) noneAbove (omega arith) none-stands refl tt e in
+      record {
+        defined = w .defined;
+        trees = w .trees;
+        lines = record { small = x; good = w .good; distinct = w .distinct; apart = w .apart; uses = w .uses };
+        keeps = w .stands;
+      }
 
-  pub trees-rows : (xs : List Line) → IsLines t xs → (rowsFrom [] (tokenLines t) ≡ taken (map rowOf (tokenLines t))) × (numbers (map rowOf (tokenLines t)) ≡ map treeNumber xs)
-  trees-rows xs x = let f = x .small .few in trees-taken (tokenLines t) [] xs (omega arith) (x .good) (x .distinct)
+  -- and they are kept
+  pub trees-rows : (ds : List Definition) (xs : List Line) → IsLines t ds xs → (rowsFrom nothing (tokenLines t) ≡ taken (keptOf t)) × Keeps ds xs
+  trees-rows ds xs x =
+      let f = x .small .few in
+      let (q, e, s) = trees-taken (tokenLines t) ds xs nothing noneAbove (omega arith) none-stands refl (x .good) (x .distinct) (x .apart) (x .uses) in
+      (kept-rows q e, subst (λ (p : Kept). StandsFor p (record { curves = map curveNumber ds; numbers = map treeNumber xs })) (taken-kept t q e) s)
 
   -- no line names a number that the text has not
-  rows-named : (w : ByTrees) → firstUnknown (lockTable (numbersOf (map rowOf (tokenLines t)))) (map rowOf (tokenLines t)) ≡ 0 → AllNameOnly (map treeNumber (w .trees)) (w .trees)
-  rows-named w u =
-      subst (λ (ns : List ℕ). AllNameOnly ns (w .trees)) (w .same)
-      (all-named (map rowOf (tokenLines t)) (rows-few (w .lines .small)) (tokenLines t) (w .trees) (text-placed t) (w .lines .good) u)
+  module _ (ds : List Definition) (xs : List Line) (x : IsLines t ds xs) (s : Keeps ds xs) (few : length (keptOf t .rows) ≤ maxLines) where
+    rows-named : unknownIn (keptOf t) ≡ 0 → AllNameOnly (map treeNumber xs) xs
+    rows-named u =
+        subst (λ (ns : List ℕ). AllNameOnly ns xs) (s .rows)
+        (all-named (keptOf t) few (map curveNumber ds) (s .defined) (rowLines (tokenLines t)) xs (rows-placed (tokenLines t) (text-placed t)) (text-lines (tokenLines t) ds xs (x .good)) u)
 
-  rows-unnamed : (w : ByTrees) (k : ℕ) → firstUnknown (lockTable (numbersOf (map rowOf (tokenLines t)))) (map rowOf (tokenLines t)) ≡ suc k → FirstUnnamed (map treeNumber (w .trees)) (tokenLines t) (w .trees) (suc k)
-  rows-unnamed w k u =
-      subst (λ (ns : List ℕ). FirstUnnamed ns (tokenLines t) (w .trees) (suc k)) (w .same)
-      (first-unnamed (map rowOf (tokenLines t)) (rows-few (w .lines .small)) (tokenLines t) (w .trees) k (w .lines .good) u)
+    named-rows : AllNameOnly (map treeNumber xs) xs → unknownIn (keptOf t) ≡ 0
+    named-rows h =
+        named-all (keptOf t) few (map curveNumber ds) (s .defined) (rowLines (tokenLines t)) xs (text-lines (tokenLines t) ds xs (x .good)) (x .uses)
+        (subst (λ (ns : List ℕ). AllNameOnly ns xs) (sym (s .rows)) h)
 
-  -- as the rows that the definition finds
-  unknown-rows : (rs : List Row) (n : ℕ) → rowsFrom [] (tokenLines t) ≡ taken rs → firstUnknown (lockTable (numbersOf rs)) rs ≡ n → firstUnknown (lockTable (numbersOf (map rowOf (tokenLines t)))) (map rowOf (tokenLines t)) ≡ n
-  unknown-rows rs n e u = ap (λ (r : List Row). firstUnknown (lockTable (numbersOf r)) r) (sym (rows-all (tokenLines t) [] rs e)) ∙ u
+    rows-unnamed : (k : ℕ) → unknownIn (keptOf t) ≡ suc k → FirstUnnamed (map treeNumber xs) (rowLines (tokenLines t)) xs (suc k)
+    rows-unnamed k u =
+        subst (λ (ns : List ℕ). FirstUnnamed ns (rowLines (tokenLines t)) xs (suc k)) (s .rows)
+        (first-unnamed (keptOf t) few (map curveNumber ds) (s .defined) (rowLines (tokenLines t)) xs k (text-lines (tokenLines t) ds xs (x .good)) (x .uses) u)
 
-  -- the lines of a text that is taken are its rows
-  pub takes-rows : (xs : List Line) → Takes t xs → outcome t ≡ taken (map rowOf (tokenLines t))
-  takes-rows xs y =
+    unnamed-rows : (k : ℕ) → FirstUnnamed (map treeNumber xs) (rowLines (tokenLines t)) xs k → unknownIn (keptOf t) ≡ k
+    unnamed-rows k h =
+        unnamed-first (keptOf t) few (map curveNumber ds) (s .defined) (rowLines (tokenLines t)) xs k (text-lines (tokenLines t) ds xs (x .good)) (x .uses)
+        (subst (λ (ns : List ℕ). FirstUnnamed ns (rowLines (tokenLines t)) xs k) (sym (s .rows)) h)
+
+  -- the lines of a text that is taken are its curves and rows
+  pub takes-rows : (ds : List Definition) (xs : List Line) → Takes t ds xs → outcome t ≡ taken (keptOf t)
+  takes-rows ds xs y =
       let z = y .lines in
-      let (e, n) = trees-rows xs z in
-      let u = named-all (map rowOf (tokenLines t)) (rows-few (z .small)) (tokenLines t) xs (z .good) (subst (λ (ns : List ℕ). AllNameOnly ns xs) (sym n) (y .named)) in
-      rows-outcome (z .small) (map rowOf (tokenLines t)) e u
+      let (e, s) = trees-rows ds xs z in
+      rows-outcome (z .small) (keptOf t) e (named-rows ds xs z s (rows-few (z .small) e) (y .named))
 
   -- ---- the theorems
 
-  -- A TEXT IS TAKEN exactly if it is short enough, has few enough lines with tokens, each makes tokens, is not too deep and is written as a line of the grammar without a fault, their numbers are distinct, and
-  -- each LOCK and UNLOCK names one of them
-  pub taken-iff : (loadAnswer t .code ≡ 0) ↔ ((xs : List Line) × Takes t xs)
+  -- A TEXT IS TAKEN exactly if it is short enough, has few enough lines with tokens, each makes tokens and is not too deep, they are written as definitions and behind them lines of the grammar without a fault,
+  -- the numbers of curves are distinct and those of lines are, each SYNFCT names one of the curves, and each LOCK and UNLOCK one of the lines
+  pub taken-iff : (loadAnswer t .code ≡ 0) ↔ ((ds : List Definition) × (xs : List Line) × Takes t ds xs)
   taken-iff = (
     (λ e. by-load _ t
         (λ _ h. let z = refused-answer t tooLong 0 h .0 in absurd (omega arith))
         (λ _ _ h. let z = refused-answer t tooManyLines 0 h .0 in absurd (omega arith))
         (λ _ _ c k a b _ h. let z = refused-answer t c k h .0 in absurd (omega arith))
-        (λ _ _ rs k _ _ h. let z = refused-answer t notInSet (suc k) h .0 in absurd (omega arith))
-        (λ l m rs h.
-        let y = taking t rs h in
-        let w = rows-trees (record { short = l; few = m }) rs (y .rows) in
-        (w .trees, record { lines = w .lines; named = rows-named w (unknown-rows rs 0 (y .rows) (y .known)) }))),
-    (λ x. let (xs, y) = x in taken-answer t (map rowOf (tokenLines t)) (takes-rows xs y) .0),
+        (λ _ _ q k _ _ h. let z = refused-answer t notInSet (suc k) h .0 in absurd (omega arith))
+        (λ l m q h.
+        let y = taking t q h in
+        let x : Small t = record { short = l; few = m } in
+        let f = kept-rows q (y .rows) in
+        let w = rows-trees x f in
+        (w .defined, w .trees, record { lines = w .lines; named = rows-named (w .defined) (w .trees) (w .lines) (w .keeps) (rows-few x f) (kept-unknown q 0 (y .rows) (y .known)) }))),
+    (λ x. let (ds, xs, y) = x in taken-answer t (keptOf t) (takes-rows ds xs y) .0),
   )
 
-  -- CODES 3 TO 11, c AND THE LINE k: the first line with a fault stands at k and has the lowest fault c
-  pub code-3-to-11 : (c k : ℕ) → 3 ≤ c → c ≤ 11 → Answers c k ↔ (Small t × FirstFaulty [] (tokenLines t) c k)
-  code-3-to-11 c k low high = (
+  -- CODES 3 TO 11 AND 13, c AND THE LINE k: the first line with a fault stands at k and has the lowest fault c
+  pub code-of-line : (c k : ℕ) → OfLine c → Answers c k ↔ (Small t × FirstFaulty noneAbove (tokenLines t) c k)
+  code-of-line c k r = (
     (λ x. by-load _ t
-        (λ m h. let z = refused-answer t tooLong 0 h .0 in let w = x .0 in absurd (omega arith))
-        (λ l m h. let z = refused-answer t tooManyLines 0 h .0 in let w = x .0 in absurd (omega arith))
+        (λ m h. let z = refused-answer t tooLong 0 h .0 in let w = x .0 in let low = r .0 in absurd (omega arith))
+        (λ l m h. let z = refused-answer t tooManyLines 0 h .0 in let w = x .0 in let low = r .0 in absurd (omega arith))
         (λ l m d j a b f h.
         let z = refused-answer t d j h in
         let p : d ≡ c = sym (z .0) ∙ x .0 in
         let q : j ≡ k = sym (z .1) ∙ x .1 in
-        (record { short = l; few = m }, refused-rows (tokenLines t) [] c k (omega arith) (rw (p, q) at f)))
-        (λ l m rs j f g h. let z = refused-answer t notInSet (suc j) h .0 in let w = x .0 in absurd (omega arith))
-        (λ l m rs h. let z = taken-answer t rs h .0 in let w = x .0 in absurd (omega arith))),
-    (λ x. let f = x .0 .few in faulty-answers c k (x .0) (rows-refused (tokenLines t) [] c k (omega arith) (x .1))),
+        (record { short = l; few = m }, refused-rows (tokenLines t) nothing noneAbove c k (omega arith) none-stands (rw (p, q) at f)))
+        (λ l m q j f g h. let z = refused-answer t notInSet (suc j) h .0 in absurd (no-12 c r (sym (x .0) ∙ z)))
+        (λ l m q h. let z = taken-answer t q h .0 in let w = x .0 in let low = r .0 in absurd (omega arith))),
+    (λ x. let f = x .0 .few in faulty-answers c k (x .0) (rows-refused (tokenLines t) nothing noneAbove c k (omega arith) none-stands (x .1))),
   )
 
+  -- CODE 13 AND THE LINE k: the first line with a fault stands at k, and is a definition whose lower limit is above its upper one, one of a curve that is defined above, or a line that uses a curve which is not
+  -- defined above
+  pub code-13 : (k : ℕ) → Answers wrongCurve k ↔ (Small t × FirstBad WrongCurve noneAbove (tokenLines t) k)
+  code-13 k = (
+    (λ x. let (s, f) = code-of-line wrongCurve k of-line .0 x in (s, first-wrong noneAbove (tokenLines t) k f)),
+    (λ x. code-of-line wrongCurve k of-line .1 (x .0, wrong-first noneAbove (tokenLines t) k (x .1))),
+  )
+    where
+      of-line : OfLine wrongCurve
+      of-line = (omega arith, inr refl)
+
   -- CODE 12 AND THE LINE k: no line has such a fault, and the first with a LOCK or UNLOCK of a number that no line of the text has stands at k
-  pub code-12 : (k : ℕ) → Answers notInSet k ↔ ((xs : List Line) × IsLines t xs × FirstUnnamed (map treeNumber xs) (tokenLines t) xs k)
+  pub code-12 : (k : ℕ) → Answers notInSet k ↔ ((ds : List Definition) × (xs : List Line) × IsLines t ds xs × FirstUnnamed (map treeNumber xs) (rowLines (tokenLines t)) xs k)
   code-12 k = (
     (λ x. by-load _ t
         (λ m h. let z = refused-answer t tooLong 0 h .0 in let w = x .0 in absurd (omega arith))
         (λ l m h. let z = refused-answer t tooManyLines 0 h .0 in let w = x .0 in absurd (omega arith))
-        (λ l m d j a b f h. let z = refused-answer t d j h .0 in let w = x .0 in absurd (omega arith))
-        (λ l m rs j f g h.
+        (λ l m d j a b f h. let z = refused-answer t d j h .0 in absurd (no-12 d b (sym z ∙ x .0)))
+        (λ l m q j f g h.
         let z = refused-answer t notInSet (suc j) h in
-        let q : suc j ≡ k = sym (z .1) ∙ x .1 in
-        let w = rows-trees (record { short = l; few = m }) rs f in
-        (w .trees, w .lines, subst (λ (n : ℕ). FirstUnnamed (map treeNumber (w .trees)) (tokenLines t) (w .trees) n) q (rows-unnamed w j (unknown-rows rs (suc j) f g))))
-        (λ l m rs h. let z = taken-answer t rs h .0 in let w = x .0 in absurd (omega arith))),
-    (λ x. let (xs, y, u) = x in by-place k (unnamed-place (map treeNumber xs) (tokenLines t) xs k (text-placed t) u) xs y u),
+        let p : suc j ≡ k = sym (z .1) ∙ x .1 in
+        let y : Small t = record { short = l; few = m } in
+        let e = kept-rows q f in
+        let w = rows-trees y e in (
+          w .defined,
+          w .trees,
+          w .lines,
+          subst (λ (n : ℕ). FirstUnnamed (map treeNumber (w .trees)) (rowLines (tokenLines t)) (w .trees) n) p
+              (rows-unnamed (w .defined) (w .trees) (w .lines) (w .keeps) (rows-few y e) j (kept-unknown q (suc j) f g)),
+        ))
+        (λ l m q h. let z = taken-answer t q h .0 in let w = x .0 in absurd (omega arith))),
+    (λ x. let (ds, xs, y, u) = x in by-place k (unnamed-place (map treeNumber xs) (rowLines (tokenLines t)) xs k (rows-placed (tokenLines t) (text-placed t)) u) ds xs y u),
   )
     where
-      by-place : (k : ℕ) → 1 ≤ k → (xs : List Line) → IsLines t xs → FirstUnnamed (map treeNumber xs) (tokenLines t) xs k → Answers notInSet k
-      by-place zero p xs y u = absurd (omega arith)
-      by-place (suc k) p xs y u =
-          let (e, n) = trees-rows xs y in
-          unknown-answers (map rowOf (tokenLines t)) k (y .small) e
-          (unnamed-first (map rowOf (tokenLines t)) (rows-few (y .small)) (tokenLines t) xs (suc k) (y .good) (subst (λ (ns : List ℕ). FirstUnnamed ns (tokenLines t) xs (suc k)) (sym n) u))
+      by-place : (k : ℕ) → 1 ≤ k → (ds : List Definition) (xs : List Line) → IsLines t ds xs → FirstUnnamed (map treeNumber xs) (rowLines (tokenLines t)) xs k → Answers notInSet k
+      by-place zero p ds xs y u = absurd (omega arith)
+      by-place (suc k) p ds xs y u =
+          let (e, s) = trees-rows ds xs y in
+          unknown-answers (keptOf t) k (y .small) e (unnamed-rows ds xs y s (rows-few (y .small) e) (suc k) u)
 
-  -- A TEXT IS REFUSED WITH THE CODE c AND THE LINE k exactly as document 01 orders it: 1, 2, the first line with a fault of 3 to 11, 12
+  -- A TEXT IS REFUSED WITH THE CODE c AND THE LINE k exactly as documents 01 and 02 order it: 1, 2, the first line with a fault of 3 to 11 or 13, 12
   pub refused-iff : (c k : ℕ) → ((0 < c) × Answers c k) ↔ Refuses t c k
   refused-iff c k = (
     (λ x. by-load _ t
@@ -180,19 +230,19 @@ module _ (t : List ℕ) where
         (λ l m d j a b f h.
         let z = refused-answer t d j h in
         let p : d ≡ c = sym (z .0) ∙ x .1 .0 in
-        let (y, w) = code-3-to-11 c k (omega arith) (omega arith) .0 (x .1) in
+        let (y, w) = code-of-line c k (subst OfLine p b) .0 (x .1) in
         faulty y w)
-        (λ l m rs j f g h.
+        (λ l m q j f g h.
         let z = refused-answer t notInSet (suc j) h in
         let p = sym (x .1 .0) ∙ z .0 in
-        let (xs, y, w) = code-12 k .0 (z .0, x .1 .1) in
-        unnamed p xs y w)
-        (λ l m rs h. let z = taken-answer t rs h .0 in let w = x .0 in let v = x .1 .0 in absurd (omega arith))),
+        let (ds, xs, y, w) = code-12 k .0 (z .0, x .1 .1) in
+        unnamed p ds xs y w)
+        (λ l m q h. let z = taken-answer t q h .0 in let w = x .0 in let v = x .1 .0 in absurd (omega arith))),
     refuses,
   )
     where
       refuses : Refuses t c k → (0 < c) × Answers c k
       refuses (long e f l) = let z = code-1 t .1 l in let n = code-line t (omega arith) in (omega arith, (z ∙ sym e, n ∙ sym f))
       refuses (many e f l m) = let z = code-2 t .1 (l, m) in let n = code-line t (omega arith) in (omega arith, (z ∙ sym e, n ∙ sym f))
-      refuses (faulty x f) = let (a, b) = faulty-range [] (tokenLines t) c k f in (omega arith, code-3-to-11 c k a b .1 (x, f))
-      refuses (unnamed e xs y u) = let z = code-12 k .1 (xs, y, u) in (omega arith, (z .0 ∙ sym e, z .1))
+      refuses (faulty x f) = let r = faulty-range noneAbove (tokenLines t) c k f in let a = r .0 in (omega arith, code-of-line c k r .1 (x, f))
+      refuses (unnamed e ds xs y u) = let z = code-12 k .1 (ds, xs, y, u) in (omega arith, (z .0 ∙ sym e, z .1))

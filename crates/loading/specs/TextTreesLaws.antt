@@ -1,101 +1,84 @@
--- Laws of a text by the trees of its lines: what the definition of loading says of a line, of lines one after the other and of the names in them is what their trees say. Nothing is assumed.
+-- Laws of a text by the trees of its lines: what the definition of loading says of a line and of lines one after the other is what their trees say. Nothing is assumed.
 use mathlib.Core.Path.{_≡_, refl, sym, ap, subst, _∙_}
-use mathlib.Core.Bool.{Bool, true, false}
-use mathlib.Core.List.{List, [], _∷_, _++_, map, map-append, append-assoc, append-nil}
-use mathlib.Core.Logic.{_⊎_, inl, inr, ⊎-elim}
+use mathlib.Core.Bool.{Bool, true, false, _&&_, false≢true}
+use mathlib.Core.List.{List, [], _∷_, _++_}
+use mathlib.Core.Logic.{_⊎_, inl, inr}
 use mathlib.Core.Option.{Option, none, some}
-use Prim.Native.Nat.{ℕ, zero, suc, _+_, _≤_, _<_}
-use native.Mathlib.Decide.{decLt}
+use Prim.Native.Nat.{ℕ, zero, suc, _-_, _≤_}
+use native.Mathlib.Decide.{ℕ-discrete}
 use native.Mathlib.Omega.{arith}
 use lib.Dec.{eqb, leb}
-use lib.ListN.{length, getD, length-append, List·getD-eq-default}
-use borrow.Author.Tests.{ltb-true, leb-true, eqb-true}
-use Rattle.values.specs.Codes.{makesNoToken, tooDeep, notInGrammar, usedAbove, outside}
-use Rattle.values.specs.Choice.{both, decide, choice, contrary, chosen, refused as not-chosen, and-true}
+use lib.ListN.{length, getD, set, replicate, length-append, length-map, length-set}
+use lib.Seq.{getD-set-same, getD-set-other}
+use borrow.Author.Tests.{lt-ltb, leb-true, le-leb, eqb-true, eq-eqb}
+use Rattle.values.specs.Codes.{makesNoToken, tooDeep, notInGrammar, usedAbove, wrongCurve}
+use Rattle.values.specs.Choice.{holds, both, decide, choice, contrary, chosen, refused as not-chosen, and-true}
 use Rattle.values.specs.Numbers.{clash}
-use Rattle.tokens.specs.Token.{maxLines, LOCK, SETAL, UNLOCK, between}
-use Rattle.tokens.specs.SingleFault.{opensTooMany, idFault, callFault}
-use Rattle.grammar.specs.Tree.{Action, assign, assignPosition, drive, code, call, Line, line, treeNumber}
-use Rattle.grammar.specs.TreeFault.{actionFault, actionsFault, lineFault, keywordOf, Proper}
-use Rattle.grammar.specs.TreeFaultLaws.{line-proper}
-use Rattle.grammar.specs.TreeNames.{Name, actionNames, actionsNames, namesIn, eachKnown}
-use Rattle.grammar.specs.TreeOf.{treeOf}
-use Rattle.grammar.specs.TreeOfLaws.{tree-of-tokens, no-tree}
-use Rattle.engine.specs.Set.{rankIn, isKnown, lockTable}
-use Rattle.soundness.specs.WriteSoundLaws.{lower-zero, unless-zero}
-use Rattle.soundness.specs.SetSoundLaws.{rank-number}
+use Rattle.tokens.specs.Token.{END, FCTDEF, ID, IDS, maxLines, maxCurves, isId}
+use Rattle.tokens.specs.SingleFault.{opensTooMany}
+use Rattle.grammar.specs.Tree.{Line, line, treeNumber, lineTokens, Definition, definitionFront, DefinedAs}
+use Rattle.grammar.specs.TreeFault.{lineFault, definitionFault}
+use Rattle.grammar.specs.TreeNames.{namesIn, eachKnown}
+use Rattle.grammar.specs.TreeOf.{treeOf, definitionOf}
+use Rattle.grammar.specs.TreeOfLaws.{tree-of-tokens, no-tree, definition-of-tokens, no-definition}
+use Rattle.engine.specs.Set.{isKnown, isDefined}
 use Rattle.soundness.specs.AnswerCodes.{OneOf}
 use Rattle.text.specs.Tokens.{tokensOf}
 use Rattle.text.specs.Lines.{Numbered}
-use Rattle.reader.specs.Row.{Row, numbersOf, noRow}
-use Rattle.reader.specs.Load.{treeFault, faultOf, numberIn, tokensFault, faultBelow, taken, refused, rowOf, rowsFrom, isNamed, firstNot, firstUnknown}
-use Rattle.reader.specs.CheckedLaws.{faultless, line-number}
-use Rattle.reader.specs.RisingLaws.{number-at, numbers-length, next-row, no-fault}
-use Rattle.loading.specs.TakenLaws.{Placed}
-use Rattle.loading.specs.LinesReadLaws.{known-at}
-use Rattle.loading.specs.TextTrees.{Distinct, MakesTokens, Shallow, IsLine, GoodLine, Faulty, noToken, deep, noLine, lineFaulty, numberUsed, GoodLines, FirstFaulty, numbersNamed, NamesOnly, AllNameOnly, FirstUnnamed}
+use Rattle.reader.specs.Row.{Row, Kept, nothing, isThere, curvesThere, numbersOf}
+use Rattle.reader.specs.Load.{treeFault, faultOf, numberIn, areKnown, definedFault, curveFaultOf, curveNumberIn, curveTable, curveBelow, lineBelow, defines, tokensFault, faultBelow, rowOf, withRow, withCurve, keptWith}
+use Rattle.reader.specs.CheckedLaws.{faultless, faultless-curve, line-number, definition-number}
+use Rattle.reader.specs.KeptLaws.{NewCurve, NewLine, by-kind}
+use Rattle.loading.specs.TextTrees.{curveNumber, MakesTokens, Shallow, IsLine, GoodLine, IsDefinition, GoodCurve, curvesNamed, UsesOnly, Above, noneAbove, belowCurve, belowLine, MayDefine, IsNewLine, IsNewCurve, Faulty, noToken, deep, noLine, lineFaulty, numberUsed, curveFaulty, curveUsed, curveUnknown, beginsCurve}
+use Rattle.loading.specs.TextNamesLaws.{one-first, one-last, one-split, numbers, numbers-last, known-one, one-known, line-names, each-curve, all-known, Fails, one-fails}
 
--- ---- numbers
+-- ---- what stands above, and what is kept of it
 
-one-last : (n : ℕ) (ns ms : List ℕ) → OneOf n ms → OneOf n (ns ++ ms)
-one-last n [] ms h = h
-one-last n (m ∷ ns) ms h = inr (one-last n ns ms h)
+-- the curve n is among some
+abbrev pub isCurveOf : List (List ℕ) → ℕ → Bool
+isCurveOf cs n = isDefined (curvesThere cs) n
 
-one-of-two : (n m : ℕ) (ns : List ℕ) → OneOf n (ns ++ (m ∷ [])) → OneOf n ns ⊎ (m ≡ n)
-one-of-two n m [] (inl e) = inr e
-one-of-two n m (k ∷ ns) (inl e) = inl (inl e)
-one-of-two n m (k ∷ ns) (inr h) = by-rest (one-of-two n m ns h)
-  where
-    by-rest : OneOf n ns ⊎ (m ≡ n) → OneOf n (k ∷ ns) ⊎ (m ≡ n)
-    by-rest (inl g) = inl (inr g)
-    by-rest (inr e) = inr e
+pub record StandsFor (k : Kept) (a : Above) : Type 0 where
+  pub rows : numbers (k .rows) ≡ a .numbers
+  pub room : length (k .curves) ≡ maxCurves
+  pub there : (n : ℕ) → isCurveOf (k .curves) n ≡ true → OneOf n (a .curves)
+  pub defined : (n : ℕ) → OneOf n (a .curves) → isCurveOf (k .curves) n ≡ true
 
--- one number more that is none of them
-distinct-last : (ns : List ℕ) (n : ℕ) → Distinct ns → (OneOf n ns → ⊥) → Distinct (ns ++ (n ∷ []))
-distinct-last [] n d h = (λ x. x, tt)
-distinct-last (m ∷ ns) n d h = (λ x. by-place (one-of-two m n ns x), distinct-last ns n (d .1) (λ x. h (inr x)))
-  where
-    by-place : OneOf m ns ⊎ (n ≡ m) → ⊥
-    by-place (inl x) = d .0 x
-    by-place (inr e) = h (inl (sym e))
+-- whether a curve is there, by its place
+pub there-at : (cs : List (List ℕ)) (j : ℕ) → getD (curvesThere cs) j false ≡ isThere (getD cs j [])
+there-at [] j = refl
+there-at (c ∷ cs) zero = refl
+there-at (c ∷ cs) (suc j) = there-at cs j
 
--- a number behind some is none of them
-distinct-behind : (ns ms : List ℕ) (n : ℕ) → Distinct (ns ++ (n ∷ ms)) → OneOf n ns → ⊥
-distinct-behind (m ∷ ns) ms n d (inl e) = d .0 (one-last m ns (n ∷ ms) (inl (sym e)))
-distinct-behind (m ∷ ns) ms n d (inr h) = distinct-behind ns ms n (d .1) h
+-- nothing stands for nothing
+pub none-there : (m j : ℕ) → isThere (getD {A = List ℕ} (replicate m []) j []) ≡ true → ⊥
+none-there zero j t = false≢true t
+none-there (suc m) zero t = false≢true t
+none-there (suc m) (suc j) t = none-there m j t
 
--- ---- the numbers of some lines
+pub none-stands : StandsFor nothing noneAbove
+none-stands = record {
+  rows = refl;
+  room = refl;
+  there = λ n h. absurd (none-there maxCurves (n - 1) (sym (there-at (nothing .curves) (n - 1)) ∙ both (leb 1 n) (getD (curvesThere (nothing .curves)) (n - 1) false) h .1));
+  defined = λ n o. absurd o;
+}
 
-abbrev pub numbers : List Row → List ℕ
-numbers rs = map (λ (r : Row). r .number) rs
+-- a definition has tokens
+pub front-there : (d : Definition) (ts : List ℕ) → DefinedAs d ts → isThere ts ≡ true
+unfolding definitionFront
+front-there d ts w = let n = ap length w in lt-ltb 0 (length ts) (omega arith)
 
-numbers-last : (rs : List Row) (r : Row) → numbers (rs ++ (r ∷ [])) ≡ numbers rs ++ (r .number ∷ [])
-numbers-last rs r = map-append (λ (r : Row). r .number) rs (r ∷ [])
+-- one curve more: its own number, and the others as before
+module _ (cs : List (List ℕ)) (m : ℕ) (ts : List ℕ) (first : 1 ≤ m) (last : m ≤ length cs) (some-tokens : isThere ts ≡ true) where
+  own-there : isCurveOf (set cs (m - 1) ts) m ≡ true
+  own-there = and-true (le-leb 1 m first) (there-at (set cs (m - 1) ts) (m - 1) ∙ ap isThere (getD-set-same cs (m - 1) ts [] (omega arith)) ∙ some-tokens)
 
-number-one : (rs : List Row) (i n : ℕ) → i < length rs → getD rs i noRow .number ≡ n → OneOf n (numbers rs)
-number-one [] i n l e = absurd (omega arith)
-number-one (r ∷ rs) zero n l e = inl e
-number-one (r ∷ rs) (suc i) n l e = inr (number-one rs i n (omega arith) e)
-
-one-number : (rs : List Row) (n : ℕ) → OneOf n (numbers rs) → (i : ℕ) × (i < length rs) × (getD rs i noRow .number ≡ n)
-one-number (r ∷ rs) n (inl e) = (0, omega arith, e)
-one-number (r ∷ rs) n (inr h) = let (i, l, e) = one-number rs n h in (suc i, omega arith, e)
-
--- a number from 1 on is known exactly if it is that of a line
-module _ (rs : List Row) (few : length rs ≤ maxLines) (n : ℕ) where
-  pub known-one : 1 ≤ n → isKnown (numbersOf rs) n ≡ true → OneOf n (numbers rs)
-  known-one p h =
-      let i = rankIn (numbersOf rs) n 0 in
-      let b : i < maxLines = ltb-true i maxLines h in
-      let e = sym (number-at rs i few) ∙ rank-number (numbersOf rs) n (numbers-length rs) b in
-      by-place i e (decLt i (length rs))
-    where
-      by-place : (i : ℕ) → getD rs i noRow .number ≡ n → Dec (i < length rs) → OneOf n (numbers rs)
-      by-place i e (yes l) = number-one rs i n l e
-      by-place i e (no l) = let z = ap (λ (r : Row). r .number) (List·getD-eq-default rs noRow {n = i} (omega (arith, l))) in absurd (omega arith)
-
-  pub one-known : OneOf n (numbers rs) → isKnown (numbersOf rs) n ≡ true
-  one-known h = let (i, l, e) = one-number rs n h in known-at (numbersOf rs) n i (numbers-length rs) (omega arith) (number-at rs i few ∙ e)
+  other-there : (n : ℕ) → (n ≡ m → ⊥) → isCurveOf (set cs (m - 1) ts) n ≡ isCurveOf cs n
+  other-there zero o = refl
+  other-there (suc n) o =
+      let j = suc n - 1 in
+      ap (λ (b : Bool). leb 1 (suc n) && b) (there-at (set cs (m - 1) ts) j ∙ ap isThere (getD-set-other cs (m - 1) j ts [] (λ e. o (omega arith))) ∙ sym (there-at cs j))
 
 -- ---- a line
 
@@ -111,273 +94,288 @@ module _ (l : Numbered) where
   number-is : (x : Line) → IsLine l x → numberIn ts ≡ treeNumber x
   number-is x w = rw (tree-of-tokens ts x .1 w)
 
-  module _ (rs : List Row) where
-    below-bad : tokensOf (l .body) .good ≡ false → faultBelow rs (tokensOf (l .body)) ≡ makesNoToken
+  pub number-row : (x : Line) → GoodLine l x → rowOf l .number ≡ treeNumber x
+  number-row x h = number-is x (h .written)
+
+  curve-fault-is : (d : Definition) → Shallow l → IsDefinition l d → curveFaultOf ts ≡ definitionFault d
+  unfolding curveFaultOf
+  curve-fault-is d o w = not-chosen _ _ _ o ∙ ap definedFault (definition-of-tokens ts d .1 w)
+
+  pub curve-number-is : (d : Definition) → IsDefinition l d → curveNumberIn ts ≡ curveNumber d
+  curve-number-is d w = rw (definition-of-tokens ts d .1 w)
+
+  -- a definition begins with FCTDEF; no line does
+  pub curve-begins : (d : Definition) → IsDefinition l d → beginsCurve l ≡ true
+  unfolding definitionFront
+  curve-begins d w = ap (λ (t : List ℕ). eqb (getD t 0 END) FCTDEF) (sym w)
+
+  pub line-begins : (x : Line) → IsLine l x → beginsCurve l ≡ false
+  unfolding lineTokens
+  line-begins (line w v n c a r) h =
+      decide _ (beginsCurve l)
+      (λ t.
+      let e : w ≡ getD ts 0 END = ap (λ (u : List ℕ). getD u 0 END) h ∙ with-end ts in
+      let f = eqb-true (getD ts 0 END) FCTDEF t in
+      let b = leb-true w IDS (both (leb ID w) (leb w IDS) (holds (isId w) v) .1) in
+      absurd (omega arith))
+      (λ t. t)
+    where
+      with-end : (u : List ℕ) → getD (u ++ (END ∷ [])) 0 END ≡ getD u 0 END
+      with-end [] = refl
+      with-end (y ∷ u) = refl
+
+  -- ---- below what is kept
+
+  module _ (k : Kept) where
+    below-bad : tokensOf (l .body) .good ≡ false → faultBelow k (tokensOf (l .body)) ≡ makesNoToken
     unfolding faultBelow
     below-bad g = not-chosen _ _ _ g
 
-    below-fault : (k : ℕ) → MakesTokens l → faultOf ts ≡ suc k → faultBelow rs (tokensOf (l .body)) ≡ suc k
-    unfolding faultBelow tokensFault
-    below-fault k g e = chosen _ _ _ g ∙ rw (e, tokensFault)
+    module _ (g : MakesTokens l) where
+      as-curve : defines k ts ≡ true → faultBelow k (tokensOf (l .body)) ≡ curveBelow (k .curves) ts
+      unfolding faultBelow tokensFault
+      as-curve d = chosen _ _ _ g ∙ chosen _ _ _ d
 
-    below-number : MakesTokens l → faultOf ts ≡ 0 → faultBelow rs (tokensOf (l .body)) ≡ elim (isKnown (numbersOf rs) (numberIn ts)) as (λ _. ℕ) [ true ↦ usedAbove | false ↦ 0 ]
-    unfolding faultBelow tokensFault
-    below-number g e = chosen _ _ _ g ∙ rw (e, tokensFault)
+      as-line : defines k ts ≡ false → faultBelow k (tokensOf (l .body)) ≡ lineBelow k ts
+      unfolding faultBelow tokensFault
+      as-line d = chosen _ _ _ g ∙ not-chosen _ _ _ d
 
-    -- what its tree says is its fault
-    pub faulty-below : (c : ℕ) → length rs ≤ maxLines → Faulty (numbers rs) l c → faultBelow rs (tokensOf (l .body)) ≡ c
-    unfolding faultOf
-    faulty-below c few (noToken e g) = below-bad g ∙ sym e
-    faulty-below c few (deep e g o) = below-fault 3 g (chosen _ _ _ o) ∙ sym e
-    faulty-below c few (noLine e g o h) = below-fault 4 g (not-chosen _ _ _ o ∙ ap treeFault (no-tree ts .1 h)) ∙ sym e
-    faulty-below zero few (lineFaulty p g o x w e) = absurd (omega arith)
-    faulty-below (suc c) few (lineFaulty p g o x w e) = below-fault c g (fault-is x o w ∙ e)
-    faulty-below c few (numberUsed e x h u) =
-        let k : isKnown (numbersOf rs) (numberIn ts) ≡ true = rw (number-is x (h .written)) (one-known rs few (treeNumber x) u) in
-        below-number (h .tokens) (fault-is x (h .shallow) (h .written) ∙ h .faultless) ∙ chosen _ _ _ k ∙ sym e
+      curve-fault : (j : ℕ) → defines k ts ≡ true → curveFaultOf ts ≡ suc j → faultBelow k (tokensOf (l .body)) ≡ suc j
+      unfolding curveBelow
+      curve-fault j d e = as-curve d ∙ rw (e, curveBelow)
 
-    -- a line without a fault, with a number of its own
-    pub good-below : (x : Line) → length rs ≤ maxLines → GoodLine l x → (OneOf (treeNumber x) (numbers rs) → ⊥) → faultBelow rs (tokensOf (l .body)) ≡ 0
-    good-below x few h u =
-        let k : isKnown (numbersOf rs) (numberIn ts) ≡ false = decide _ (isKnown (numbersOf rs) (numberIn ts))
-        (λ t. absurd (u (known-one rs few (treeNumber x) (line-number x (h .faultless) .0) (rw (number-is x (h .written)) at t)))) (λ t. t) in
-        below-number (h .tokens) (fault-is x (h .shallow) (h .written) ∙ h .faultless) ∙ not-chosen _ _ _ k
+      curve-new : defines k ts ≡ true → curveFaultOf ts ≡ 0 → faultBelow k (tokensOf (l .body)) ≡ elim (isCurveOf (k .curves) (curveNumberIn ts)) as (λ _. ℕ) [ true ↦ wrongCurve | false ↦ 0 ]
+      unfolding curveBelow
+      curve-new d e = as-curve d ∙ rw (e, curveBelow)
 
-    -- and a fault is what its tree says
-    pub below-faulty : (c : ℕ) → length rs ≤ maxLines → faultBelow rs (tokensOf (l .body)) ≡ suc c → Faulty (numbers rs) l (suc c)
-    below-faulty c few e =
-        decide _ (tokensOf (l .body) .good)
-        (λ g. decide _ (opensTooMany ts 0)
-        (λ o. deep (sym e ∙ faulty-below tooDeep few (deep refl g o)) g o)
-        (λ o. by-tree g o (treeOf ts) refl))
-        (λ g. noToken (sym e ∙ below-bad g) g)
-      where
-        used : (x : Line) → GoodLine l x → faultBelow rs (tokensOf (l .body)) ≡ suc c → Faulty (numbers rs) l (suc c)
-        used x h e =
-            let z = below-number (h .tokens) (fault-is x (h .shallow) (h .written) ∙ h .faultless) in
-            choice _ (isKnown (numbersOf rs) (numberIn ts)) usedAbove 0 (suc c) (sym z ∙ e)
-            (λ t f. numberUsed (sym f) x h (known-one rs few (treeNumber x) (line-number x (h .faultless) .0) (rw (number-is x (h .written)) at t)))
-            (λ _ f. absurd (omega arith))
+      line-fault : (j : ℕ) → defines k ts ≡ false → faultOf ts ≡ suc j → faultBelow k (tokensOf (l .body)) ≡ suc j
+      unfolding lineBelow
+      line-fault j d e = as-line d ∙ rw (e, lineBelow)
 
-        by-fault : MakesTokens l → Shallow l → (x : Line) → IsLine l x → (f : ℕ) → lineFault x ≡ f → Faulty (numbers rs) l (suc c)
-        by-fault g o x w zero z = used x (record { tokens = g; shallow = o; written = w; faultless = z }) e
-        by-fault g o x w (suc f) z = lineFaulty (omega arith) g o x w (z ∙ sym (below-fault f g (fault-is x o w ∙ z)) ∙ e)
+      line-new : defines k ts ≡ false → faultOf ts ≡ 0 →
+          faultBelow k (tokensOf (l .body))
+          ≡ elim (isKnown (numbersOf (k .rows)) (numberIn ts)) as (λ _. ℕ) [ true ↦ usedAbove | false ↦ elim (areKnown (curveTable (k .curves)) ts) as (λ _. ℕ) [ true ↦ 0 | false ↦ wrongCurve ] ]
+      unfolding lineBelow
+      line-new d e = as-line d ∙ rw (e, lineBelow)
 
-        by-tree : MakesTokens l → Shallow l → (t : Option Line) → treeOf ts ≡ t → Faulty (numbers rs) l (suc c)
-        by-tree g o none f = noLine (sym e ∙ faulty-below notInGrammar few (noLine refl g o (no-tree ts .0 f))) g o (no-tree ts .0 f)
-        by-tree g o (some x) f = by-fault g o x (tree-of-tokens ts x .0 f) (lineFault x) refl
+    -- 4 comes first, whichever it is
+    below-deep : MakesTokens l → opensTooMany ts 0 ≡ true → faultBelow k (tokensOf (l .body)) ≡ tooDeep
+    unfolding faultOf curveFaultOf
+    below-deep g o = decide _ (defines k ts) (λ d. curve-fault g 3 d (chosen _ _ _ o)) (λ d. line-fault g 3 d (chosen _ _ _ o))
 
-    pub below-good : length rs ≤ maxLines → faultBelow rs (tokensOf (l .body)) ≡ 0 → (x : Line) × GoodLine l x × (OneOf (treeNumber x) (numbers rs) → ⊥)
-    below-good few e =
-        let (g, f, u) = no-fault rs (tokensOf (l .body)) e in
-        let w = faultless ts f in
-        let x = w .tree in
-        let h : GoodLine l x = record { tokens = g; shallow = w .shallow; written = tree-of-tokens ts x .0 (w .found); faultless = w .clean } in
-        (x, h, λ o. contrary (one-known rs few (treeNumber x) o) (rw (number-is x (h .written)) at u))
+    line-goes : (x : Line) → IsLine l x → defines k ts ≡ false
+    line-goes x w = decide _ (defines k ts) (λ t. contrary (both (eqb (length (k .rows)) 0) (beginsCurve l) t .1) (line-begins x w)) (λ t. t)
 
--- ---- lines one after the other
+    module _ (a : Above) (few : length (k .rows) ≤ maxLines) (s : StandsFor k a) where
+      abbrev fault : ℕ
+      fault = faultBelow k (tokensOf (l .body))
 
-pub number-row : (l : Numbered) (x : Line) → GoodLine l x → rowOf l .number ≡ treeNumber x
-number-row l x h = number-is l x (h .written)
+      -- a line may define a curve exactly if no row is kept
+      no-rows : MayDefine a → eqb (length (k .rows)) 0 ≡ true
+      no-rows m = let n = ap length (s .rows ∙ m) in let e = length-map (k .rows) (λ (r : Row). r .number) in eq-eqb (length (k .rows)) 0 (omega arith)
 
--- the numbers of some lines and of one more
-numbers-more : (rs : List Row) (l : Numbered) (x : Line) → GoodLine l x → numbers (rs ++ (rowOf l ∷ [])) ≡ numbers rs ++ (treeNumber x ∷ [])
-numbers-more rs l x h = numbers-last rs (rowOf l) ∙ ap (λ (n : ℕ). numbers rs ++ (n ∷ [])) (number-row l x h)
+      may-define : defines k ts ≡ true → MayDefine a
+      may-define d = by-rows (k .rows) (s .rows) (eqb-true (length (k .rows)) 0 (both (eqb (length (k .rows)) 0) (beginsCurve l) d .0))
+        where
+          by-rows : (rs : List Row) → numbers rs ≡ a .numbers → length rs ≡ 0 → a .numbers ≡ []
+          by-rows [] e n = sym e
+          by-rows (r ∷ rs) e n = absurd (omega arith)
 
--- the first faulty line
-pub refused-rows : (ls : List Numbered) (rs : List Row) (c k : ℕ) → length rs + length ls ≤ maxLines → rowsFrom rs ls ≡ refused c k → FirstFaulty (numbers rs) ls c k
-unfolding rowsFrom
-refused-rows [] rs c k few h = clash (cc)
-refused-rows (l ∷ ls) rs c k few h =
-    next-row _ rs l ls (refused c k) h
-    (λ f g.
-    let (x, y, u) = below-good l rs (omega arith) f in
-    let m = length-append rs (rowOf l ∷ []) in
-    inr (x, y, u, subst (λ (ns : List ℕ). FirstFaulty ns ls c k) (numbers-more rs l x y) (refused-rows ls (rs ++ (rowOf l ∷ [])) c k (omega arith) g)))
-    (λ i f g.
-    let e : suc i ≡ c = cc in
-    inl (subst (λ (n : ℕ). Faulty (numbers rs) l n) e (below-faulty l rs i (omega arith) f), cc))
+      curve-goes : MayDefine a → (d : Definition) → IsDefinition l d → defines k ts ≡ true
+      curve-goes m d w = and-true (no-rows m) (curve-begins d w)
 
--- a fault is one of 3 to 11
-line-range : (ns : List ℕ) (l : Numbered) (c : ℕ) → Faulty ns l c → (3 ≤ c) × (c ≤ 11)
-line-range ns l c (noToken e g) = omega arith
-line-range ns l c (deep e g o) = omega arith
-line-range ns l c (noLine e g o h) = omega arith
-line-range ns l c (lineFaulty p g o x w e) = by-proper (line-proper x)
-  where
-    by-proper : Proper (lineFault x) → (3 ≤ c) × (c ≤ 11)
-    by-proper (inl z) = absurd (omega arith)
-    by-proper (inr z) = omega (arith, z)
-line-range ns l c (numberUsed e x h u) = omega arith
+      -- ---- its number, and the curves that it names
 
-pub faulty-range : (ns : List ℕ) (ls : List Numbered) (c k : ℕ) → FirstFaulty ns ls c k → (3 ≤ c) × (c ≤ 11)
-faulty-range ns [] c k h = absurd h
-faulty-range ns (l ∷ ls) c k (inl (f, e)) = line-range ns l c f
-faulty-range ns (l ∷ ls) c k (inr (x, y, u, h)) = faulty-range (ns ++ (treeNumber x ∷ [])) ls c k h
+      new-number : (x : Line) → GoodLine l x → (OneOf (treeNumber x) (a .numbers) → ⊥) → isKnown (numbersOf (k .rows)) (numberIn ts) ≡ false
+      new-number x h u =
+          decide _ (isKnown (numbersOf (k .rows)) (numberIn ts))
+          (λ t. absurd (u (subst (OneOf (treeNumber x)) (s .rows) (known-one (k .rows) few (treeNumber x) (line-number x (h .faultless) .0) (rw (number-is x (h .written)) at t)))))
+          (λ t. t)
 
--- the next line, without a fault, and with one
-next-good : (rs : List Row) (l : Numbered) (ls : List Numbered) → faultBelow rs (tokensOf (l .body)) ≡ 0 → rowsFrom rs (l ∷ ls) ≡ rowsFrom (rs ++ (rowOf l ∷ [])) ls
-unfolding rowsFrom
-next-good rs l ls e = rw (e, rowsFrom)
+      used-number : (x : Line) → GoodLine l x → OneOf (treeNumber x) (a .numbers) → isKnown (numbersOf (k .rows)) (numberIn ts) ≡ true
+      used-number x h u = rw (number-is x (h .written)) (one-known (k .rows) few (treeNumber x) (subst (OneOf (treeNumber x)) (sym (s .rows)) u))
 
-next-bad : (rs : List Row) (l : Numbered) (ls : List Numbered) (c : ℕ) → 1 ≤ c → faultBelow rs (tokensOf (l .body)) ≡ c → rowsFrom rs (l ∷ ls) ≡ refused c (l .place)
-unfolding rowsFrom
-next-bad rs l ls zero p e = absurd (omega arith)
-next-bad rs l ls (suc c) p e = rw (e, rowsFrom)
+      module _ (x : Line) (h : GoodLine l x) where
+        abbrev curveKnown : ℕ → Bool
+        curveKnown n = isCurveOf (k .curves) n
 
-pub rows-refused : (ls : List Numbered) (rs : List Row) (c k : ℕ) → length rs + length ls ≤ maxLines → FirstFaulty (numbers rs) ls c k → rowsFrom rs ls ≡ refused c k
-rows-refused (l ∷ ls) rs c k few (inl (f, e)) = next-bad rs l ls c (let r = line-range (numbers rs) l c f in omega arith) (faulty-below l rs c (omega arith) f) ∙ ap (refused c) e
-rows-refused (l ∷ ls) rs c k few (inr (x, y, u, h)) =
-    let m = length-append rs (rowOf l ∷ []) in
-    next-good rs l ls (good-below l rs x (omega arith) y u)
-    ∙ rows-refused ls (rs ++ (rowOf l ∷ [])) c k (omega arith) (subst (λ (ns : List ℕ). FirstFaulty ns ls c k) (sym (numbers-more rs l x y)) h)
+        known-is : areKnown (curveTable (k .curves)) ts ≡ eachKnown (curveTable (k .curves)) (namesIn x)
+        known-is = rw (tree-of-tokens ts x .1 (h .written))
 
--- no faulty line
-pub taken-trees : (ls : List Numbered) (rs qs : List Row) → length rs + length ls ≤ maxLines → Distinct (numbers rs) → rowsFrom rs ls ≡ taken qs →
-    (xs : List Line) × GoodLines ls xs × (numbers qs ≡ numbers rs ++ map treeNumber xs) × Distinct (numbers qs)
-unfolding rowsFrom
-taken-trees [] rs qs few d h = let e : rs ≡ qs = cc in ([], tt, rw (← e) (sym (append-nil (numbers rs))), rw (← e) d)
-taken-trees (l ∷ ls) rs qs few d h =
-    next-row _ rs l ls (taken qs) h
-    (λ f g.
-    let (x, y, u) = below-good l rs (omega arith) f in
-    let m = length-append rs (rowOf l ∷ []) in
-    let e = numbers-more rs l x y in
-    let (xs, a, b, c) = taken-trees ls (rs ++ (rowOf l ∷ [])) qs (omega arith) (rw e (distinct-last (numbers rs) (treeNumber x) d u)) g in
-    (x ∷ xs, (y, a), b ∙ ap (λ (ns : List ℕ). ns ++ map treeNumber xs) e ∙ append-assoc (numbers rs) (treeNumber x ∷ []) (map treeNumber xs), c))
-    (λ k f g. clash (cc))
+        uses-known : UsesOnly (a .curves) x → areKnown (curveTable (k .curves)) ts ≡ true
+        uses-known u = known-is ∙ all-known (λ n. true) curveKnown (namesIn x) (line-names x (h .faultless)) (λ n o. refl) (λ n o. s .defined n (u n o))
 
-pub trees-taken : (ls : List Numbered) (rs : List Row) (xs : List Line) → length rs + length ls ≤ maxLines → GoodLines ls xs → Distinct (numbers rs ++ map treeNumber xs) →
-    (rowsFrom rs ls ≡ taken (rs ++ map rowOf ls)) × (numbers (rs ++ map rowOf ls) ≡ numbers rs ++ map treeNumber xs)
-unfolding rowsFrom
-trees-taken [] rs [] few g d = (ap taken (sym (append-nil rs)), ap numbers (append-nil rs) ∙ sym (append-nil (numbers rs)))
-trees-taken [] rs (x ∷ xs) few g d = absurd g
-trees-taken (l ∷ ls) rs [] few g d = absurd g
-trees-taken (l ∷ ls) rs (x ∷ xs) few g d =
-    let m = length-append rs (rowOf l ∷ []) in
-    let e = numbers-more rs l x (g .0) in
-    let s = append-assoc (numbers rs) (treeNumber x ∷ []) (map treeNumber xs) in
-    let q = append-assoc rs (rowOf l ∷ []) (map rowOf ls) in
-    let f = good-below l rs x (omega arith) (g .0) (distinct-behind (numbers rs) (map treeNumber xs) (treeNumber x) d) in
-    let (a, b) = trees-taken ls (rs ++ (rowOf l ∷ [])) xs (omega arith) (g .1) (rw e (rw s d)) in
-    (next-good rs l ls f ∙ a ∙ ap taken q, ap numbers (sym q) ∙ b ∙ ap (λ (ns : List ℕ). ns ++ map treeNumber xs) e ∙ s)
+        known-uses : areKnown (curveTable (k .curves)) ts ≡ true → UsesOnly (a .curves) x
+        known-uses t n o = s .there n (each-curve (λ n. true) curveKnown (namesIn x) (sym known-is ∙ t) n o)
 
--- ---- names
+        unknown-uses : areKnown (curveTable (k .curves)) ts ≡ false → (n : ℕ) × OneOf n (curvesNamed x) × (OneOf n (a .curves) → ⊥)
+        unknown-uses t = by-fails (one-fails (λ n. true) curveKnown (namesIn x) (line-names x (h .faultless)) (sym known-is ∙ t))
+          where
+            by-fails : Fails (λ n. true) curveKnown (namesIn x) → (n : ℕ) × OneOf n (curvesNamed x) × (OneOf n (a .curves) → ⊥)
+            by-fails (inl (n, o, e)) = clash (cc)
+            by-fails (inr (n, o, e)) = (n, o, λ z. contrary (s .defined n z) e)
 
-abbrev named : List Name → List ℕ
-named ms = map (λ (m : Name). m .number) ms
+        uses-unknown : (n : ℕ) → OneOf n (curvesNamed x) → (OneOf n (a .curves) → ⊥) → areKnown (curveTable (k .curves)) ts ≡ false
+        uses-unknown n o u = decide _ (areKnown (curveTable (k .curves)) ts) (λ t. absurd (u (known-uses t n o))) (λ t. t)
 
-pub each-one : (ns : List ℕ) (l : List Name) → eachKnown (lockTable ns) l ≡ true → (n : ℕ) → OneOf n (named l) → isKnown ns n ≡ true
-unfolding eachKnown
-each-one ns (m ∷ l) h n (inl e) = rw (← e) (both (isKnown ns (m .number)) (eachKnown (lockTable ns) l) h .0)
-each-one ns (m ∷ l) h n (inr o) = each-one ns l (both (isKnown ns (m .number)) (eachKnown (lockTable ns) l) h .1) n o
+        good-fault : faultOf ts ≡ 0
+        good-fault = fault-is x (h .shallow) (h .written) ∙ h .faultless
 
-one-each : (ns : List ℕ) (l : List Name) → ((n : ℕ) → OneOf n (named l) → isKnown ns n ≡ true) → eachKnown (lockTable ns) l ≡ true
-unfolding eachKnown
-one-each ns [] h = refl
-one-each ns (m ∷ l) h = and-true (h (m .number) (inl refl)) (one-each ns l (λ n o. h n (inr o)))
+        good-new : fault ≡ elim (isKnown (numbersOf (k .rows)) (numberIn ts)) as (λ _. ℕ) [ true ↦ usedAbove | false ↦ elim (areKnown (curveTable (k .curves)) ts) as (λ _. ℕ) [ true ↦ 0 | false ↦ wrongCurve ] ]
+        good-new = line-new (h .tokens) (line-goes x (h .written)) good-fault
 
--- one that fails
-one-not : (ns : List ℕ) (l : List Name) → eachKnown (lockTable ns) l ≡ false → (n : ℕ) × OneOf n (named l) × (isKnown ns n ≡ false)
-unfolding eachKnown
-one-not ns [] h = clash (cc)
-one-not ns (m ∷ l) h =
-    decide _ (isKnown ns (m .number))
-    (λ t. let (n, o, e) = one-not ns l (rw t at h) in (n, inr o, e))
-    (λ t. (m .number, inl refl, t))
+      module _ (d : Definition) (h : GoodCurve l d) where
+        good-curve-fault : curveFaultOf ts ≡ 0
+        good-curve-fault = curve-fault-is d (h .shallow) (h .written) ∙ h .faultless
 
--- what a line without a fault names is from 1 on
-action-positive : (kw : ℕ) (a : Action) (n : ℕ) → actionFault kw a ≡ 0 → OneOf n (named (actionNames a)) → 1 ≤ n
-unfolding actionFault callFault idFault
-action-positive kw (assign w v i a) n f h = absurd h
-action-positive kw (assignPosition x v a) n f h = absurd h
-action-positive kw (drive w v x u a) n f h = absurd h
-action-positive kw (code m) n f h = absurd h
-action-positive kw (call w v m) n f h = by-word (between LOCK UNLOCK w) refl h
-  where
-    by-word : (b : Bool) → between LOCK UNLOCK w ≡ b → OneOf n (named (elim b as (λ _. List Name) [ true ↦ record { word = w; number = m } ∷ [] | false ↦ [] ])) → 1 ≤ n
-    by-word false t o = absurd o
-    by-word true t (inr o) = absurd o
-    by-word true t (inl e) =
-        let low = leb-true LOCK w (both (leb LOCK w) (leb w UNLOCK) t .0) in
-        decide _ (eqb w SETAL) (λ s. let z = eqb-true w SETAL s in absurd (omega arith))
-        (λ s. let y = rw s at f in rw (← e) (leb-true 1 m (both (leb 1 m) (leb m 255) (unless-zero (between 1 255 m) outside y (omega arith)) .0)))
+        curve-used : OneOf (curveNumber d) (a .curves) → isCurveOf (k .curves) (curveNumberIn ts) ≡ true
+        curve-used u = rw (curve-number-is d (h .written)) (s .defined (curveNumber d) u)
 
-one-split : (n : ℕ) (ns ms : List ℕ) → OneOf n (ns ++ ms) → OneOf n ns ⊎ OneOf n ms
-one-split n [] ms h = inr h
-one-split n (m ∷ ns) ms (inl e) = inl (inl e)
-one-split n (m ∷ ns) ms (inr h) = by-rest (one-split n ns ms h)
-  where
-    by-rest : OneOf n ns ⊎ OneOf n ms → OneOf n (m ∷ ns) ⊎ OneOf n ms
-    by-rest (inl g) = inl (inr g)
-    by-rest (inr g) = inr g
+        curve-unused : (OneOf (curveNumber d) (a .curves) → ⊥) → isCurveOf (k .curves) (curveNumberIn ts) ≡ false
+        curve-unused u =
+            decide _ (isCurveOf (k .curves) (curveNumberIn ts))
+            (λ t. absurd (u (s .there (curveNumber d) (subst (λ (n : ℕ). isCurveOf (k .curves) n ≡ true) (curve-number-is d (h .written)) t))))
+            (λ t. t)
 
-actions-positive : (kw : ℕ) (r : List Action) (a : Action) (n : ℕ) → actionsFault kw a r ≡ 0 → OneOf n (named (actionsNames a r)) → 1 ≤ n
-unfolding actionsFault actionsNames
-actions-positive kw [] a n f h = action-positive kw a n f h
-actions-positive kw (b ∷ r) a n f h =
-    let (x, y) = lower-zero (actionFault kw a) (actionsFault kw b r) f in
-    ⊎-elim (action-positive kw a n x) (actions-positive kw r b n y) (one-split n (named (actionNames a)) (named (actionsNames b r)) (rw (map-append (λ (m : Name). m .number) (actionNames a) (actionsNames b r)) at h))
+      -- ---- its fault
 
-pub line-positive : (x : Line) (n : ℕ) → lineFault x ≡ 0 → OneOf n (numbersNamed x) → 1 ≤ n
-unfolding lineFault namesIn
-line-positive (line w v m c a r) n f h = actions-positive (keywordOf c) r a n (lower-zero _ _ (lower-zero _ _ f .1) .0) h
+      no-line-below : MakesTokens l → Shallow l → ((x : Line) → IsLine l x → ⊥) → (MayDefine a → (d : Definition) → IsDefinition l d → ⊥) → fault ≡ notInGrammar
+      unfolding faultOf curveFaultOf
+      no-line-below g o h i =
+          decide _ (defines k ts)
+          (λ d. curve-fault g 4 d (not-chosen _ _ _ o ∙ ap definedFault (no-definition ts .1 (i (may-define d)))))
+          (λ d. line-fault g 4 d (not-chosen _ _ _ o ∙ ap treeFault (no-tree ts .1 h)))
 
--- the test of the definition and the names of the tree
-module _ (rs : List Row) (few : length rs ≤ maxLines) (l : Numbered) (x : Line) (h : GoodLine l x) where
-  named-is : isNamed (lockTable (numbersOf rs)) (rowOf l) ≡ eachKnown (lockTable (numbersOf rs)) (namesIn x)
-  named-is = rw (tree-of-tokens (tokensOf (l .body) .list) x .1 (h .written))
+      -- what its tree says is its fault
+      pub faulty-below : (c : ℕ) → Faulty a l c → fault ≡ c
+      faulty-below c (noToken e g) = below-bad g ∙ sym e
+      faulty-below c (deep e g o) = below-deep g o ∙ sym e
+      faulty-below c (noLine e g o h i) = no-line-below g o h i ∙ sym e
+      faulty-below zero (lineFaulty p g o x w e) = absurd (omega arith)
+      faulty-below (suc c) (lineFaulty p g o x w e) = line-fault g c (line-goes x w) (fault-is x o w ∙ e)
+      faulty-below c (numberUsed e x h u) = good-new x h ∙ chosen _ _ _ (used-number x h u) ∙ sym e
+      faulty-below zero (curveFaulty p m g o d w e) = absurd (omega arith)
+      faulty-below (suc c) (curveFaulty p m g o d w e) = curve-fault g c (curve-goes m d w) (curve-fault-is d o w ∙ e)
+      faulty-below c (curveUsed e m d h u) = curve-new (h .tokens) (curve-goes m d (h .written)) (good-curve-fault d h) ∙ chosen _ _ _ (curve-used d h u) ∙ sym e
+      faulty-below c (curveUnknown e x h u n o i) = good-new x h ∙ not-chosen _ _ _ (new-number x h u) ∙ not-chosen _ _ _ (uses-unknown x h n o i) ∙ sym e
 
-  named-only : isNamed (lockTable (numbersOf rs)) (rowOf l) ≡ true → NamesOnly (numbers rs) x
-  named-only t n o = known-one rs few n (line-positive x n (h .faultless) o) (each-one (numbersOf rs) (namesIn x) (sym named-is ∙ t) n o)
+      -- a line without a fault, with a number of its own
+      pub line-below : (x : Line) → GoodLine l x → IsNewLine a x → (fault ≡ 0) × (keptWith k l ≡ withRow k (rowOf l))
+      unfolding keptWith
+      line-below x h (u, i) = (good-new x h ∙ not-chosen _ _ _ (new-number x h u) ∙ chosen _ _ _ (uses-known x h i), not-chosen _ _ _ (line-goes x (h .written)))
 
-  only-named : NamesOnly (numbers rs) x → isNamed (lockTable (numbersOf rs)) (rowOf l) ≡ true
-  only-named g = named-is ∙ one-each (numbersOf rs) (namesIn x) (λ n o. one-known rs few n (g n o))
+      pub curve-below : (d : Definition) → GoodCurve l d → IsNewCurve a d → (fault ≡ 0) × (keptWith k l ≡ withCurve k ts)
+      unfolding keptWith
+      curve-below d h (m, u) =
+          let g = curve-goes m d (h .written) in
+          (curve-new (h .tokens) g (good-curve-fault d h) ∙ not-chosen _ _ _ (curve-unused d h u), chosen _ _ _ g)
 
-  not-named : isNamed (lockTable (numbersOf rs)) (rowOf l) ≡ false → (n : ℕ) × OneOf n (numbersNamed x) × (OneOf n (numbers rs) → ⊥)
-  not-named t =
-      let (n, o, e) = one-not (numbersOf rs) (namesIn x) (sym named-is ∙ t) in
-      (n, o, λ z. contrary (one-known rs few n z) e)
+      -- and a fault is what its tree says
+      pub below-faulty : (c : ℕ) → fault ≡ suc c → Faulty a l (suc c)
+      below-faulty c e =
+          decide _ (tokensOf (l .body) .good)
+          (λ g. decide _ (opensTooMany ts 0)
+          (λ o. deep (sym e ∙ below-deep g o) g o)
+          (λ o. decide _ (defines k ts) (λ t. by-definition g o t (definitionOf ts) refl) (λ t. by-tree g o t (treeOf ts) refl)))
+          (λ g. noToken (sym e ∙ below-bad g) g)
+        where
+          nothing-written : MakesTokens l → Shallow l → ((x : Line) → IsLine l x → ⊥) → (MayDefine a → (d : Definition) → IsDefinition l d → ⊥) → Faulty a l (suc c)
+          nothing-written g o h i = noLine (sym e ∙ no-line-below g o h i) g o h i
 
--- of the lines ls, which are the lines xs
-module _ (rs : List Row) (few : length rs ≤ maxLines) where
-  pub all-named : (ls : List Numbered) (xs : List Line) → Placed ls → GoodLines ls xs → firstUnknown (lockTable (numbersOf rs)) (map rowOf ls) ≡ 0 → AllNameOnly (numbers rs) xs
-  unfolding firstNot
-  all-named [] [] p g h = tt
-  all-named [] (x ∷ xs) p g h = absurd g
-  all-named (l ∷ ls) [] p g h = absurd g
-  all-named (l ∷ ls) (x ∷ xs) p g h =
-      choice _ (isNamed (lockTable (numbersOf rs)) (rowOf l)) (firstUnknown (lockTable (numbersOf rs)) (map rowOf ls)) (l .place) 0 h
-      (λ t e. (named-only rs few l x (g .0) t, all-named ls xs (p .1) (g .1) e))
-      (λ _ e. let q = p .0 in absurd (omega arith))
+          by-curve : MayDefine a → defines k ts ≡ true → MakesTokens l → Shallow l → (d : Definition) → IsDefinition l d → (f : ℕ) → definitionFault d ≡ f → Faulty a l (suc c)
+          by-curve m t g o d w (suc f) z = curveFaulty (omega arith) m g o d w (z ∙ sym (curve-fault g f t (curve-fault-is d o w ∙ z)) ∙ e)
+          by-curve m t g o d w zero z =
+              let h : GoodCurve l d = record { tokens = g; shallow = o; written = w; faultless = z } in
+              choice _ (isCurveOf (k .curves) (curveNumberIn ts)) wrongCurve 0 (suc c) (sym (curve-new g t (good-curve-fault d h)) ∙ e)
+              (λ u f. curveUsed (sym f) m d h (s .there (curveNumber d) (subst (λ (n : ℕ). isCurveOf (k .curves) n ≡ true) (curve-number-is d w) u)))
+              (λ _ f. absurd (omega arith))
 
-  pub named-all : (ls : List Numbered) (xs : List Line) → GoodLines ls xs → AllNameOnly (numbers rs) xs → firstUnknown (lockTable (numbersOf rs)) (map rowOf ls) ≡ 0
-  unfolding firstNot
-  named-all [] [] g h = refl
-  named-all [] (x ∷ xs) g h = absurd g
-  named-all (l ∷ ls) [] g h = absurd g
-  named-all (l ∷ ls) (x ∷ xs) g h = chosen _ _ _ (only-named rs few l x (g .0) (h .0)) ∙ named-all ls xs (g .1) (h .1)
+          by-definition : MakesTokens l → Shallow l → defines k ts ≡ true → (o : Option Definition) → definitionOf ts ≡ o → Faulty a l (suc c)
+          by-definition g o t none f = nothing-written g o (λ x w. contrary t (line-goes x w)) (λ m. no-definition ts .0 f)
+          by-definition g o t (some d) f = by-curve (may-define t) t g o d (definition-of-tokens ts d .0 f) (definitionFault d) refl
 
-  pub first-unnamed : (ls : List Numbered) (xs : List Line) (k : ℕ) → GoodLines ls xs → firstUnknown (lockTable (numbersOf rs)) (map rowOf ls) ≡ suc k → FirstUnnamed (numbers rs) ls xs (suc k)
-  unfolding firstNot
-  first-unnamed [] [] k g h = absurd (omega arith)
-  first-unnamed [] (x ∷ xs) k g h = absurd g
-  first-unnamed (l ∷ ls) [] k g h = absurd g
-  first-unnamed (l ∷ ls) (x ∷ xs) k g h =
-      choice _ (isNamed (lockTable (numbersOf rs)) (rowOf l)) (firstUnknown (lockTable (numbersOf rs)) (map rowOf ls)) (l .place) (suc k) h
-      (λ t e. inr (named-only rs few l x (g .0) t, first-unnamed ls xs k (g .1) e))
-      (λ t e. inl (not-named rs few l x (g .0) t, e))
+          by-line : MakesTokens l → Shallow l → (x : Line) → IsLine l x → (f : ℕ) → lineFault x ≡ f → Faulty a l (suc c)
+          by-line g o x w (suc f) z = lineFaulty (omega arith) g o x w (z ∙ sym (line-fault g f (line-goes x w) (fault-is x o w ∙ z)) ∙ e)
+          by-line g o x w zero z =
+              let h : GoodLine l x = record { tokens = g; shallow = o; written = w; faultless = z } in
+              choice _ (isKnown (numbersOf (k .rows)) (numberIn ts)) usedAbove _ (suc c) (sym (good-new x h) ∙ e)
+              (λ t f. numberUsed (sym f) x h (subst (OneOf (treeNumber x)) (s .rows) (known-one (k .rows) few (treeNumber x) (line-number x z .0) (rw (number-is x w) at t))))
+              (λ t f. choice _ (areKnown (curveTable (k .curves)) ts) 0 wrongCurve (suc c) f
+              (λ _ i. absurd (omega arith))
+              (λ u i.
+              let (n, p, q) = unknown-uses x h u in
+              curveUnknown (sym i) x h (λ v. contrary (used-number x h v) t) n p q))
 
-  pub unnamed-first : (ls : List Numbered) (xs : List Line) (k : ℕ) → GoodLines ls xs → FirstUnnamed (numbers rs) ls xs k → firstUnknown (lockTable (numbersOf rs)) (map rowOf ls) ≡ k
-  unfolding firstNot
-  unnamed-first [] xs k g h = absurd h
-  unnamed-first (l ∷ ls) [] k g h = absurd h
-  unnamed-first (l ∷ ls) (x ∷ xs) k g (inl (u, e)) = not-chosen _ _ _ (decide _ (isNamed (lockTable (numbersOf rs)) (rowOf l)) (λ t. absurd (u .2 (named-only rs few l x (g .0) t (u .0) (u .1)))) (λ t. t)) ∙ e
-  unnamed-first (l ∷ ls) (x ∷ xs) k g (inr (a, h)) = chosen _ _ _ (only-named rs few l x (g .0) a) ∙ unnamed-first ls xs k (g .1) h
+          by-tree : MakesTokens l → Shallow l → defines k ts ≡ false → (o : Option Line) → treeOf ts ≡ o → Faulty a l (suc c)
+          by-tree g o t none f = nothing-written g o (no-tree ts .0 f) (λ m d w. contrary (curve-goes m d w) t)
+          by-tree g o t (some x) f = by-line g o x (tree-of-tokens ts x .0 f) (lineFault x) refl
 
--- such a line stands at a place from 1 on
-pub unnamed-place : (ns : List ℕ) (ls : List Numbered) (xs : List Line) (k : ℕ) → Placed ls → FirstUnnamed ns ls xs k → 1 ≤ k
-unnamed-place ns [] xs k p h = absurd h
-unnamed-place ns (l ∷ ls) [] k p h = absurd h
-unnamed-place ns (l ∷ ls) (x ∷ xs) k p (inl (u, e)) = let q = p .0 in omega arith
-unnamed-place ns (l ∷ ls) (x ∷ xs) k p (inr (a, h)) = unnamed-place ns ls xs k (p .1) h
+      -- ---- what is kept with it
+
+      pub more-line : (x : Line) → GoodLine l x → StandsFor (withRow k (rowOf l)) (belowLine a x)
+      more-line x h = record {
+        rows = numbers-last (k .rows) (rowOf l) ∙ ap (λ (n : ℕ). numbers (k .rows) ++ (n ∷ [])) (number-is x (h .written)) ∙ ap (λ (ns : List ℕ). ns ++ (treeNumber x ∷ [])) (s .rows);
+        room = s .room;
+        there = s .there;
+        defined = s .defined;
+      }
+
+      pub more-curve : (d : Definition) → GoodCurve l d → StandsFor (withCurve k ts) (belowCurve a d)
+      more-curve d h = record {
+        rows = s .rows;
+        room = length-set (k .curves) _ ts ∙ s .room;
+        there = λ n. by-number n (ℕ-discrete n (curveNumberIn ts));
+        defined = λ n o. among n (one-split n (a .curves) (curveNumber d ∷ []) o);
+      }
+        where
+          m : ℕ
+          m = curveNumberIn ts
+
+          same : m ≡ curveNumber d
+          same = curve-number-is d (h .written)
+
+          bounds : (1 ≤ m) × (m ≤ length (k .curves))
+          bounds = let (p, q) = definition-number d (h .faultless) in let e = same in let r = s .room in (omega arith, omega arith)
+
+          own : isCurveOf (set (k .curves) (m - 1) ts) m ≡ true
+          own = own-there (k .curves) m ts (bounds .0) (bounds .1) (front-there d ts (h .written))
+
+          other : (n : ℕ) → (n ≡ m → ⊥) → isCurveOf (set (k .curves) (m - 1) ts) n ≡ isCurveOf (k .curves) n
+          other = other-there (k .curves) m ts (bounds .0) (bounds .1) (front-there d ts (h .written))
+
+          by-number : (n : ℕ) → Dec (n ≡ m) → isCurveOf (set (k .curves) (m - 1) ts) n ≡ true → OneOf n (a .curves ++ (curveNumber d ∷ []))
+          by-number n (yes e) t = one-last n (a .curves) (curveNumber d ∷ []) (inl (sym same ∙ sym e))
+          by-number n (no e) t = one-first n (a .curves) (curveNumber d ∷ []) (s .there n (sym (other n e) ∙ t))
+
+          among : (n : ℕ) → OneOf n (a .curves) ⊎ OneOf n (curveNumber d ∷ []) → isCurveOf (set (k .curves) (m - 1) ts) n ≡ true
+          among n (inl o) = by-own n o (ℕ-discrete n m)
+            where
+              by-own : (n : ℕ) → OneOf n (a .curves) → Dec (n ≡ m) → isCurveOf (set (k .curves) (m - 1) ts) n ≡ true
+              by-own n o (yes e) = subst (λ (i : ℕ). isCurveOf (set (k .curves) (m - 1) ts) i ≡ true) (sym e) own
+              by-own n o (no e) = other n e ∙ s .defined n o
+          among n (inr (inl e)) = subst (λ (i : ℕ). isCurveOf (set (k .curves) (m - 1) ts) i ≡ true) (same ∙ e) own
+          among n (inr (inr o)) = absurd o
+
+      -- a line without a fault is a new curve or a new line
+      abbrev Next : Kept → Type 0
+      Next q =
+          ((d : Definition) × GoodCurve l d × IsNewCurve a d × StandsFor q (belowCurve a d) × (length (q .rows) ≡ length (k .rows)))
+          ⊎ ((x : Line) × GoodLine l x × IsNewLine a x × StandsFor q (belowLine a x) × (length (q .rows) ≡ suc (length (k .rows))))
+
+      pub below-good : fault ≡ 0 → Next (keptWith k l)
+      below-good e = by-kind k Next l e as-new-curve as-new-line
+        where
+          as-new-curve : NewCurve k (tokensOf (l .body)) → Next (withCurve k ts)
+          as-new-curve c =
+              let w = faultless-curve ts (c .clean) in
+              let d = w .tree in
+              let h : GoodCurve l d = record { tokens = c .good; shallow = w .shallow; written = definition-of-tokens ts d .0 (w .found); faultless = w .clean } in
+              inl (d, h, (may-define (c .defining), λ o. contrary (curve-used d h o) (c .new)), more-curve d h, refl)
+
+          as-new-line : NewLine k (tokensOf (l .body)) → Next (withRow k (rowOf l))
+          as-new-line c =
+              let w = faultless ts (c .clean) in
+              let x = w .tree in
+              let h : GoodLine l x = record { tokens = c .good; shallow = w .shallow; written = tree-of-tokens ts x .0 (w .found); faultless = w .clean } in
+              let n = length-append (k .rows) (rowOf l ∷ []) in
+              inr (x, h, ((λ o. contrary (used-number x h o) (c .new)), known-uses x h (c .curves)), more-line x h, omega arith)

@@ -1,4 +1,4 @@
--- Laws of lines without marks, as of any change that keeps whole numbers and values: their tokens are those of the text without marks, and no fault of 6 to 10 sees a mark.
+-- Laws of lines and definitions without marks, as of any change that keeps whole numbers and values: their tokens are those of the text without marks, no fault sees a mark, and no curve does.
 -- Nothing is assumed.
 use mathlib.Core.Path.{_≡_, refl, sym, _∙_}
 use mathlib.Core.List.{List, [], _∷_, map}
@@ -7,12 +7,12 @@ use native.Mathlib.Omega.{arith}
 use borrow.Author.Tests.{leb-true}
 use Rattle.values.specs.Choice.{decide, chosen, refused}
 use Rattle.tokens.specs.Token.{NUMBER, isNumber, numberCarried}
-use Rattle.grammar.specs.Tree.{Line, lineTokens}
-use Rattle.grammar.specs.TreeFault.{lineFault}
+use Rattle.grammar.specs.Tree.{Line, lineTokens, Definition, definitionFront}
+use Rattle.grammar.specs.TreeFault.{lineFault, definitionFault}
 use Rattle.grammar.specs.NumbersTo.{tokenTo}
-use Rattle.grammar.specs.NumbersToLaws.{Keeps, to-tokens, to-fault}
+use Rattle.grammar.specs.NumbersToLaws.{Keeps, to-tokens, to-fault, to-definition-tokens, to-definition-fault}
 use Rattle.engine.specs.Set.{withoutMark}
-use Rattle.loading.specs.Unmarked.{unmarked, unmarkedTree}
+use Rattle.loading.specs.Unmarked.{unmarked, unmarkedTree, unmarkedDefinition}
 
 -- a mark is no part of a value, and a whole number has none
 pub unmarked-keeps : Keeps unmarked
@@ -37,3 +37,10 @@ unmarked-tokens l = without-marks (lineTokens l) ∙ to-tokens unmarked unmarked
 -- a line without marks has the same fault
 pub unmarked-fault : (l : Line) → lineFault (unmarkedTree l) ≡ lineFault l
 unmarked-fault l = to-fault unmarked unmarked-keeps l
+
+-- so of a definition
+pub unmarked-front : (d : Definition) → map withoutMark (definitionFront d) ≡ definitionFront (unmarkedDefinition d)
+unmarked-front d = without-marks (definitionFront d) ∙ to-definition-tokens unmarked unmarked-keeps d
+
+pub unmarked-definition-fault : (d : Definition) → definitionFault (unmarkedDefinition d) ≡ definitionFault d
+unmarked-definition-fault d = to-definition-fault unmarked unmarked-keeps d

@@ -2,6 +2,7 @@
 -- Theorems: LineBack that a line is read back, LineShorter that it takes no more bytes than it was read from, SpaceNeeded that a space is printed just where it is needed.
 pub mod TokenText
 pub mod PrintText
+pub mod PrintOrder
 pub mod ReadBack
 pub mod NameRows
 mod TokenTable
@@ -19,4 +20,5 @@ pub mod PartLaws
 pub mod PrintRoomLaws
 pub mod NameRowsLaws
 pub mod PrintLaws
+pub mod PrintOrderLaws
 pub mod PrintAnswerLaws

@@ -45,13 +45,13 @@ abbrev pub signRows : List ℕ
 signRows = bytes "  = ==<>< > <=>=+ - * / ( ) [ ] "
 
 abbrev pub keywordRows : List ℕ
-keywordRows = bytes "ID      IDS     WHEN    WHENEVERFROM    EVERY   DO      TRUE    FALSE   NOT     AND     OR      XOR                             "
+keywordRows = bytes "ID      IDS     WHEN    WHENEVERFROM    EVERY   DO      TRUE    FALSE   NOT     AND     OR      XOR     ,       FCTDEF          "
 
 abbrev pub variableRows : List ℕ
 variableRows = bytes "$A_IN     $A_INA    $A_OUT    $AC_MARKER$AC_PARAM $R        $AC_TIMER $AC_FIFO1 $AC_FIFO2 $AC_FIFO3 $AC_FIFO4 $AA_IM                                            "
 
 abbrev pub actionRows : List ℕ
-actionRows = bytes "POS   FA    MOV   M     SETAL LOCK  UNLOCK            X     Y     Z     U     V     W     "
+actionRows = bytes "POS   FA    MOV   M     SETAL LOCK  UNLOCK      SYNFCTX     Y     Z     U     V     W     "
 
 module _ (t : ℕ) where
   pub sign-row : t < ID → nameText t ≡ rowIn signRows 2 (t * 2)

@@ -1,12 +1,12 @@
 -- Which signs are one with the sign before them, by the sign behind. Assumes nothing.
 use mathlib.Core.Path.{_≡_}
 use mathlib.Core.Bool.{true, false, and-true, and-false}
-use Prim.Native.Nat.{ℕ, _<_}
+use Prim.Native.Nat.{ℕ}
 use native.Mathlib.Omega.{arith}
 use lib.Dec.{eqb, leb}
-use borrow.Author.Tests.{ne-eqb, leb-true, lt-leb}
+use borrow.Author.Tests.{ne-eqb, leb-true}
 use Rattle.values.specs.Choice.{decide, both}
-use Rattle.tokens.specs.Token.{EQUALS, SAME, LESS, MORE, ATLEAST, ID, between}
+use Rattle.tokens.specs.Token.{EQUALS, SAME, LESS, MORE, ATLEAST, between}
 use Rattle.print.specs.TokenText.{goesOn, isFollowing, isOpening, isOneSign, needsSpace}
 use Rattle.print.specs.LineBack.{or-none}
 use Rattle.print.specs.ToldLaws.{one-no-sign}
@@ -39,9 +39,9 @@ module _ (t u : ℕ) where
 -- ---- a space between two tokens, by the first
 
 module _ (t u : ℕ) where
-  pub sign-space : t < ID → needsSpace t u ≡ isOneSign t u
+  pub sign-space : goesOn t ≡ false → needsSpace t u ≡ isOneSign t u
   unfolding needsSpace
-  sign-space h = rw (lt-leb ID t h)
+  sign-space g = rw g
 
   -- a word or a number
   pub word-space : goesOn t ≡ true → needsSpace t u ≡ isFollowing u

@@ -1,8 +1,8 @@
--- Laws of the print, row by row and token by token, and of a print at a buffer's start. Assumes nothing.
+-- Laws of the print of a row, token by token, and of a print at a buffer's start. Assumes nothing.
 use mathlib.Core.Path.{_≡_, refl, sym, ap, _∙_}
 use mathlib.Core.Bool.{false, _||_, and-false}
 use mathlib.Core.List.{List, [], _∷_, _++_, append-nil}
-use Prim.Native.Nat.{ℕ, suc, _+_, _-_, _*_, _≤_, _<_}
+use Prim.Native.Nat.{ℕ, suc, _+_, _*_, _≤_}
 use native.Mathlib.Omega.{arith}
 use native.Mathlib.Numerals.{add-one}
 use lib.Dec.{eqb, leb}
@@ -13,10 +13,8 @@ use Rattle.values.specs.Choice.{decide}
 use Rattle.values.specs.PutAt.{putAt}
 use Rattle.tokens.specs.Token.{END}
 use Rattle.tokens.specs.BetweenLaws.{lies-inside}
-use Rattle.engine.specs.Set.{startOf}
-use Rattle.text.specs.Byte.{LF}
 use Rattle.print.specs.TokenText.{tokenText, goesOn, needsSpace, gap, lineText}
-use Rattle.print.specs.PrintText.{upToEnd, rowAt, lineRows, behindText, rowsText}
+use Rattle.print.specs.PrintText.{upToEnd, rowAt}
 use Rattle.print.specs.LineBack.{gap-none}
 use Rattle.print.specs.PrintRoomLaws.{tokenRoom, line-room}
 
@@ -74,26 +72,6 @@ line-at-room s p =
     let b = row-room (drop p s) in
     let d = length-drop p s in
     omega arith
-
--- ---- the rows
-
-module _ (s : List ℕ) (count : ℕ) where
-  pub rows-none : count ≡ 0 → rowsText (lineRows s count 0) ≡ []
-  unfolding lineRows rowsText
-  rows-none e = rw e
-
-  pub rows-first : 0 < count → rowsText (lineRows s count 0) ≡ lineText (rowAt s (startOf s 0)) ++ behindText (lineRows s (count - 1) 1)
-  unfolding lineRows rowsText
-  rows-first h = let e : count ≡ suc (count - 1) = omega arith in ap (λ (n : ℕ). rowsText (lineRows s n 0)) e
-
-  module _ (k : ℕ) where
-    pub rows-next : k < count → behindText (lineRows s (count - k) k) ≡ ((LF ∷ []) ++ lineText (rowAt s (startOf s k))) ++ behindText (lineRows s (count - (k + 1)) (k + 1))
-    unfolding lineRows behindText
-    rows-next h = let e : count - k ≡ suc (count - (k + 1)) = omega arith in rw e
-
-    pub rows-over : count ≤ k → behindText (lineRows s (count - k) k) ≡ []
-    unfolding lineRows behindText
-    rows-over h = let e : count - k ≡ 0 = omega arith in rw e
 
 -- ---- at a buffer's start
 

@@ -25,7 +25,7 @@ use Rattle.print.specs.NameRows.{longestName}
 abbrev pub lastPlace : ℕ
 lastPlace = 9223372036854775808
 
--- the digits before the point at most, the bytes of a token, with a point and three digits behind them, and those of a line with a space behind each token
+-- the digits before the point at most, the bytes of a token, with a point and three digits behind them, those of a line with a space behind each token, and those of a row with an LF before its line
 abbrev pub unitsRoom : ℕ
 unitsRoom = 10
 
@@ -34,6 +34,9 @@ tokenRoom = unitsRoom + 4
 
 abbrev pub lineRoom : ℕ
 lineRoom = (tokenRoom + 1) * setSize
+
+abbrev pub rowRoom : ℕ
+rowRoom = 1 + lineRoom
 
 -- ---- a token
 

@@ -1,12 +1,12 @@
--- The print of a loaded set (document 02, Req 01): its rows, LF between them and none at the end; and what the call answers and writes. Definitions only.
+-- The print of a loaded set (document 02, Req 01 and Req 03): its rows, curves first, LF between them and none at the end; and what the call answers and writes. Definitions only.
 use mathlib.Core.Bool.{true, false, _||_}
 use mathlib.Core.List.{List, [], _∷_, _++_}
 use Prim.Native.Nat.{ℕ, zero, suc, _+_}
 use lib.Dec.{eqb, ltb}
 use lib.ListN.{length, drop}
 use Rattle.values.specs.Codes.{unsound, shortPrint}
-use Rattle.tokens.specs.Token.{END, textSize}
-use Rattle.engine.specs.Set.{startOf, soundLines}
+use Rattle.tokens.specs.Token.{END, maxCurves, textSize}
+use Rattle.engine.specs.Set.{startOf, curveStart, soundLines}
 use Rattle.text.specs.Byte.{LF}
 use Rattle.print.specs.TokenText.{lineText}
 use Rattle.print.specs.declared.set_print.Printed.{Printed}
@@ -27,9 +27,14 @@ unfoldable pub lineRows : List ℕ → ℕ → ℕ → List (List ℕ)
 lineRows s zero k = []
 lineRows s (suc m) k = rowAt s (startOf s k) ∷ lineRows s m (k + 1)
 
--- the lines by rising number
+-- of m curves from curve n on the lines that define them, where the set has them
+unfoldable pub curveRows : List ℕ → ℕ → ℕ → List (List ℕ)
+curveRows s zero n = []
+curveRows s (suc m) n = elim (ltb 0 (curveStart s n)) [ true ↦ rowAt s (curveStart s n) ∷ curveRows s m (n + 1) | false ↦ curveRows s m (n + 1) ]
+
+-- the curves by rising number, then the lines by rising number
 unfoldable pub rowsOf : List ℕ → List (List ℕ)
-rowsOf s = lineRows s (soundLines s .count) 0
+rowsOf s = curveRows s maxCurves 1 ++ lineRows s (soundLines s .count) 0
 
 -- ---- the print
 

@@ -10,7 +10,7 @@ use lib.Seq.{take-append-seam, drop-append-seam}
 use borrow.Author.Tests.{eqb-true, eqb-false, eq-eqb, ne-eqb, le-leb, lt-leb, leb-true, leb-false, not-true}
 use Rattle.values.specs.Choice.{decide, both, chosen, refused, contrary}
 use Rattle.values.specs.Value.{unit, top}
-use Rattle.tokens.specs.Token.{NUMBER, ID, isNumber, numberCarried, thousandths}
+use Rattle.tokens.specs.Token.{NUMBER, ID, COMMA, isNumber, numberCarried, thousandths}
 use Rattle.text.specs.Byte.{POINT, DOLLAR, isDigit, isLetter, isSpace, startsWord, isWordByte, run}
 use Rattle.text.specs.Word.{pairs, singles, names, tokenIn, wordToken}
 use Rattle.text.specs.WordLaws.{rows, isNamed, name-passes}
@@ -160,7 +160,11 @@ real t p e = contrary (rw e at (p .named (rw e))) refl
 
 -- a number goes on
 pub number-goes : (t : ℕ) → isNumber t ≡ true → goesOn t ≡ true
-number-goes t h = let l = leb-true NUMBER t h in le-leb ID t (omega arith)
+number-goes t h = let l = leb-true NUMBER t h in rw (le-leb ID t (omega arith), ne-eqb t COMMA (λ e. omega arith))
+
+-- what goes on stands behind the signs
+pub goes-behind : (t : ℕ) → goesOn t ≡ true → ID ≤ t
+goes-behind t h = leb-true ID t (both (leb ID t) _ h .0)
 
 -- so a sign is no number
 pub sign-no-number : (t : ℕ) → goesOn t ≡ false → isNumber t ≡ false

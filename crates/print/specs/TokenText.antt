@@ -4,7 +4,7 @@ use mathlib.Core.List.{List, [], _∷_, _++_}
 use Prim.Native.Nat.{ℕ, _+_, _/_, _%_}
 use lib.Dec.{eqb, leb}
 use Rattle.values.specs.Value.{unit}
-use Rattle.tokens.specs.Token.{EQUALS, SAME, LESS, MORE, ATLEAST, ID, between, isNumber, isVariable, numberCarried, thousandths}
+use Rattle.tokens.specs.Token.{EQUALS, SAME, LESS, MORE, ATLEAST, ID, COMMA, between, isNumber, isVariable, numberCarried, thousandths}
 use Rattle.text.specs.Byte.{SPACE, POINT}
 use Rattle.text.specs.Word.{names, nameIn}
 use Rattle.text.specs.Digits.{decimal}
@@ -45,9 +45,9 @@ tokenText t = elim (isNumber t) [ true ↦ numberText (thousandths (numberCarrie
 
 -- ---- two tokens side by side
 
--- a word or a number: letters and digits would go on with it; the tokens below are signs
+-- a word or a number: letters and digits would go on with it; the tokens below ID are signs, and , is one
 abbrev pub goesOn : ℕ → Bool
-goesOn t = leb ID t
+goesOn t = leb ID t && not (eqb t COMMA)
 
 -- it begins with a letter or a digit: no sign, and no variable, which begins with $
 abbrev pub isFollowing : ℕ → Bool

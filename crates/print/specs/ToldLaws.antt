@@ -7,7 +7,7 @@ use native.Mathlib.Omega.{arith}
 use lib.Dec.{eqb, leb}
 use lib.ListN.{length, take, drop, getD}
 use lib.Seq.{getD-drop, drop-drop, length-take-le, getD-take}
-use borrow.Author.Tests.{eq-eqb, ne-eqb, le-leb, lt-leb, leb-true, not-true}
+use borrow.Author.Tests.{eq-eqb, ne-eqb, le-leb, lt-leb, not-true}
 use Rattle.values.specs.Choice.{decide, both, chosen, refused, contrary}
 use Rattle.tokens.specs.Token.{NUMBER, isNumber, isVariable, numberCarried, thousandths}
 use Rattle.text.specs.Byte.{POINT, isDigit, isLetter, startsWord, isWordByte, run}
@@ -20,7 +20,7 @@ use Rattle.text.specs.First.{found, noToken, wordFirst, behindPoint, withPoint,
 use Rattle.text.specs.TokensLaws.{no-pair}
 use Rattle.print.specs.TokenText.{nameText, tokenText, goesOn, isFollowing, isOneSign, needsSpace}
 use Rattle.print.specs.DecimalLaws.{All}
-use Rattle.print.specs.TokenBackLaws.{hasName, name-says, Printable, sign-no-number, text-name, text-number}
+use Rattle.print.specs.TokenBackLaws.{hasName, name-says, Printable, number-goes, goes-behind, sign-no-number, text-name, text-number}
 use Rattle.print.specs.LineBack.{neither, one-more, two-more}
 use Rattle.print.specs.NumberShorterLaws.{number-shorter}
 
@@ -53,12 +53,12 @@ or-first false false h g = contrary g refl
 
 -- what is no sign is none of them
 no-sign : (t k : ℕ) → goesOn t ≡ true → k ≤ 15 → eqb t k ≡ false
-no-sign t k h u = let l = leb-true 16 t h in ne-eqb t k (λ e. omega arith)
+no-sign t k h u = let l = goes-behind t h in ne-eqb t k (λ e. omega arith)
 
 -- only a sign is one with a sign before it, or behind it
 pub no-sign-one : (t u : ℕ) → goesOn u ≡ true → isOneSign t u ≡ false
 no-sign-one t u h =
-    let l = leb-true 16 u h in
+    let l = goes-behind u h in
     rw (lt-leb u 2 (omega arith), and-false (leb 1 u), and-false (eqb t 1 || (eqb t 4 || eqb t 5)), no-sign u 5 h (omega arith), no-sign u 7 h (omega arith)) (and-false (eqb t 4))
 
 pub one-no-sign : (t u : ℕ) → goesOn t ≡ true → isOneSign t u ≡ false
@@ -234,7 +234,7 @@ module _ (b : ℕ) (bs : List ℕ) (k n m : ℕ) (h : isDigit b ≡ true) (da : 
       let t = b ∷ bs in
       let d = drop-drop 1 n t in
       let low = number-low before behind in
-      let goes : goesOn (numberToken before behind) ≡ true = le-leb 16 (numberToken before behind) (omega arith) in
+      let goes : goesOn (numberToken before behind) ≡ true = number-goes (numberToken before behind) (le-leb NUMBER (numberToken before behind) low) in
       let digit : isDigit (getD bs k 0) ≡ false = rw (getD-drop n t (withPoint m) 0, f) at (p .behind) in
       let la = length-take-le n t fits in
       let fb : m ≤ length (drop (n + 1) t) = rw d at (p .fits) in

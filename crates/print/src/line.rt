@@ -2,7 +2,7 @@
 ghost use mathlib.Core.Path.{_≡_};
 ghost use Prim.Native.Nat.{_+_, _≤_};
 ghost use Rattle.values.specs.PutAt.{IsPut};
-ghost use Rattle.print.specs.TokenText.{tokenText, isFollowing, isOpening, isOneSign, needsSpace, gap, lineText};
+ghost use Rattle.print.specs.TokenText.{tokenText, goesOn, isFollowing, isOpening, isOneSign, needsSpace, gap, lineText};
 ghost use Rattle.print.specs.PrintText.{rowAt};
 ghost use Rattle.print.specs.PrintRoomLaws.{lastPlace, lineRoom};
 use crate::name::put_name;
@@ -10,6 +10,7 @@ use crate::number::put_thousandths;
 use text::buffer::put;
 use text::bytes::SPACE;
 use tokens::token::ATLEAST;
+use tokens::token::COMMA;
 use tokens::token::END;
 use tokens::token::EQUALS;
 use tokens::token::ID;
@@ -32,11 +33,21 @@ fn put_token(out: &mut [u8], at: usize, t: u32) -> usize
     put_thousandths(out, at, (t - NUMBER) / 2)
 }
 
+// Whether letters and digits would go on with a token: a word or a number.
+fn goes_on(t: u32) -> bool
+    ensures { λ x. ⌜ x ≡ goesOn t ⌝ }
+{
+    if t < ID {
+        return false;
+    }
+    t != COMMA
+}
+
 // Whether a token begins with a letter or a digit.
 fn is_following(t: u32) -> bool
     ensures { λ x. ⌜ x ≡ isFollowing t ⌝ }
 {
-    if t < ID {
+    if !goes_on(t) {
         return false;
     }
     !is_variable(t)
@@ -78,7 +89,7 @@ fn is_one_sign(t: u32, u: u32) -> bool
 fn needs_space(t: u32, u: u32) -> bool
     ensures { λ x. ⌜ x ≡ needsSpace t u ⌝ }
 {
-    if t < ID {
+    if !goes_on(t) {
         return is_one_sign(t, u);
     }
     is_following(u)

@@ -58,7 +58,7 @@ pub fn put_name(out: &mut [u8], at: usize, t: u32) -> usize
             out,
             at,
             b"ID      IDS     WHEN    WHENEVERFROM    EVERY   DO      \
-        TRUE    FALSE   NOT     AND     OR      XOR                             ",
+        TRUE    FALSE   NOT     AND     OR      XOR     ,       FCTDEF          ",
             8,
             (t - ID) as usize * 8,
         );
@@ -77,7 +77,7 @@ pub fn put_name(out: &mut [u8], at: usize, t: u32) -> usize
         return put_row(
             out,
             at,
-            b"POS   FA    MOV   M     SETAL LOCK  UNLOCK            \
+            b"POS   FA    MOV   M     SETAL LOCK  UNLOCK      SYNFCT\
         X     Y     Z     U     V     W     ",
             6,
             (t - POS) as usize * 6,

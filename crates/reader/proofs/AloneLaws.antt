@@ -1,27 +1,23 @@
 -- Laws of tokens that are laid at the beginning of an array that is otherwise 0, and wiped off again.
 use mathlib.Core.Path.{_≡_, refl, sym, ap, _∙_}
 use mathlib.Core.List.{List, [], _∷_}
-use Prim.Native.Nat.{ℕ, zero, suc, _+_, _-_, _<_, _≤_}
+use Prim.Native.Nat.{ℕ, suc, _+_, _-_, _<_, _≤_}
 use native.Mathlib.Omega.{arith}
-use lib.ListN.{length, getD, set, replicate}
+use lib.ListN.{length, set, replicate}
 use lib.Seq.{set-set, set-comm, set-getD}
 use Rattle.values.specs.PutAt.{putAt}
 use Rattle.tokens.specs.Token.{setSize}
 use Rattle.engine.specs.Set.{emptySet}
 use Rattle.reader.specs.Draft.{alone}
+use Rattle.reader.specs.StandLaws.{zero-anywhere}
 
 -- a place before what is put
 put-set : (l s : List ℕ) (q p u : ℕ) → p < q → set (putAt s q l) p u ≡ putAt (set s p u) q l
 put-set [] s q p u h = refl
 put-set (t ∷ l) s q p u h = put-set l (set s q t) (q + 1) p u (omega arith) ∙ ap (λ (z : List ℕ). putAt z (q + 1) l) (set-comm s q p t u (λ e. omega arith))
 
-zero-at : (m p : ℕ) → getD {A = ℕ} (replicate m 0) p 0 ≡ 0
-zero-at zero p = refl
-zero-at (suc m) zero = refl
-zero-at (suc m) (suc p) = zero-at m p
-
 zero-set : (m p : ℕ) → set {A = ℕ} (replicate m 0) p 0 ≡ replicate m 0
-zero-set m p = ap (λ (x : ℕ). set (replicate m 0) p x) (sym (zero-at m p)) ∙ set-getD (replicate m 0) p 0
+zero-set m p = ap (λ (x : ℕ). set (replicate m 0) p x) (sym (zero-anywhere m p)) ∙ set-getD (replicate m 0) p 0
 
 wiped-off : (ts : List ℕ) (m p : ℕ) → putAt (putAt (replicate m 0) p ts) p (replicate (length ts) 0) ≡ replicate m 0
 wiped-off [] m p = refl

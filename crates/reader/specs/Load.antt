@@ -1,25 +1,25 @@
--- Loading: text to code, line and set, over the lines of the grammar that the text's lines are written as (document 01, "Lines of text" and "Codes"). Definitions only.
-use mathlib.Core.Bool.{Bool, true, false}
+-- Loading: text to code, line and set, over the lines of the grammar that the text's lines are written as (document 01, "Lines of text" and "Codes"; document 02, Req 03). Definitions only.
+use mathlib.Core.Bool.{Bool, true, false, _&&_}
 use mathlib.Core.List.{List, [], _∷_, _++_}
 use mathlib.Core.Option.{Option, none, some}
-use Prim.Native.Nat.{ℕ, zero, suc}
-use lib.Dec.{ltb}
-use lib.ListN.{length}
-use Rattle.values.specs.Codes.{tooLong, tooManyLines, makesNoToken, tooDeep, notInGrammar, usedAbove, notInSet}
-use Rattle.tokens.specs.Token.{maxLines, textSize}
+use Prim.Native.Nat.{ℕ, zero, suc, _-_}
+use lib.Dec.{eqb, ltb}
+use lib.ListN.{length, getD, set}
+use Rattle.values.specs.Codes.{tooLong, tooManyLines, makesNoToken, tooDeep, notInGrammar, usedAbove, notInSet, wrongCurve}
+use Rattle.tokens.specs.Token.{END, FCTDEF, maxLines, textSize}
 use Rattle.tokens.specs.SingleFault.{opensTooMany}
-use Rattle.grammar.specs.Tree.{Line, treeNumber}
-use Rattle.grammar.specs.TreeFault.{lineFault}
+use Rattle.grammar.specs.Tree.{Line, Definition, treeNumber}
+use Rattle.grammar.specs.TreeFault.{lineFault, definitionFault}
 use Rattle.grammar.specs.TreeNames.{Name, namesIn, eachKnown}
-use Rattle.grammar.specs.TreeOf.{treeOf}
-use Rattle.engine.specs.Set.{isKnown, lockTable, emptySet}
+use Rattle.grammar.specs.TreeOf.{treeOf, definitionOf}
+use Rattle.engine.specs.Set.{isKnown, isDefined, nameTable, emptySet}
 use Rattle.engine.specs.State.{powerOn}
 use Rattle.text.specs.Tokens.{Tokens, tokensOf}
 use Rattle.text.specs.Lines.{Numbered, tokenLines}
 use Rattle.reader.specs.declared.load_text.Loaded.{Loaded}
-use Rattle.reader.specs.Row.{Row, numbersOf, byNumber, setOf}
+use Rattle.reader.specs.Row.{Row, Kept, nothing, curvesThere, numbersOf, byNumber, setOf}
 
--- ---- a line: its lowest fault of 3 to 11
+-- ---- a numbered line by itself: its lowest fault of 4 to 10
 
 -- 5 if there is no line of the grammar; else its lowest fault of 6 to 10
 abbrev pub treeFault : Option Line → ℕ
@@ -38,36 +38,98 @@ numberOfTree (some l) = treeNumber l
 abbrev pub numberIn : List ℕ → ℕ
 numberIn ts = numberOfTree (treeOf ts)
 
--- 4 to 11 of a line's tokens, below the lines rs
-unfoldable pub tokensFault : List Row → List ℕ → ℕ
-tokensFault rs ts =
-    elim (faultOf ts) [
-      | zero ↦ elim (isKnown (numbersOf rs) (numberIn ts)) [ true ↦ usedAbove | false ↦ 0 ]
+abbrev pub namesOfTree : Option Line → List Name
+namesOfTree none = []
+namesOfTree (some l) = namesIn l
+
+-- what the line that is written as some tokens names is all known
+abbrev pub areKnown : (ℕ → ℕ → Bool) → List ℕ → Bool
+areKnown known ts = eachKnown known (namesOfTree (treeOf ts))
+
+-- ---- a line FCTDEF by itself: its lowest fault of 4, 5, 7 and 13
+
+-- 5 if there is no definition of the grammar; else its lowest fault of 7 and 13
+abbrev pub definedFault : Option Definition → ℕ
+definedFault none = notInGrammar
+definedFault (some d) = definitionFault d
+
+unfoldable pub curveFaultOf : List ℕ → ℕ
+curveFaultOf ts = elim (opensTooMany ts 0) [ true ↦ tooDeep | false ↦ definedFault (definitionOf ts) ]
+
+abbrev pub numberDefined : Option Definition → ℕ
+numberDefined none = 0
+numberDefined (some d) = d .number
+
+-- the number of the curve that some tokens define
+abbrev pub curveNumberIn : List ℕ → ℕ
+curveNumberIn ts = numberDefined (definitionOf ts)
+
+-- ---- a line below others: its lowest fault of 3 to 11, then 13
+
+-- a line FCTDEF: 13 also if its curve is defined above
+unfoldable pub curveBelow : List (List ℕ) → List ℕ → ℕ
+curveBelow cs ts =
+    elim (curveFaultOf ts) [
+      | zero ↦ elim (isDefined (curvesThere cs) (curveNumberIn ts)) [ true ↦ wrongCurve | false ↦ 0 ]
       | suc k ↦ suc k
     ]
 
--- 3 to 11
-unfoldable pub faultBelow : List Row → Tokens → ℕ
-faultBelow rs ts = elim (ts .good) [ true ↦ tokensFault rs (ts .list) | false ↦ makesNoToken ]
+-- every line is known, and of the curves those that are there
+abbrev pub curveTable : List (List ℕ) → ℕ → ℕ → Bool
+curveTable cs = nameTable (λ n. true) (isDefined (curvesThere cs))
+
+-- a numbered line: 11 if its number is used above; 13 if it names a curve that is not defined above
+unfoldable pub lineBelow : Kept → List ℕ → ℕ
+lineBelow k ts =
+    elim (faultOf ts) [
+      | zero ↦
+          elim (isKnown (numbersOf (k .rows)) (numberIn ts)) [
+            | true ↦ usedAbove
+            | false ↦ elim (areKnown (curveTable (k .curves)) ts) [ true ↦ 0 | false ↦ wrongCurve ]
+          ]
+      | suc j ↦ suc j
+    ]
+
+-- a line defines a curve: its first token is FCTDEF, and no numbered line stands above it (below one, FCTDEF begins no line of the grammar: 5)
+abbrev pub defines : Kept → List ℕ → Bool
+defines k ts = eqb (length (k .rows)) 0 && eqb (getD ts 0 END) FCTDEF
+
+-- 4 to 13 of a line's tokens, below what is kept
+unfoldable pub tokensFault : Kept → List ℕ → ℕ
+tokensFault k ts = elim (defines k ts) [ true ↦ curveBelow (k .curves) ts | false ↦ lineBelow k ts ]
+
+-- 3 to 13
+unfoldable pub faultBelow : Kept → Tokens → ℕ
+faultBelow k ts = elim (ts .good) [ true ↦ tokensFault k (ts .list) | false ↦ makesNoToken ]
 
 -- ---- a text
 
--- the lines that are taken, as the text has them, or the code and the line that refuse the text
+-- what is taken of it, or the code and the line that refuse the text
 pub data Outcome : Type 0 where
-  taken : List Row → Outcome
+  taken : Kept → Outcome
   refused : ℕ → ℕ → Outcome
 
--- a line with tokens, as it is taken
+-- a numbered line, as it is taken
 abbrev pub rowOf : Numbered → Row
 rowOf l = record { place = l .place; number = numberIn (tokensOf (l .body) .list); tokens = tokensOf (l .body) .list }
 
--- the first faulty line below the lines rs
-unfoldable pub rowsFrom : List Row → List Numbered → Outcome
-rowsFrom rs [] = taken rs
-rowsFrom rs (l ∷ ls) =
-    elim (faultBelow rs (tokensOf (l .body))) [
-      | zero ↦ rowsFrom (rs ++ (rowOf l ∷ [])) ls
-      | suc k ↦ refused (suc k) (l .place)
+abbrev pub withRow : Kept → Row → Kept
+withRow k r = record { curves = k .curves; rows = k .rows ++ (r ∷ []) }
+
+abbrev pub withCurve : Kept → List ℕ → Kept
+withCurve k ts = record { curves = set (k .curves) (curveNumberIn ts - 1) ts; rows = k .rows }
+
+-- what is kept with a line more
+unfoldable pub keptWith : Kept → Numbered → Kept
+keptWith k l = elim (defines k (tokensOf (l .body) .list)) [ true ↦ withCurve k (tokensOf (l .body) .list) | false ↦ withRow k (rowOf l) ]
+
+-- the first faulty line below what is kept
+unfoldable pub rowsFrom : Kept → List Numbered → Outcome
+rowsFrom k [] = taken k
+rowsFrom k (l ∷ ls) =
+    elim (faultBelow k (tokensOf (l .body))) [
+      | zero ↦ rowsFrom (keptWith k l) ls
+      | suc f ↦ refused (suc f) (l .place)
     ]
 
 -- the place of the first of some lines that does not pass a test; 0 if each does
@@ -75,20 +137,19 @@ unfoldable pub firstNot : (Row → Bool) → List Row → ℕ
 firstNot is [] = 0
 firstNot is (r ∷ rs) = elim (is r) [ true ↦ firstNot is rs | false ↦ r .place ]
 
-abbrev pub namesOfTree : Option Line → List Name
-namesOfTree none = []
-namesOfTree (some l) = namesIn l
-
--- what the line which is written as some tokens names is all known
 abbrev pub isNamed : (ℕ → ℕ → Bool) → Row → Bool
-isNamed known r = eachKnown known (namesOfTree (treeOf (r .tokens)))
+isNamed known r = areKnown known (r .tokens)
 
 -- 12: the place of the first line with a name that is not known; 0 if there is none
 abbrev pub firstUnknown : (ℕ → ℕ → Bool) → List Row → ℕ
 firstUnknown known rs = firstNot (isNamed known) rs
 
+-- the names of lines and curves that are known of what is kept; those of curves were asked line by line
+abbrev pub keptTable : Kept → ℕ → ℕ → Bool
+keptTable k = nameTable (isKnown (numbersOf (k .rows))) (isDefined (curvesThere (k .curves)))
+
 unfoldable pub named : Outcome → Outcome
-named (taken rs) = elim (firstUnknown (lockTable (numbersOf rs)) rs) [ zero ↦ taken rs | suc k ↦ refused notInSet (suc k) ]
+named (taken k) = elim (firstUnknown (keptTable k) (k .rows)) [ zero ↦ taken k | suc j ↦ refused notInSet (suc j) ]
 named (refused c k) = refused c k
 
 -- 1 and 2 with line 0, first; then the first faulty line; then 12
@@ -99,7 +160,7 @@ outcome t =
       | false ↦
           elim (ltb maxLines (length (tokenLines t))) [
             | true ↦ refused tooManyLines 0
-            | false ↦ named (rowsFrom [] (tokenLines t))
+            | false ↦ named (rowsFrom nothing (tokenLines t))
           ]
     ]
 
@@ -109,7 +170,7 @@ abbrev pub answered : ℕ → ℕ → Loaded
 answered c k = record { code = c; line = k; state = powerOn }
 
 unfoldable pub loadAnswer : List ℕ → Loaded
-loadAnswer t = elim (outcome t) [ taken rs ↦ answered 0 0 | refused c k ↦ answered c k ]
+loadAnswer t = elim (outcome t) [ taken k ↦ answered 0 0 | refused c k ↦ answered c k ]
 
 unfoldable pub loadSet : List ℕ → List ℕ
-loadSet t = elim (outcome t) [ taken rs ↦ setOf (byNumber rs) | refused c k ↦ emptySet ]
+loadSet t = elim (outcome t) [ taken k ↦ setOf (k .curves) (byNumber (k .rows)) | refused c j ↦ emptySet ]

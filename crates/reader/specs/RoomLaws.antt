@@ -1,19 +1,18 @@
--- The room of a text: the lines that are taken from it, one place more for the end of each, fit one place more than its bytes. Assumes nothing.
+-- The room of a text: the curves and lines that are taken from it, one place more for the end of each, fit one place more than its bytes. Assumes nothing.
 use mathlib.Core.Path.{_≡_}
 use mathlib.Core.List.{List, [], _∷_, _++_, map}
-use Prim.Native.Nat.{ℕ, suc, _+_, _≤_}
+use Prim.Native.Nat.{ℕ, zero, suc, _+_, _-_, _≤_}
 use native.Mathlib.Omega.{arith}
-use lib.ListN.{length}
+use lib.ListN.{length, set, length-append}
 use Rattle.tokens.specs.Token.{textSize}
 use Rattle.values.specs.Choice.{decide}
-use Rattle.values.specs.Numbers.{clash}
 use Rattle.text.specs.Tokens.{tokensOf}
 use Rattle.text.specs.TokensLaws.{tokens-within}
 use Rattle.text.specs.Lines.{Numbered, textLines, bodies, isBlank, numbered, tokenLines}
 use Rattle.text.specs.LinesLaws.{room, lines-room}
-use Rattle.reader.specs.Row.{Row, total}
-use Rattle.reader.specs.Load.{taken, rowOf, rowsFrom}
-use Rattle.reader.specs.RisingLaws.{next-row}
+use Rattle.reader.specs.Row.{Row, Kept, nothing, isThere, curveCount, total, curvesTotal}
+use Rattle.reader.specs.Load.{curveNumberIn, taken, rowOf, rowsFrom}
+use Rattle.reader.specs.KeptLaws.{taken-so}
 
 -- the places that the tokens of some lines take, one for the end of each
 unfoldable pub roomOf : List Numbered → ℕ
@@ -50,16 +49,39 @@ unfolding total
 total-last [] r = omega arith
 total-last (q ∷ rs) r = let i = total-last rs r in omega arith
 
--- what is taken has the room of its lines
-pub rows-room : (ls : List Numbered) (rs qs : List Row) → rowsFrom rs ls ≡ taken qs → total qs ≡ total rs + roomOf ls
-unfolding rowsFrom roomOf
-rows-room [] rs qs h = let e : rs ≡ qs = cc in rw (← e) (omega arith)
-rows-room (l ∷ ls) rs qs h =
-    next-row _ rs l ls (taken qs) h
-    (λ f g. let i = rows-room ls (rs ++ (rowOf l ∷ [])) qs g in let e = total-last rs (rowOf l) in omega arith)
-    (λ k f g. clash (cc))
+-- one curve more
+count-set : (cs : List (List ℕ)) (j : ℕ) (ts : List ℕ) → curveCount (set cs j ts) ≤ curveCount cs + 1
+unfolding curveCount
+count-set [] j ts = omega arith
+count-set (c ∷ cs) zero ts = decide _ (isThere ts) (λ t. decide _ (isThere c) (λ u. rw (t, u, curveCount) (omega arith)) (λ u. rw (t, u, curveCount) (omega arith))) (λ t. decide _ (isThere c) (λ u. rw (t, u, curveCount) (omega arith)) (λ u. rw (t, u, curveCount) (omega arith)))
+count-set (c ∷ cs) (suc j) ts = let i = count-set cs j ts in decide _ (isThere c) (λ u. rw (u, curveCount) (omega arith)) (λ u. rw (u, curveCount) (omega arith))
+
+total-set : (cs : List (List ℕ)) (j : ℕ) (ts : List ℕ) → curvesTotal (set cs j ts) ≤ curvesTotal cs + length ts + 1
+unfolding curvesTotal
+total-set [] j ts = omega arith
+total-set (c ∷ cs) zero ts = decide _ (isThere ts) (λ t. decide _ (isThere c) (λ u. rw (t, u, curvesTotal) (omega arith)) (λ u. rw (t, u, curvesTotal) (omega arith))) (λ t. decide _ (isThere c) (λ u. rw (t, u, curvesTotal) (omega arith)) (λ u. rw (t, u, curvesTotal) (omega arith)))
+total-set (c ∷ cs) (suc j) ts = let i = total-set cs j ts in decide _ (isThere c) (λ u. rw (u, curvesTotal) (omega arith)) (λ u. rw (u, curvesTotal) (omega arith))
+
+-- curves and lines that are taken are no more than the lines of the text
+pub taken-count : (ls : List Numbered) (q : Kept) → rowsFrom nothing ls ≡ taken q → curveCount (q .curves) + length (q .rows) ≤ length ls
+unfolding curveCount
+taken-count ls q h =
+    let e = taken-so (λ k ms. curveCount (k .curves) + length (k .rows) + length ms ≤ length ls)
+    (λ k l ms p c. let n = count-set (k .curves) (curveNumberIn (tokensOf (l .body) .list) - 1) (tokensOf (l .body) .list) in omega arith)
+    (λ k l ms p c. let n = length-append (k .rows) (rowOf l ∷ []) in omega arith)
+    ls nothing q (omega arith) h in
+    omega arith
+
+-- and take no more room
+pub rows-room : (ls : List Numbered) (q : Kept) → rowsFrom nothing ls ≡ taken q → curvesTotal (q .curves) + total (q .rows) ≤ roomOf ls
+unfolding roomOf curvesTotal total
+rows-room ls q h =
+    let e = taken-so (λ k ms. curvesTotal (k .curves) + total (k .rows) + roomOf ms ≤ roomOf ls)
+    (λ k l ms p c. let n = total-set (k .curves) (curveNumberIn (tokensOf (l .body) .list) - 1) (tokensOf (l .body) .list) in omega arith)
+    (λ k l ms p c. let n = total-last (k .rows) (rowOf l) in omega arith)
+    ls nothing q (omega arith) h in
+    omega arith
 
 -- THE ROOM OF A TEXT
-pub taken-room : (t : List ℕ) (rs : List Row) → length t ≤ textSize → rowsFrom [] (tokenLines t) ≡ taken rs → total rs ≤ textSize + 1
-unfolding total
-taken-room t rs l h = let r = rows-room (tokenLines t) [] rs h in let w = text-room t in omega arith
+pub taken-room : (t : List ℕ) (q : Kept) → length t ≤ textSize → rowsFrom nothing (tokenLines t) ≡ taken q → curvesTotal (q .curves) + total (q .rows) ≤ textSize + 1
+taken-room t q l h = let r = rows-room (tokenLines t) q h in let w = text-room t in omega arith

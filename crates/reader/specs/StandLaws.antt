@@ -32,7 +32,7 @@ pub empty-length : length emptySet ≡ setSize
 unfolding emptySet
 empty-length = length-replicate {A = ℕ} setSize 0
 
-zero-anywhere : (n j : ℕ) → getD {A = ℕ} (replicate n 0) j 0 ≡ 0
+pub zero-anywhere : (n j : ℕ) → getD {A = ℕ} (replicate n 0) j 0 ≡ 0
 zero-anywhere zero j = refl
 zero-anywhere (suc n) zero = refl
 zero-anywhere (suc n) (suc j) = zero-anywhere n j

@@ -5,11 +5,15 @@ ghost use lib.ListN.{length, replicate};
 ghost use Rattle.values.specs.PutAt.{putAt};
 ghost use Rattle.tokens.specs.Token.{setSize};
 ghost use Rattle.checking.specs.Fault.{lineAt};
-ghost use Rattle.engine.specs.Set.{namesKnown, lockTable, emptySet};
+ghost use Rattle.checking.specs.CurveDefinition.{definitionAt};
+ghost use Rattle.engine.specs.Set.{askedTable, namesKnown, emptySet};
 ghost use Rattle.reader.specs.Draft.{alone};
+use checking::Definition;
 use checking::Line;
+use checking::definition_at;
 use checking::line_at;
 use engine::names_known;
+use tokens::token::CURVES;
 use tokens::token::LINES;
 use tokens::token::SIZE;
 
@@ -48,13 +52,30 @@ pub fn line_alone(row: &mut [u32; SIZE], tokens: &[u32]) -> Line
     l
 }
 
-// Whether each name of a line in it is one of some numbers.
-pub fn names_alone(row: &mut [u32; SIZE], numbers: &[u8; LINES], tokens: &[u32]) -> bool
+// What the check tells of a line FCTDEF.
+pub fn curve_alone(row: &mut [u32; SIZE], tokens: &[u32]) -> Definition
     requires { ⌜ (now row ≡ emptySet) × (length (now tokens) ≤ setSize) ⌝ }
-    ensures { λ x. ⌜ (x ≡ namesKnown (alone (now (tokens .entry))) (lockTable (now (numbers .entry))) setSize 0) × (now (row .exit) ≡ emptySet) ⌝ }
+    ensures { λ x. ⌜ (x ≡ definitionAt (alone (now (tokens .entry))) 0) × (now (row .exit) ≡ emptySet) ⌝ }
 {
     lay(row, tokens);
-    let known = names_known(row, numbers, 0);
+    let d = definition_at(row, 0);
+    wipe(row, tokens.len());
+    d
+}
+
+// Whether each name in a line is known: of a curve those that are there, of a line one of some numbers, which is only asked with `asked`.
+pub fn names_alone(
+    row: &mut [u32; SIZE],
+    numbers: &[u8; LINES],
+    curves: &[bool; CURVES],
+    asked: bool,
+    tokens: &[u32],
+) -> bool
+    requires { ⌜ (now row ≡ emptySet) × (length (now tokens) ≤ setSize) ⌝ }
+    ensures { λ x. ⌜ (x ≡ namesKnown (alone (now (tokens .entry))) (askedTable asked (now (numbers .entry)) (now (curves .entry))) setSize 0) × (now (row .exit) ≡ emptySet) ⌝ }
+{
+    lay(row, tokens);
+    let known = names_known(row, numbers, curves, asked, 0);
     wipe(row, tokens.len());
     known
 }

@@ -6,8 +6,9 @@ ghost use lib.ListN.{length};
 ghost use Rattle.text.specs.Lines.{numbered, tokenLines};
 ghost use Rattle.tokens.specs.Token.{setSize, maxLines, textSize};
 ghost use Rattle.engine.specs.Set.{emptySet};
+ghost use Rattle.reader.specs.Row.{nothing};
 ghost use Rattle.reader.specs.Load.{rowsFrom};
-ghost use Rattle.reader.specs.Draft.{rowsIn, Held, Says};
+ghost use Rattle.reader.specs.Draft.{keptIn, Held, Says};
 use crate::draft::Draft;
 use crate::draft::add_line;
 use crate::draft::no_draft;
@@ -18,7 +19,7 @@ use tokens::token::SIZE;
 // The line k of the text is added, unless it is only spaces and comment.
 fn take_line(body: &[u8], s: &mut [u32; SIZE], row: &mut [u32; SIZE], d: Draft, k: u32) -> Draft
     requires { ⌜ Held (now s) d × (now row ≡ emptySet) × (d .code ≡ 0) × (d .count + length (numbered k (now body ∷ [])) ≤ maxLines) × (d .at + length (now body) ≤ setSize) ⌝ }
-    ensures { λ x. ⌜ Says (rowsFrom (rowsIn (now (s .entry)) d) (numbered k (now (body .entry) ∷ []))) (now (s .exit)) x × (now (row .exit) ≡ emptySet) ⌝ }
+    ensures { λ x. ⌜ Says (rowsFrom (keptIn (now (s .entry)) d) (numbered k (now (body .entry) ∷ []))) (now (s .exit)) x × (now (row .exit) ≡ emptySet) ⌝ }
 {
     if is_blank(body) {
         return d;
@@ -29,7 +30,7 @@ fn take_line(body: &[u8], s: &mut [u32; SIZE], row: &mut [u32; SIZE], d: Draft, 
 // The lines of a text, up to the first that refuses it.
 pub fn read_lines(text: &[u8], s: &mut [u32; SIZE], row: &mut [u32; SIZE]) -> Draft
     requires { ⌜ (length (now text) ≤ textSize) × (length (tokenLines (now text)) ≤ maxLines) × (now s ≡ emptySet) × (now row ≡ emptySet) ⌝ }
-    ensures { λ x. ⌜ Says (rowsFrom [] (tokenLines (now (text .entry)))) (now (s .exit)) x × (now (row .exit) ≡ emptySet) ⌝ }
+    ensures { λ x. ⌜ Says (rowsFrom nothing (tokenLines (now (text .entry)))) (now (s .exit)) x × (now (row .exit) ≡ emptySet) ⌝ }
 {
     let mut d = no_draft();
     let mut k: u32 = 1;

@@ -32,7 +32,7 @@ fn answered(code: u8, line: u32) -> Loaded
     }
 }
 
-// Loading a text into a set: 1 and 2 first, then the first faulty line, then 12. On any code the set is empty; until its lines are put, each line stands there by itself while it is checked.
+// Loading a text into a set: 1 and 2 first, then the first faulty line, then 12. On any code the set is empty; until its curves and lines are put, each line stands there by itself while it is checked.
 pub fn load(text: &[u8], set: &mut [u32; SIZE]) -> Loaded
     ensures { λ x. ⌜ x ≡ loadAnswer (now (text .entry)) ⌝ }
     ensures { λ x. ⌜ now (set .exit) ≡ loadSet (now (text .entry)) ⌝ }

@@ -10,6 +10,7 @@ pub mod PrintedLinesLaws
 pub mod LoadedRowsLaws
 pub mod PrintFits
 pub mod PrintTakenLaws
+pub mod CurveSlotsLaws
 pub mod PrintLoad
 pub mod PrintOfText
 mod RoundTripTable

@@ -1,7 +1,7 @@
--- EVERY TOKEN OF A LINE WITHOUT A FAULT CAN BE WRITTEN AND READ BACK. Theorem; nothing is assumed.
-use mathlib.Core.Path.{_≡_, refl}
+-- EVERY TOKEN OF A LINE WITHOUT A FAULT, AND OF SUCH A DEFINITION, CAN BE WRITTEN AND READ BACK. Theorems; nothing is assumed.
+use mathlib.Core.Path.{_≡_, refl, subst}
 use mathlib.Core.Bool.{Bool, true, false}
-use mathlib.Core.List.{List, [], _∷_, _++_}
+use mathlib.Core.List.{List, [], _∷_, _++_, append-nil}
 use Prim.Native.Nat.{ℕ, zero, _+_, _*_, _≤_, _<_}
 use native.Mathlib.Omega.{arith}
 use lib.Dec.{eqb, leb}
@@ -9,15 +9,15 @@ use borrow.Author.Tests.{eqb-true, le-leb, lt-leb, leb-true}
 use Rattle.values.specs.Codes.{outside}
 use Rattle.values.specs.Choice.{decide, both, contrary, either-cond}
 use Rattle.values.specs.Value.{top}
-use Rattle.tokens.specs.Token.{NUMBER, EQUALS, MINUS, OPEN, CLOSE, LEFT, RIGHT, DO, TRUE, FALSE, NOT, IM, M, IN, FIFO4, X, W, POS, MOV, SETAL, UNLOCK, WHEN, EVERY, ID, IDS, TIMES, OVER, PLUS, SAME, ATLEAST, AND, XOR, INA, OUT, MARKER, PARAM, R, TIMER, between, isFifo, isNumber, thousandths, wholeToken}
+use Rattle.tokens.specs.Token.{NUMBER, EQUALS, MINUS, OPEN, CLOSE, COMMA, LEFT, RIGHT, DO, FCTDEF, SYNFCT, TRUE, FALSE, NOT, IM, M, IN, FIFO4, X, W, POS, MOV, SETAL, UNLOCK, WHEN, EVERY, ID, IDS, TIMES, OVER, PLUS, SAME, ATLEAST, AND, XOR, INA, OUT, MARKER, PARAM, R, TIMER, between, maxCurves, isFifo, isNumber, thousandths, wholeToken}
 use Rattle.tokens.specs.Descent.{Answer, good, stop, read, _>>=_, upTo}
 use Rattle.tokens.specs.Index.{isInside, lastIndex}
 use Rattle.tokens.specs.IndexLaws.{last-inside}
-use Rattle.tokens.specs.SingleFault.{lower, unless, numberFault, readFault, writeFault, codeFault, idFault, callFault}
+use Rattle.tokens.specs.SingleFault.{lower, unless, numberFault, readFault, writeFault, codeFault, idFault, callFault, curveFault}
 use Rattle.checking.specs.Fault.{Sight, joinSights, sight, faultFor}
-use Rattle.grammar.specs.Tree.{Operand, number, variable, position, truth, bracket, minus, not, Product, product, Factors, noFactor, factor, Sum, sum, Terms, noTerm, term, Expression, single, compare, row, Sums, last, next, Action, assign, assignPosition, drive, code, call, Condition, always, under, Line, line, operandTokens, productTokens, factorsTokens, sumTokens, termsTokens, expressionTokens, sumsTokens, actionTokens, actionsTokens, conditionTokens}
+use Rattle.grammar.specs.Tree.{Operand, number, variable, position, truth, bracket, minus, not, Product, product, Factors, noFactor, factor, Sum, sum, Terms, noTerm, term, Expression, single, compare, row, Sums, last, next, Action, assign, assignPosition, drive, code, call, synfct, Place, cell, axis, placeWord, placeIndex, placeTokens, Condition, always, under, Line, line, Parameter, Definition, operandTokens, productTokens, factorsTokens, sumTokens, termsTokens, expressionTokens, sumsTokens, actionTokens, actionsTokens, conditionTokens, parameterTokens, definitionFront}
 use Rattle.grammar.specs.Meaning.{operandMeaning, productMeaning, factorsMeaning, sumMeaning, termsMeaning, expressionMeaning, sumsMeaning}
-use Rattle.grammar.specs.TreeFault.{wantedFault, rightFault, isFifoZero, isAlone, isRemovalTree, assignedFault, actionFault, actionsFault, conditionFault, keywordOf, lineFault}
+use Rattle.grammar.specs.TreeFault.{wantedFault, rightFault, isFifoZero, isAlone, isRemovalTree, assignedFault, actionFault, actionsFault, conditionFault, keywordOf, lineFault, numbersFault, definitionFault}
 use Rattle.grammar.specs.AgreementLaws.{bounds, ends-read}
 use Rattle.grammar.specs.TreeFaultLaws.{seen-sum, seen-expression, wanted-read}
 use Rattle.grammar.specs.ClosedTokens.{front}
@@ -57,6 +57,18 @@ variable-in t l u = names-in IN 12 t (omega arith) refl l (omega arith)
 action-in : (t : ℕ) → POS ≤ t → t ≤ UNLOCK → Printable t
 unfolding hasName
 action-in t l u = names-in POS 7 t (omega arith) refl l (omega arith)
+
+comma : Printable COMMA
+unfolding hasName
+comma = name-fits COMMA (omega arith) refl
+
+fctdef : Printable FCTDEF
+unfolding hasName
+fctdef = name-fits FCTDEF (omega arith) refl
+
+synfct-word : Printable SYNFCT
+unfolding hasName
+synfct-word = name-fits SYNFCT (omega arith) refl
 
 axis-in : (t : ℕ) → X ≤ t → t ≤ W → Printable t
 unfolding hasName
@@ -239,8 +251,17 @@ code-clean : (kw n : ℕ) → codeFault kw n ≡ 0 → n ≤ 99
 unfolding codeFault
 code-clean kw n h = leb-true n 99 (unless-zero (leb n 99) outside (lower-zero _ _ h .0) (omega arith))
 
+curve-clean : (n : ℕ) → curveFault n ≡ 0 → n ≤ maxCurves
+unfolding curveFault
+curve-clean n h = leb-true n maxCurves (both (leb 1 n) (leb n maxCurves) (unless-zero (between 1 maxCurves n) outside h (omega arith)) .1)
+
+-- a place that is read or written, and what stands behind it
+place-prints : (y : Place) (k : ℕ) (l : List ℕ) → lower (unless (isInside (placeWord y) (placeIndex y)) outside) k ≡ 0 → Printables l → Printables (placeTokens y ++ l)
+place-prints (cell w v i) k l h c = let b = bounds IN FIFO4 w v in index-in w (wholeToken i) l (variable-in w (omega arith) (omega arith)) (index-fits w i k h) c
+place-prints (axis x v) k l h c = let b = bounds X W x v in index-in IM x l (variable-in IM (omega arith) (omega arith)) (axis-in x (omega arith) (omega arith)) c
+
 action-clean : (kw : ℕ) (a : Action) → actionFault kw a ≡ 0 → Printables (actionTokens a)
-unfolding actionFault actionTokens writeFault
+unfolding actionFault actionTokens writeFault readFault
 action-clean kw (assign w v i a) h =
     let (x, y) = lower-zero _ _ h in
     let b = bounds IN FIFO4 w v in
@@ -257,6 +278,13 @@ action-clean kw (code n) h = let g = code-clean kw n h in (action-in M (omega ar
 action-clean kw (call w v n) h =
     let b = bounds SETAL UNLOCK w v in
     (action-in w (omega arith) (omega arith), (sign-in OPEN (omega arith) (omega arith), (whole-fits n (call-clean w n h), (sign-in CLOSE (omega arith) (omega arith), tt))))
+action-clean kw (synfct n y z) h =
+    let (x, p) = lower-zero _ _ h in
+    let (u, v) = lower-zero _ _ p in
+    let m = curve-clean n x in
+    let left = sign-in OPEN (omega arith) (omega arith) in
+    let right = sign-in CLOSE (omega arith) (omega arith) in
+    (synfct-word, (left, (whole-fits n (omega arith), (comma, place-prints y _ (COMMA ∷ placeTokens z ++ (CLOSE ∷ [])) u (comma, place-prints z _ (CLOSE ∷ []) v (right, tt))))))
 
 actions-clean : (kw : ℕ) (r : List Action) (a : Action) → actionsFault kw a r ≡ 0 → Printables (actionsTokens a r)
 unfolding actionsFault actionsTokens
@@ -278,3 +306,32 @@ line-prints (line w v n c a r) h =
     let b = bounds ID IDS w v in
     let g = id-clean n i in
     (keyword-in w (omega arith) (omega arith), (equals, (whole-fits n (omega arith), prints-join (conditionTokens c) (DO ∷ actionsTokens a r) (condition-clean c k) (keyword-in DO (omega arith) (omega arith), actions-clean (keywordOf c) r a q))))
+
+-- ---- a definition
+
+parameter-prints : (m : Bool) (n t : ℕ) (l : List ℕ) → numberFault n ≡ 0 → Printable t → Printables l → Printables (parameterTokens (record { negative = m; number = n }) t ++ l)
+unfolding parameterTokens
+parameter-prints true n t l h k c = (sign-in MINUS (omega arith) (omega arith), (number-fits n (number-clean n h), (k, c)))
+parameter-prints false n t l h k c = (number-fits n (number-clean n h), (k, c))
+
+-- THE TOKENS OF A DEFINITION WITHOUT A FAULT
+pub definition-prints : (d : Definition) → definitionFault d ≡ 0 → Printables (definitionFront d)
+unfolding definitionFault numbersFault definitionFront
+definition-prints d h =
+    let (n, _) = lower-zero _ _ h in
+    let (n5, e3) = lower-zero _ _ n in
+    let (n4, e2) = lower-zero _ _ n5 in
+    let (n3, e1) = lower-zero _ _ n4 in
+    let (n2, e0) = lower-zero _ _ n3 in
+    let (n1, u) = lower-zero _ _ n2 in
+    let (n0, l) = lower-zero _ _ n1 in
+    let m = curve-clean (d .number) n0 in
+    let left = sign-in OPEN (omega arith) (omega arith) in
+    let right = sign-in CLOSE (omega arith) (omega arith) in
+    let a = parameter-prints (d .a2 .negative) (d .a2 .number) COMMA _ e2 comma (last-prints (d .a3) e3 right) in
+    let b = parameter-prints (d .a0 .negative) (d .a0 .number) COMMA _ e0 comma (parameter-prints (d .a1 .negative) (d .a1 .number) COMMA _ e1 comma a) in
+    let c = parameter-prints (d .lower .negative) (d .lower .number) COMMA _ l comma (parameter-prints (d .upper .negative) (d .upper .number) COMMA _ u comma b) in
+    (fctdef, (left, (whole-fits (d .number) (omega arith), (comma, c))))
+  where
+    last-prints : (x : Parameter) → numberFault (x .number) ≡ 0 → Printable CLOSE → Printables (parameterTokens x CLOSE)
+    last-prints x e c = subst Printables (append-nil (parameterTokens x CLOSE)) (parameter-prints (x .negative) (x .number) CLOSE [] e c tt)

@@ -2,30 +2,29 @@
 use mathlib.Core.Path.{_≡_, refl, sym, ap, _∙_}
 use mathlib.Core.Bool.{Bool, true, false, not, _&&_}
 use mathlib.Core.List.{List, [], _∷_, _++_, map, append-nil}
-use Prim.Native.Nat.{ℕ, suc}
+use Prim.Native.Nat.{ℕ, suc, _<_}
 use native.Mathlib.Omega.{arith}
 use lib.Dec.{eqb}
-use lib.ListN.{length}
+use lib.ListN.{length, length-map}
 use lib.Seq.{take-all}
 use borrow.Author.Tests.{ne-eqb, not-true}
 use Rattle.values.specs.Choice.{decide, both, refused}
-use Rattle.values.specs.Numbers.{clash}
 use Rattle.text.specs.Byte.{LF, CR, COMMENT, isDigit, isSpace, inLine, inBody, run}
 use Rattle.text.specs.ByteLaws.{run-on}
 use Rattle.text.specs.Lines.{textLines, split, withoutReturn, withoutComment, bodies, isBlank, Numbered, numbered, tokenLines}
 use Rattle.text.specs.LinesLaws.{line-end, line-on}
 use Rattle.text.specs.Tokens.{Tokens, tokensOf}
 use Rattle.text.specs.TokensLaws.{tokens-none, tokens-space}
-use Rattle.grammar.specs.Tree.{Line, line}
+use Rattle.grammar.specs.Tree.{Line, line, Definition, definitionFront}
 use Rattle.grammar.specs.ClosedTokens.{front}
 use Rattle.print.specs.TokenText.{lineText}
 use Rattle.print.specs.PrintText.{behindText, rowsText}
 use Rattle.print.specs.ReadBack.{readBack}
 use Rattle.print.specs.DecimalLaws.{All, digit-bounds}
 use Rattle.print.specs.TokenBytesLaws.{line-bytes}
-use Rattle.print.specs.LineBack.{line-back}
-use Rattle.round_trip.specs.LinePrints.{line-prints}
-use Rattle.round_trip.specs.SetTreesLaws.{GoodTree, GoodTrees}
+use Rattle.print.specs.LineBack.{Printables, line-back}
+use Rattle.round_trip.specs.LinePrints.{line-prints, definition-prints}
+use Rattle.round_trip.specs.SetTreesLaws.{GoodTree, GoodTrees, GoodDefinition, GoodDefinitions}
 
 -- ---- the bytes of a line
 
@@ -100,29 +99,57 @@ unfolding isBlank
 blank-none [] h = ap (λ (t : Tokens). t .list) tokens-none
 blank-none (b ∷ x) h = let (s, r) = both (isSpace b) (isBlank x) h in ap (λ (t : Tokens). t .list) (tokens-space b x s) ∙ blank-none x r
 
--- THE TOKENS OF A LINE THAT IS PRINTED are read back
-pub front-read : (x : Line) → GoodTree x → tokensOf (lineText (front x)) ≡ record { list = map readBack (front x); good = true }
-front-read x g = line-back (front x) (line-prints x (g .faultless))
+-- ---- rows that can be read back
 
-not-blank : (x : Line) → GoodTree x → isBlank (lineText (front x)) ≡ false
-not-blank (line w v n c a r) g =
-    let x = line w v n c a r in
-    decide _ (isBlank (lineText (front x)))
-    (λ b. let e = sym (ap (λ (t : Tokens). t .list) (front-read x g)) ∙ blank-none (lineText (front x)) b in clash (cc))
+-- it has a token, and each of its tokens can be written
+pub record Readable (r : List ℕ) : Type 0 where
+  pub some : 0 < length r
+  pub prints : Printables r
+
+abbrev pub AllReadable : List (List ℕ) → Type 0
+AllReadable [] = Unit {0}
+AllReadable (r ∷ rs) = Readable r × AllReadable rs
+
+-- THE TOKENS OF A ROW THAT IS PRINTED are read back
+pub row-read : (r : List ℕ) → Readable r → tokensOf (lineText r) ≡ record { list = map readBack r; good = true }
+row-read r h = line-back r (h .prints)
+
+not-blank : (r : List ℕ) → Readable r → isBlank (lineText r) ≡ false
+not-blank r h =
+    decide _ (isBlank (lineText r))
+    (λ b.
+    let e = ap length (sym (ap (λ (t : Tokens). t .list) (row-read r h)) ∙ blank-none (lineText r) b) in
+    let n = length-map r readBack in
+    let l = h .some in
+    absurd (omega arith))
     (λ b. b)
 
--- the lines xs as a print has them, numbered from k on
-abbrev pub printedLines : ℕ → List Line → List Numbered
+-- rows as a print has them, numbered from k on
+abbrev pub printedLines : ℕ → List (List ℕ) → List Numbered
 printedLines k [] = []
-printedLines k (x ∷ xs) = record { place = k; body = lineText (front x) } ∷ printedLines (suc k) xs
+printedLines k (r ∷ rs) = record { place = k; body = lineText r } ∷ printedLines (suc k) rs
 
-rows-numbered : (xs : List Line) (k : ℕ) → GoodTrees xs → numbered k (map lineText (map front xs)) ≡ printedLines k xs
+rows-numbered : (rs : List (List ℕ)) (k : ℕ) → AllReadable rs → numbered k (map lineText rs) ≡ printedLines k rs
 unfolding numbered
 rows-numbered [] k g = refl
-rows-numbered (x ∷ xs) k g = refused _ _ _ (not-blank x (g .0)) ∙ rw (rows-numbered xs (suc k) (g .1))
+rows-numbered (r ∷ rs) k g = refused _ _ _ (not-blank r (g .0)) ∙ rw (rows-numbered rs (suc k) (g .1))
 
 -- THE LINES WITH TOKENS OF A PRINT are its rows, numbered from 1
-pub print-lines : (xs : List Line) → GoodTrees xs → tokenLines (rowsText (map front xs)) ≡ printedLines 1 xs
+pub print-lines : (rs : List (List ℕ)) → AllReadable rs → tokenLines (rowsText rs) ≡ printedLines 1 rs
 unfolding tokenLines rowsText numbered bodies split withoutComment isBlank run
 print-lines [] g = refl
-print-lines (x ∷ xs) g = rw (rows-lines (front x) (map front xs), rows-bodies (map front (x ∷ xs))) (rows-numbered (x ∷ xs) 1 g)
+print-lines (r ∷ rs) g = rw (rows-lines r rs, rows-bodies (r ∷ rs)) (rows-numbered (r ∷ rs) 1 g)
+
+-- ---- those of lines and definitions without a fault
+
+pub line-readable : (x : Line) → GoodTree x → Readable (front x)
+line-readable (line w v n c a r) g = record { some = omega arith; prints = line-prints (line w v n c a r) (g .faultless) }
+
+pub curve-readable : (d : Definition) → GoodDefinition d → Readable (definitionFront d)
+unfolding definitionFront
+curve-readable d g = record { some = omega arith; prints = definition-prints d (g .faultless) }
+
+pub all-readable : (ds : List Definition) (xs : List Line) → GoodDefinitions ds → GoodTrees xs → AllReadable (map definitionFront ds ++ map front xs)
+all-readable [] [] g h = tt
+all-readable [] (x ∷ xs) g h = (line-readable x (h .0), all-readable [] xs g (h .1))
+all-readable (d ∷ ds) xs g h = (curve-readable d (g .0), all-readable ds xs (g .1) h)

@@ -11,24 +11,29 @@ use borrow.Author.Tests.{eqb-true, eqb-false, leb-true, le-leb, ltb-true}
 use Rattle.values.specs.Codes.{outside, notAllowed}
 use Rattle.values.specs.Choice.{either, ifNot, eitherBoth, both, and-true}
 use Rattle.values.specs.Value.{inRange, lessThan, feedOf}
+use Rattle.values.specs.Curve.{curveOf}
+use Rattle.values.specs.CurveLaws.{curve-in-range, curve-alarm}
+use Rattle.values.specs.declared.curve.Curve.{Curve}
 use Rattle.values.specs.Numbers.{clash}
-use Rattle.tokens.specs.Token.{END, EQUALS, OPEN, CLOSE, LEFT, RIGHT, IN, IM, POS, FA, MOV, M, SETAL, LOCK, UNLOCK, X, W, between, isVariable, isAxis, hasAxis, isFifo, isDrive, isCall, isWhole, whole, setSize, maxLines, isLock}
+use Rattle.tokens.specs.Token.{END, EQUALS, OPEN, CLOSE, LEFT, RIGHT, IN, IM, POS, FA, MOV, M, SETAL, LOCK, UNLOCK, SYNFCT, X, W, between, isVariable, isAxis, hasAxis, isFifo, isDrive, isCall, isWhole, whole, setSize, maxLines, isLock, isNaming}
 use Rattle.tokens.specs.Descent.{token, Answer, good, stop, _>>=_, Read, read, ends, then, isIndex, indexOf, isIndexed, indexAt, sumAt, expressionAt}
-use Rattle.tokens.specs.SingleFault.{lower, writeFault, idFault, callFault}
-use Rattle.checking.specs.Fault.{Sight, wanting, sight, faultFor, isRemoval, assignedAt, assignmentAt, commandAt, actionAt}
+use Rattle.tokens.specs.SingleFault.{lower, curveFault, readFault, writeFault, idFault, callFault}
+use Rattle.checking.specs.Fault.{Sight, wanting, sight, faultFor, isRemoval, assignedAt, assignmentAt, commandAt, isSynfct, synfctFault, synfctAt, unindexedAt, actionAt}
+use Rattle.working.specs.Variables.{variableValue}
 use Rattle.working.specs.Operators.{fromWorked}
 use Rattle.working.specs.Working.{told, valueOver, rightValue, conditionValue}
-use Rattle.engine.specs.Set.{rankIn, isKnown, soundLines}
+use Rattle.engine.specs.Set.{curveLine, rankIn, isKnown, isDefined, curvesIn, setTable, soundLines}
 use Rattle.engine.specs.Write.{Vars, changeFifo, writeTo}
-use Rattle.engine.specs.Action.{World, Taken, Did, fromValueOrAlarm, lockOf, takenAt, assignmentOf, driveOf, commandOf, actionOf}
+use Rattle.engine.specs.Action.{World, Taken, Did, fromValueOrAlarm, lockOf, takenAt, assignmentOf, curveAssigned, synfctOf, driveOf, commandOf, actionOf}
 use Rattle.engine.specs.Drive.{driveOrder}
 use Rattle.soundness.specs.GoodAnswers.{Holds, holds-then}
-use Rattle.soundness.specs.SetSoundLaws.{rank-inside}
+use Rattle.soundness.specs.SetSoundLaws.{curve-defined, rank-inside}
 use Rattle.soundness.specs.CellSoundLaws.{FlagsRight, lock-keeps}
 use Rattle.soundness.specs.WriteSoundLaws.{lower-zero, unless-zero, VarsSound, ChangedSound, remove-keeps, worked-holds, taken-alarm, write-keeps}
 use Rattle.soundness.specs.PassLaws.{between-some}
 use Rattle.soundness.specs.InStepLaws.{InStep, sum-in-step, expression-in-step}
-use Rattle.soundness.specs.WorkSoundLaws.{FitsSight, StopsSight, value-steps}
+use Rattle.soundness.specs.WorkSoundLaws.{FitsSight, StopsSight, variable-ranged, variable-calmed, calm-not-22, value-steps}
+use Rattle.soundness.specs.CurveSoundLaws.{CurveRanged, definition-ranged}
 
 -- ---- beside the check
 
@@ -97,6 +102,22 @@ module _ (s : List ℕ) where
       runs-map ValueFine (λ a. a .1) TakenSound (λ a. a .next) (fromValueOrAlarm (rightValue s (x .r) (x .cells) p)) _ (faultFor false (sumAt s sight setSize p))
       (right-runs x p h) (λ a q n r. (n, (r, h)))
 
+-- ---- curves
+
+-- a variable that the check lets be read has a value in range, or stops by an alarm
+variable-holds : (x : Vars) (w i : ℕ) → VarsSound x → readFault w i ≡ 0 → Holds (λ (v : ℤ). inRange v ≡ true) (fromWorked (variableValue (x .r) (x .cells) w i))
+variable-holds x w i h f =
+    worked-holds (λ (v : ℤ). inRange v ≡ true) (variableValue (x .r) (x .cells) w i) (variable-ranged (x .r) (x .cells) w i (h .state .ranged) (h .ranged))
+    (λ k e. calm-not-22 k (variable-calmed (x .r) (x .cells) w i h f k e))
+
+-- a curve whose parameters are in range, assigned where the check allows it, keeps the variables sound
+curve-keeps : (x : Vars) (c : Curve) (a : ℤ) (w i : ℕ) → VarsSound x → CurveRanged c → writeFault w i ≡ 0 → Holds VarsSound (curveAssigned x c a w i)
+unfolding curveAssigned
+curve-keeps x c a w i h r f =
+    holds-then (λ (y : ℤ). inRange y ≡ true) VarsSound (fromWorked (curveOf c a)) _
+    (worked-holds (λ (y : ℤ). inRange y ≡ true) (curveOf c a) (curve-in-range c a (r .lower) (r .upper)) (λ k e z. let q = curve-alarm c a k e in omega arith))
+    (λ y g. write-keeps x w i y h g f)
+
 -- ---- the beat under way
 
 -- its variables, and the flags of its lines, are sound
@@ -144,6 +165,23 @@ module _ (s : List ℕ) (sound : soundLines s .sound ≡ true) (cancelled : List
       holds-then VarsSound (λ (d : Did). (d .next ≡ q) × DidFine d) (writeTo (a .vars) w (indexAt s w p) (a .value)) _
       (write-keeps (a .vars) w (indexAt s w p) (a .value) (t .1) (t .0) f) (λ v d. (n, record { vars = d; flags = h .flags }))
 
+  -- SYNFCT of a curve of the set
+  pub synfct-runs : (x : World) (p : ℕ) → Fine x → isDefined (curvesIn s) (whole (token s (p + 2))) ≡ true → Beside (synfctOf s x p) (synfctAt s p)
+  unfolding synfctOf synfctAt synfctFault
+  synfct-runs x p h d =
+      ifNot (Beside _) (isSynfct s p) (λ e. tt) λ e f.
+      let n = whole (token s (p + 2)) in
+      let w = token s (p + 4) in
+      let i = indexAt s w (p + 4) in
+      let u = token s (p + 9) in
+      let j = indexAt s u (p + 9) in
+      let (c, g) = lower-zero (curveFault n) (lower (writeFault w i) (readFault u j)) f in
+      let (a, b) = lower-zero (writeFault w i) (readFault u j) g in
+      holds-then (λ (y : ℤ). inRange y ≡ true) (λ (d : Did). (d .next ≡ p + 14) × DidFine d) (fromWorked (variableValue (x .vars .r) (x .vars .cells) u j)) _
+      (variable-holds (x .vars) u j (h .vars) b) λ y r.
+      holds-then VarsSound (λ (d : Did). (d .next ≡ p + 14) × DidFine d) (curveAssigned (x .vars) (curveLine s n .curve) y w i) _
+      (curve-keeps (x .vars) (curveLine s n .curve) y w i (h .vars) (definition-ranged s _ (curve-defined s sound n d .0)) a) (λ v t. (refl, record { vars = t; flags = h .flags }))
+
   drive-runs : (x : World) (w p : ℕ) → Fine x → isAxis (token s (p + 2)) ≡ true → Beside (driveOf s number x w p) (faultFor false (sumAt s sight setSize (p + 5)))
   unfolding driveOf
   drive-runs x w p h axis =
@@ -184,6 +222,16 @@ module _ (s : List ℕ) (sound : soundLines s .sound ≡ true) (cancelled : List
       ifNot (λ z. Beside z (read (callFault w n) (p + 4))) (isCall w) (λ i. let on : isCall w ≡ true = both (isCall w) _ c .0 in clash (cc)) λ i f.
       lock-runs x (eqb w LOCK) n (p + 4) h (call-number w n e f) (known (call-lock w (both (isCall w) _ c .0) e))
 
+  -- a word that stands without an index
+  unindexed-runs : (kw : ℕ) (x : World) (p : ℕ) → Fine x → (isNaming (token s p) ≡ true → setTable s numbers (token s p) (whole (token s (p + 2))) ≡ true) →
+      Beside (elim (eqb (token s p) SYNFCT) [ true ↦ synfctOf s x p | false ↦ commandOf s numbers cancelled number x (token s p) p ]) (unindexedAt s kw (token s p) p)
+  unfolding unindexedAt
+  unindexed-runs kw x p h known =
+      let w = token s p in
+      eitherBoth Beside (eqb w SYNFCT)
+      (λ e. let z = eqb-true w SYNFCT e in let k = rw z at known in synfct-runs x p h (k refl)) λ e.
+      command-runs kw x w p h (λ l. let k = rw l at known in k refl)
+
   -- a word below those of the commands is none
   no-command : (kw : ℕ) (x : Answer Did) (w p : ℕ) → w < M → Beside x (commandAt s kw w p)
   unfolding commandAt
@@ -193,26 +241,30 @@ module _ (s : List ℕ) (sound : soundLines s .sound ≡ true) (cancelled : List
       ifNot (Beside x) (isCall w && (eqb (token s (p + 1)) OPEN && eqb (token s (p + 3)) CLOSE)) (λ e. tt) λ e.
       absurd (omega (arith, leb-true SETAL w (both (leb SETAL w) (leb w UNLOCK) (both (isCall w) _ e .0) .0)))
 
+  no-unindexed : (kw : ℕ) (x : Answer Did) (w p : ℕ) → w < M → Beside x (unindexedAt s kw w p)
+  unfolding unindexedAt
+  no-unindexed kw x w p l = ifNot (Beside x) (eqb w SYNFCT) (λ e. no-command kw x w p l) (λ e. absurd (omega (arith, eqb-true w SYNFCT e)))
+
   -- a line's end is no action
   no-action : (kw : ℕ) (x : Answer Did) (p : ℕ) → token s p ≡ END → Beside x (actionAt s kw setSize p)
   unfolding actionAt assignmentAt
   no-action kw x p z =
-      ifNot (Beside x) (isIndexed s (token s p) p) (λ i. no-command kw x (token s p) p (omega arith)) λ i.
+      ifNot (Beside x) (isIndexed s (token s p) p) (λ i. no-unindexed kw x (token s p) p (omega arith)) λ i.
       ifNot (Beside x) (eqb (token s (p + 4)) EQUALS) (λ q. tt) λ q.
       either (Beside x) (isVariable (token s p)) (λ v. absurd (between-some IN IM (token s p) (omega arith) v z)) λ v.
       either (Beside x) (isDrive (token s p)) (λ d. absurd (between-some POS MOV (token s p) (omega arith) d z)) λ d. tt
 
   -- an action
-  pub action-runs : (kw : ℕ) (x : World) (p : ℕ) → Fine x → (isLock (token s p) ≡ true → isKnown numbers (whole (token s (p + 2))) ≡ true) →
+  pub action-runs : (kw : ℕ) (x : World) (p : ℕ) → Fine x → (isNaming (token s p) ≡ true → setTable s numbers (token s p) (whole (token s (p + 2))) ≡ true) →
       Beside (actionOf s numbers cancelled number x p) (actionAt s kw setSize p)
   unfolding actionOf actionAt assignmentAt
   action-runs kw x p h known =
       let w = token s p in
       either (λ z. Beside z (actionAt s kw setSize p)) (eqb w END) (λ e. no-action kw _ p (eqb-true w END e)) λ e.
       ifNot (Beside _) (isIndexed s w p)
-      (λ i. either (λ z. Beside z (commandAt s kw w p)) (isVariable w) (λ v. no-command kw _ w p (omega (arith, leb-true w IM (both (leb IN w) (leb w IM) v .1)))) λ v.
-      either (λ z. Beside z (commandAt s kw w p)) (isDrive w) (λ d. no-command kw _ w p (omega (arith, leb-true w MOV (both (leb POS w) (leb w MOV) d .1)))) λ d.
-      command-runs kw x w p h known) λ i.
+      (λ i. either (λ z. Beside z (unindexedAt s kw w p)) (isVariable w) (λ v. no-unindexed kw _ w p (omega (arith, leb-true w IM (both (leb IN w) (leb w IM) v .1)))) λ v.
+      either (λ z. Beside z (unindexedAt s kw w p)) (isDrive w) (λ d. no-unindexed kw _ w p (omega (arith, leb-true w MOV (both (leb POS w) (leb w MOV) d .1)))) λ d.
+      unindexed-runs kw x p h known) λ i.
       ifNot (Beside _) (eqb (token s (p + 4)) EQUALS) (λ q. tt) λ q.
       eitherBoth Beside (isVariable w) (λ v. assignment-runs x w p h) λ v.
       eitherBoth Beside (isDrive w) (λ d. drive-runs x w p h (drive-axis s w p i d)) (λ d. tt)

@@ -1,48 +1,31 @@
 -- Laws of the codes that stop a working: whatever is read, written or worked in a turn, of any set and any state, stops only by 22 or an alarm of 30 to 34. Nothing is assumed.
 use mathlib.Core.Path.{refl}
 use mathlib.Core.Logic.{inl, inr}
-use mathlib.Core.Bool.{Bool, true, false, _||_}
+use mathlib.Core.Bool.{Bool, true, false}
 use mathlib.Core.List.{List}
 use Prim.Native.Nat.{ℕ, zero, suc, _+_}
 use lib.Dec.{eqb, ltb}
 use lib.IntN.{ℤ, pos, natAbs}
-use lib.ListN.{length, getD}
+use lib.ListN.{getD}
 use Rattle.values.specs.Codes.{unsound, outOfRange, zeroDivisor, fifoEmpty, fifoFull, notAllowed}
 use Rattle.values.specs.Choice.{either, either-cond, ifNot}
-use Rattle.values.specs.Value.{unit, inRange, lessThan, equalTo, valued, sumOf, differenceOf, productOf, quotientOf, negationOf, markerOf, outputOf, feedOf}
-use Rattle.values.specs.Fifo.{places, fits, asFifoValue, appendAnswer, removeAnswer, emptyAnswer, sumFirst, oldestOf, newestOf, totalOf, countOf}
-use Rattle.values.specs.declared.arithmetic.Worked.{Worked}
-use Rattle.values.specs.declared.arithmetic.Worked.the-variants as W
-use Rattle.values.specs.declared.fifo.FifoValue.{FifoValue}
-use Rattle.values.specs.declared.fifo.FifoValue.the-variants as S
-use Rattle.values.specs.declared.fifo.Moved.{Moved}
-use Rattle.values.specs.declared.fifo.Moved.the-variants as M
-use Rattle.tokens.specs.Token.{END, MARKER, PARAM, OUT, TIMER, R, M, POS, FA, SETAL, TRUE, FALSE, OPEN, CLOSE, MINUS, PLUS, NOT, TIMES, OVER, isNumber, isVariable, isFifo, isDrive, isFactor, isTerm, isCompare, whole, numberCarried, setSize, maxLines, maxActions, isAxis, isCall}
-use Rattle.tokens.specs.Descent.{token, Answer, good, stop, _>>=_, Read, read, ends, then, upTo, Meaning, isRow, isIndexed, indexAt, joined, more, readProduct, readSum, readRest, readExpression, readClose, readVariable, readTruth, operandFrom, readOperand, sumAt, expressionAt}
-use Rattle.tokens.specs.Index.{isInside}
+use Rattle.values.specs.Value.{lessThan, sumOf, differenceOf, productOf, quotientOf, negationOf, feedOf}
+use Rattle.tokens.specs.Token.{END, M, POS, FA, SETAL, TRUE, FALSE, OPEN, CLOSE, MINUS, PLUS, NOT, TIMES, OVER, SYNFCT, isNumber, isVariable, isDrive, isFactor, isTerm, isCompare, whole, numberCarried, setSize, maxLines, maxActions, isAxis, isCall}
+use Rattle.tokens.specs.Descent.{token, Answer, good, stop, Read, read, ends, then, upTo, Meaning, isRow, isIndexed, indexAt, joined, more, readProduct, readSum, readRest, readExpression, readClose, readVariable, readTruth, operandFrom, readOperand, sumAt, expressionAt}
 use Rattle.checking.specs.Fault.{isRemoval}
 use Rattle.checking.specs.declared.line.Line.{Line}
 use Rattle.working.specs.Operators.{fromWorked, joinValues}
-use Rattle.working.specs.Variables.{fifoOf, run, beatCount, fromFifoValue, fifoValue, fifoAt, variableValue}
+use Rattle.working.specs.Variables.{variableValue}
 use Rattle.working.specs.Working.{told, valueOver, conditionValue, rightValue}
 use Rattle.engine.specs.Set.{noLine, rankIn}
-use Rattle.engine.specs.Write.{Vars, Celled, moved, changeAnswer, changeFifo, writeFifo, writeCell, writeInside, writeTo}
+use Rattle.engine.specs.Write.{Vars, changeFifo, writeTo}
 use Rattle.engine.specs.Drive.{driveOrder}
 use Rattle.engine.specs.Action.{World, Did, alarmOf, fromValueOrAlarm, lockOf, takenAt, assignmentOf, driveOf, commandOf, actionOf}
 use Rattle.engine.specs.Actions.{actionsOf}
 use Rattle.engine.specs.Keyword.{tries}
 use Rattle.engine.specs.Turn.{Entry, takesTurn, doTurn, tryTurn, turnOf, turnsFrom}
 use Rattle.soundness.specs.AnswerCodes.{OneOf, turnCodes}
-
--- ---- what stops, stops by such a code
-
-abbrev pub StopsBy : {A : Type 0} → (ℕ → Type 0) → Answer A → Type 0
-StopsBy P (good a) = Unit {0}
-StopsBy P (stop c) = P c
-
-pub stops-then : {A B : Type 0} (P : ℕ → Type 0) (x : Answer A) (f : A → Answer B) → StopsBy P x → ((a : A) → StopsBy P (f a)) → StopsBy P (x >>= f)
-stops-then P (good a) f h k = k a
-stops-then P (stop c) f h k = h
+use Rattle.soundness.specs.VariableCodeLaws.{StopsBy, stops-then, Such, WorkedBy, from-worked, valued-by, variable-by, fifo-change-by, write-by, synfct-by}
 
 -- ---- reading, over any meaning
 
@@ -146,64 +129,29 @@ is-33 = inr (inr (inr (inr (inl refl))))
 is-34 : TurnCode notAllowed
 is-34 = inr (inr (inr (inr (inr (inl refl)))))
 
--- what was worked, in each way that the code holds it
-abbrev WorkedBy : Worked → Type 0
-WorkedBy (W.Value v) = Unit {0}
-WorkedBy (W.Alarm c) = TurnCode c
+-- what variables and curves stop by is among them
+such : Such TurnCode
+such = record { is-22 = is-22; is-30 = is-30; is-32 = is-32; is-33 = is-33; is-34 = is-34 }
 
-abbrev FifoBy : FifoValue → Type 0
-FifoBy x = WorkedBy (fromFifoValue x)
-
-abbrev MovedBy : Moved → Type 0
-MovedBy (M.Done v n) = Unit {0}
-MovedBy (M.Alarm c) = TurnCode c
-MovedBy M.Unfit = Unit {0}
-
-from-worked : (x : Worked) → WorkedBy x → StopsBy TurnCode (fromWorked x)
-from-worked (W.Value v) h = tt
-from-worked (W.Alarm c) h = h
-
-valued-by : (z : ℤ) → WorkedBy (valued z)
-unfolding valued
-valued-by z = either-cond WorkedBy (inRange z) _ _ tt is-30
-
-asked-by : (x : Worked) → WorkedBy x → FifoBy (asFifoValue x)
-asked-by (W.Value v) h = tt
-asked-by (W.Alarm c) h = h
-
-fifo-by : (xs : List ℤ) (n i : ℕ) → WorkedBy (fifoValue xs n i)
-unfolding fifoValue oldestOf newestOf totalOf countOf
-fifo-by xs n i =
-    let f = fits (length xs) n in
-    either WorkedBy (eqb i 1) (λ e. either-cond FifoBy f _ _ (either-cond FifoBy (eqb n 0) _ _ is-32 tt) is-22) λ e.
-    either WorkedBy (eqb i 2) (λ e. either-cond FifoBy f _ _ (either-cond FifoBy (eqb n 0) _ _ is-32 tt) is-22) λ e.
-    either WorkedBy (eqb i 3) (λ e. either-cond FifoBy f _ _ (asked-by (valued (sumFirst xs n)) (valued-by (sumFirst xs n))) is-22) λ e.
-    either WorkedBy (eqb i 4) (λ e. either-cond FifoBy f _ _ tt is-22) (λ e. is-22)
-
-variable-by : (r c : List ℤ) (w i : ℕ) → WorkedBy (variableValue r c w i)
-unfolding variableValue fifoAt
-variable-by r c w i =
-    either WorkedBy (isInside w i) (λ e. either WorkedBy (eqb w R) (λ e. tt) (λ e. either WorkedBy (isFifo w) (λ e. fifo-by (run r (fifoOf w)) (beatCount c (fifoOf w)) i) (λ e. tt))) (λ e. is-22)
-
-quotient-by : (a b : ℤ) → WorkedBy (quotientOf a b)
+quotient-by : (a b : ℤ) → WorkedBy TurnCode such (quotientOf a b)
 unfolding quotientOf
-quotient-by a b = either-cond WorkedBy (eqb (natAbs b) 0) _ _ is-31 (valued-by _)
+quotient-by a b = either-cond (WorkedBy TurnCode such) (eqb (natAbs b) 0) _ _ is-31 (valued-by TurnCode such _)
 
 join-by : (o : ℕ) (a b : ℤ) → StopsBy TurnCode (joinValues o a b)
 unfolding joinValues productOf sumOf differenceOf
 join-by o a b =
     let P : Answer ℤ → Type 0 = StopsBy TurnCode in
-    either P (eqb o TIMES) (λ e. from-worked (productOf a b) (valued-by _)) λ e.
-    either P (eqb o OVER) (λ e. from-worked (quotientOf a b) (quotient-by a b)) λ e.
-    either P (eqb o PLUS) (λ e. from-worked (sumOf a b) (valued-by _)) λ e.
-    either P (eqb o MINUS) (λ e. from-worked (differenceOf a b) (valued-by _)) (λ e. tt)
+    either P (eqb o TIMES) (λ e. from-worked TurnCode such (productOf a b) (valued-by TurnCode such _)) λ e.
+    either P (eqb o OVER) (λ e. from-worked TurnCode such (quotientOf a b) (quotient-by a b)) λ e.
+    either P (eqb o PLUS) (λ e. from-worked TurnCode such (sumOf a b) (valued-by TurnCode such _)) λ e.
+    either P (eqb o MINUS) (λ e. from-worked TurnCode such (differenceOf a b) (valued-by TurnCode such _)) (λ e. tt)
 
 value-codes : (r c : List ℤ) → Codes TurnCode (valueOver r c)
 unfolding valueOver negationOf
 value-codes r c = record {
   number = λ n. tt;
-  variable = λ w i. from-worked (variableValue r c w i) (variable-by r c w i);
-  minus = λ a. from-worked (negationOf a) (valued-by _);
+  variable = λ w i. from-worked TurnCode such (variableValue r c w i) (variable-by TurnCode such r c w i);
+  minus = λ a. from-worked TurnCode such (negationOf a) (valued-by TurnCode such _);
   join = join-by;
   wrong = is-22;
 }
@@ -225,53 +173,18 @@ condition-by : (s : List ℕ) (r c : List ℤ) (p : ℕ) → StopsBy TurnCode (f
 unfolding conditionValue
 condition-by s r c p = told-by (expressionAt s (valueOver r c) setSize p) (expressionAt-told TurnCode s (valueOver r c) (value-codes r c) setSize p)
 
--- ---- writing
-
-change-by : (op : ℕ) (xs : List ℤ) (n : ℕ) (v : ℤ) → MovedBy (changeAnswer op xs n v)
-unfolding changeAnswer appendAnswer removeAnswer emptyAnswer
-change-by op xs n v =
-    let f = fits (length xs) n in
-    either-cond MovedBy (eqb op 0) _ _ (either-cond MovedBy f _ _ (either-cond MovedBy (eqb n places) _ _ is-33 tt) tt)
-    (either-cond MovedBy (eqb op 1) _ _ (either-cond MovedBy f _ _ (either-cond MovedBy (eqb n 0) _ _ is-32 tt) tt)
-    (either-cond MovedBy f _ _ (either-cond MovedBy (equalTo v (pos 0)) _ _ tt is-34) tt))
-
-moved-by : (r c : List ℤ) (k : ℕ) (xs : List ℤ) (m : Moved) → MovedBy m → StopsBy TurnCode (moved r c k xs m)
-moved-by r c k xs (M.Done v n) h = tt
-moved-by r c k xs (M.Alarm a) h = h
-moved-by r c k xs M.Unfit h = is-22
-
-fifo-change-by : (r c : List ℤ) (op w : ℕ) (v : ℤ) → StopsBy TurnCode (changeFifo r c op w v)
-unfolding changeFifo
-fifo-change-by r c op w v = moved-by r c (fifoOf w) _ (changeAnswer op (run r (fifoOf w)) (beatCount c (fifoOf w)) v) (change-by op (run r (fifoOf w)) (beatCount c (fifoOf w)) v)
-
-write-by : (x : Vars) (w i : ℕ) (v : ℤ) → StopsBy TurnCode (writeTo x w i v)
-unfolding writeTo writeInside writeFifo writeCell markerOf outputOf
-write-by x w i v =
-    let P : Answer Vars → Type 0 = StopsBy TurnCode in
-    let C : Answer Celled → Type 0 = StopsBy TurnCode in
-    either P (isInside w i)
-    (λ e. either P (eqb w R) (λ e. tt) λ e.
-    either P (isFifo w)
-    (λ e. either P (eqb i 0) (λ e. stops-then TurnCode (changeFifo (x .r) (x .cells) 0 w v) _ (fifo-change-by (x .r) (x .cells) 0 w v) (λ a. tt)) λ e.
-    either P (eqb i 4) (λ e. stops-then TurnCode (changeFifo (x .r) (x .cells) 2 w v) _ (fifo-change-by (x .r) (x .cells) 2 w v) (λ a. tt)) (λ e. is-22)) λ e.
-    stops-then TurnCode (writeCell (x .cells) (x .runs) w i v) _
-    (either C (eqb w MARKER) (λ e. stops-then TurnCode (fromWorked (markerOf v)) _ (from-worked (markerOf v) (either-cond WorkedBy (inRange v) _ _ tt is-30)) (λ u. tt)) λ e. either C (eqb w PARAM) (λ e. tt) λ e.
-    either C (eqb w OUT) (λ e. stops-then TurnCode (fromWorked (outputOf v)) _ (from-worked (outputOf v) (either-cond WorkedBy (equalTo v (pos 0) || equalTo v (pos unit)) _ _ tt is-34)) (λ u. tt)) λ e.
-    either C (eqb w TIMER) (λ e. tt) (λ e. is-22)) (λ a. tt))
-    (λ e. is-22)
-
 -- ---- actions and turns
 
 drive-by : (number w axis : ℕ) (v : ℤ) → StopsBy TurnCode (driveOrder number w axis v)
 unfolding driveOrder feedOf
 drive-by number w axis v =
     either (StopsBy TurnCode) (eqb w POS) (λ e. tt) λ e.
-    either (StopsBy TurnCode) (eqb w FA) (λ e. stops-then TurnCode (fromWorked (feedOf v)) _ (from-worked (feedOf v) (either-cond WorkedBy (lessThan (pos 0) v) _ _ tt is-34)) (λ u. tt)) (λ e. tt)
+    either (StopsBy TurnCode) (eqb w FA) (λ e. stops-then TurnCode (fromWorked (feedOf v)) _ (from-worked TurnCode such (feedOf v) (either-cond (WorkedBy TurnCode such) (lessThan (pos 0) v) _ _ tt is-34)) (λ u. tt)) (λ e. tt)
 
 taken-by : (s : List ℕ) (x : Vars) (p : ℕ) → StopsBy TurnCode (takenAt s x p)
 unfolding takenAt
 taken-by s x p =
-    either (StopsBy TurnCode) (isRemoval s p) (λ e. stops-then TurnCode (changeFifo (x .r) (x .cells) 1 (getD s p 0) (pos 0)) _ (fifo-change-by (x .r) (x .cells) 1 (getD s p 0) (pos 0)) (λ a. tt))
+    either (StopsBy TurnCode) (isRemoval s p) (λ e. stops-then TurnCode (changeFifo (x .r) (x .cells) 1 (getD s p 0) (pos 0)) _ (fifo-change-by TurnCode such (x .r) (x .cells) 1 (getD s p 0) (pos 0)) (λ a. tt))
     (λ e. stops-then TurnCode (fromValueOrAlarm (rightValue s (x .r) (x .cells) p)) _ (right-by s (x .r) (x .cells) p) (λ a. tt))
 
 module _ (s numbers : List ℕ) (cancelled : List Bool) where
@@ -284,11 +197,12 @@ module _ (s numbers : List ℕ) (cancelled : List Bool) where
       either P (eqb w END) (λ e. is-22) λ e.
       either P (isVariable w)
       (λ e. stops-then TurnCode (takenAt s (x .vars) (p + 5)) _ (taken-by s (x .vars) (p + 5)) λ a.
-      stops-then TurnCode (writeTo (a .vars) w (indexAt s w p) (a .value)) _ (write-by (a .vars) w (indexAt s w p) (a .value)) (λ v. tt)) λ e.
+      stops-then TurnCode (writeTo (a .vars) w (indexAt s w p) (a .value)) _ (write-by TurnCode such (a .vars) w (indexAt s w p) (a .value)) (λ v. tt)) λ e.
       either P (isDrive w)
       (λ e. ifNot P (isAxis (token s (p + 2))) (λ e. is-22) λ e.
       stops-then TurnCode (fromValueOrAlarm (rightValue s (x .vars .r) (x .vars .cells) (p + 5))) _ (right-by s (x .vars .r) (x .vars .cells) (p + 5)) λ a.
       stops-then TurnCode (driveOrder number w (indexAt s w p) (a .0)) _ (drive-by number w (indexAt s w p) (a .0)) (λ o. tt)) λ e.
+      either P (eqb w SYNFCT) (λ e. synfct-by TurnCode such s x p) λ e.
       either P (eqb w M) (λ e. tt) λ e.
       either P (eqb w SETAL) (λ e. tt) λ e.
       ifNot P (isCall w) (λ e. is-22) λ e.

@@ -14,6 +14,10 @@ OneOf x (y ∷ ys) = (y ≡ x) ⊎ OneOf x ys
 abbrev pub turnCodes : List ℕ
 turnCodes = unsound ∷ outOfRange ∷ zeroDivisor ∷ fifoEmpty ∷ fifoFull ∷ notAllowed ∷ []
 
+-- the alarms of SYNFCT: it divides nothing
+abbrev pub synfctCodes : List ℕ
+synfctCodes = outOfRange ∷ fifoEmpty ∷ fifoFull ∷ notAllowed ∷ []
+
 -- what may stop a beat: its checks, and what may end its turns
 abbrev pub beatCodes : List ℕ
 beatCodes = shortBuffer ∷ wrongNumbers ∷ turnCodes

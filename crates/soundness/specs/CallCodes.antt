@@ -1,5 +1,5 @@
 -- WHAT EACH CALL ANSWERS: the codes of a beat and of a host's call, for any set and any state; and a beat that stopped never answers 0. Theorems; nothing is assumed.
--- (A load's are 0 to 12: `code-last` of loading.)
+-- (A load's are 0 to 13: `code-last` of loading.)
 use mathlib.Core.Path.{_≡_, refl}
 use mathlib.Core.Logic.{_≢_, inl, inr}
 use mathlib.Core.Bool.{Bool, true, false, _&&_}
@@ -22,7 +22,8 @@ use Rattle.engine.specs.Beat.{bufferSize, areInputs, Given, allTurns, beatBegun
 use Rattle.engine.specs.NamedLine.{foundAt, found}
 use Rattle.engine.specs.Calls.{withLocked, withCancelled, called, lockedCall, lockCall, unlockCall, cancelCall, resetCall}
 use Rattle.soundness.specs.AnswerCodes.{OneOf, beatCodes, hostCodes}
-use Rattle.soundness.specs.AnswerCodeLaws.{StopsBy, stops-then, TurnCode, turns-by}
+use Rattle.soundness.specs.VariableCodeLaws.{StopsBy, stops-then}
+use Rattle.soundness.specs.AnswerCodeLaws.{TurnCode, turns-by}
 
 -- ---- a beat
 

@@ -15,7 +15,7 @@ use Rattle.tokens.specs.Descent.{token, good, _>>=_, Read, read, ends, then, ex
 use Rattle.tokens.specs.SingleFault.{lower, opensTooMany}
 use Rattle.checking.specs.Fault.{sight, faultFor, countFault, actionAt, actionsAt, faultyLine, lineParts, bodyAt, restAt, lineAt}
 use Rattle.checking.specs.declared.line.Line.{Line}
-use Rattle.engine.specs.Set.{namesKnown, lockTable, soundLines}
+use Rattle.engine.specs.Set.{namesKnown, setTable, soundLines}
 use Rattle.engine.specs.Action.{World, Did, actionOf}
 use Rattle.engine.specs.Actions.{actionsOf}
 use Rattle.soundness.specs.GoodAnswers.{Holds, holds-then}
@@ -60,9 +60,9 @@ module _ (s : List ℕ) (kw k : ℕ) where
 
 -- ---- and as they are done
 
--- in a line that begins at `start` and names only lines of the set
+-- in a line that begins at `start` and names only lines and curves of the set
 module _ (s : List ℕ) (sound : soundLines s .sound ≡ true) (size : length s ≤ setSize) (cancelled : List Bool) (number kw start : ℕ)
-    (names : namesKnown s (lockTable (soundLines s .numbers)) setSize start ≡ true) where
+    (names : namesKnown s (setTable s (soundLines s .numbers)) setSize start ≡ true) where
   abbrev DidFine : Did → Type 0
   DidFine d = WorldSound (soundLines s .count) cancelled (d .world)
 
@@ -73,7 +73,7 @@ module _ (s : List ℕ) (sound : soundLines s .sound ≡ true) (size : length s 
   actions-keep zero m n f x p t h k c = absurd (omega (arith, first-clear s kw setSize m n f p c .1))
   actions-keep (suc j) zero n f x p t h k c = absurd c
   actions-keep (suc j) (suc m) n f x p t h k c =
-      by-action (actionAt s kw setSize p) (action-runs s sound cancelled number kw x p h (names-known s (lockTable (soundLines s .numbers)) start p size names k)) (action-past s kw setSize p) c
+      by-action (actionAt s kw setSize p) (action-runs s sound cancelled number kw x p h (names-known s (setTable s (soundLines s .numbers)) start p size names k)) (action-past s kw setSize p) c
       (λ g x q. actions-keep j m (n + 1) (lower f g) x q (omega arith))
     where
       by-action : (y : Read ℕ) → Runs DidFine (λ d. d .next) (actionOf s (soundLines s .numbers) cancelled number x p) y → Past s p y → Clear (then y (λ g q. afterAction s kw setSize m n f g q)) →

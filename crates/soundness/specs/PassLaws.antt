@@ -1,4 +1,4 @@
--- Laws of places: what is read, by any meaning, passes no line's end; so each LOCK and UNLOCK that is reached names a line of the set. Nothing is assumed.
+-- Laws of places: what is read, by any meaning, passes no line's end; so each LOCK, UNLOCK and SYNFCT that is reached names a line or a curve of the set. Nothing is assumed.
 use mathlib.Core.Path.{_≡_, refl}
 use mathlib.Core.Bool.{Bool, true, false, cond, _&&_}
 use mathlib.Core.List.{List}
@@ -10,9 +10,9 @@ use lib.ListN.{length, List·getD-eq-default}
 use borrow.Author.Tests.{eqb-true, leb-true, ne-eqb}
 use Rattle.values.specs.Choice.{either, ifNot, both}
 use Rattle.values.specs.Numbers.{clash}
-use Rattle.tokens.specs.Token.{END, EQUALS, OPEN, CLOSE, LEFT, RIGHT, TRUE, FALSE, MINUS, NOT, FIFO1, FIFO4, M, NUMBER, X, W, IN, IM, POS, MOV, LOCK, UNLOCK, SETAL, between, isNumber, isVariable, hasAxis, isAxis, isDrive, isCall, isFifo, isFactor, isTerm, isCompare, isLogic, isWhole, numberCarried, whole, setSize, isNaming}
+use Rattle.tokens.specs.Token.{END, EQUALS, OPEN, CLOSE, LEFT, RIGHT, TRUE, FALSE, MINUS, NOT, COMMA, FIFO1, FIFO4, M, NUMBER, X, W, IN, IM, POS, MOV, UNLOCK, SETAL, SYNFCT, between, isNumber, isVariable, hasAxis, isAxis, isDrive, isCall, isFifo, isFactor, isTerm, isCompare, isLogic, isWhole, numberCarried, whole, setSize, isNaming}
 use Rattle.tokens.specs.Descent.{token, Answer, good, stop, Read, read, ends, then, upTo, Meaning, isRow, isIndex, isIndexed, indexAt, joined, more, readProduct, readSum, readRest, readExpression, readClose, readVariable, readTruth, operandFrom, readOperand, sumAt, expressionAt}
-use Rattle.checking.specs.Fault.{Sight, sight, faultFor, isRemoval, assignedAt, assignmentAt, commandAt, actionAt}
+use Rattle.checking.specs.Fault.{Sight, sight, faultFor, isRemoval, assignedAt, assignmentAt, commandAt, isGiven, isSynfct, synfctAt, unindexedAt, actionAt}
 use Rattle.engine.specs.Set.{namesKnown}
 
 -- a token that does not end a line
@@ -30,6 +30,10 @@ equal-some t a l h e = let q = eqb-true t a h in omega arith
 -- a number
 pub number-some : (t : ℕ) → isNumber t ≡ true → NoEnd t
 number-some t h e = let a = leb-true NUMBER t h in omega arith
+
+-- a word that names a line or a curve
+naming-some : (t : ℕ) → isNaming t ≡ true → NoEnd t
+naming-some t h e = let g = rw e at h in clash (cc)
 
 module _ (s : List ℕ) where
   -- from p up to q no line ends
@@ -208,26 +212,57 @@ module _ (s : List ℕ) where
       behind : (y : Read ℕ) → NoEnd (token s p) → Past (p + 5) y → Past p y
       behind y n h = past-from p (p + 5) y (front n) h
 
+  -- two tokens and a whole number
+  three-past : (p : ℕ) → NoEnd (token s p) → NoEnd (token s (p + 1)) → isWhole (token s (p + 2)) ≡ true → Passed p (p + 3)
+  three-past p a b w = passed-next p (p + 2) (p + 3) (passed-next p (p + 1) (p + 2) (passed-one p a) (omega arith) b) (omega arith) (number-some (token s (p + 2)) (both (isNumber (token s (p + 2))) _ w .0))
+
   command-past : (kw p : ℕ) → Past p (commandAt s kw (token s p) p)
   unfolding commandAt
   command-past kw p =
       ifNot (Past p) (isWhole (token s (p + 2))) (λ w. tt) λ w.
       either (Past p) (eqb (token s p) M)
-      (λ m. ifNot (Past p) (eqb (token s (p + 1)) EQUALS) (λ q. tt) (λ q. three (equal-some (token s p) M (omega arith) m) (equal-some (token s (p + 1)) EQUALS (omega arith) q) w)) λ m.
+      (λ m. ifNot (Past p) (eqb (token s (p + 1)) EQUALS) (λ q. tt) (λ q. three-past p (equal-some (token s p) M (omega arith) m) (equal-some (token s (p + 1)) EQUALS (omega arith) q) w)) λ m.
       ifNot (Past p) (isCall (token s p) && (eqb (token s (p + 1)) OPEN && eqb (token s (p + 3)) CLOSE)) (λ c. tt) λ c.
       let d = both (isCall (token s p)) _ c .1 in
       let n = between-some SETAL UNLOCK (token s p) (omega arith) (both (isCall (token s p)) _ c .0) in
       let o = equal-some (token s (p + 1)) OPEN (omega arith) (both (eqb (token s (p + 1)) OPEN) _ d .0) in
-      passed-next p (p + 3) (p + 4) (three n o w) (omega arith) (equal-some (token s (p + 3)) CLOSE (omega arith) (both (eqb (token s (p + 1)) OPEN) _ d .1))
-    where
-      three : NoEnd (token s p) → NoEnd (token s (p + 1)) → isWhole (token s (p + 2)) ≡ true → Passed p (p + 3)
-      three a b w = passed-next p (p + 2) (p + 3) (passed-next p (p + 1) (p + 2) (passed-one p a) (omega arith) b) (omega arith) (number-some (token s (p + 2)) (both (isNumber (token s (p + 2))) _ w .0))
+      passed-next p (p + 3) (p + 4) (three-past p n o w) (omega arith) (equal-some (token s (p + 3)) CLOSE (omega arith) (both (eqb (token s (p + 1)) OPEN) _ d .1))
+
+  -- , and a variable with its index
+  given-past : (p : ℕ) → isGiven s p ≡ true → Passed p (p + 5)
+  unfolding isGiven
+  given-past p h =
+      let (c, g) = both (eqb (token s p) COMMA) _ h in
+      let (v, i) = both (isVariable (token s (p + 1))) _ g in
+      let q : p + 1 + 4 ≡ p + 5 = omega arith in
+      passed-on p (p + 1) (p + 5) (passed-one p (equal-some (token s p) COMMA (omega arith) c))
+      (rw q at (indexed-past (token s (p + 1)) (p + 1) (between-some IN IM (token s (p + 1)) (omega arith) v) i))
+
+  synfct-past : (p : ℕ) → NoEnd (token s p) → Past p (synfctAt s p)
+  unfolding synfctAt isSynfct
+  synfct-past p n =
+      ifNot (Past p) (isSynfct s p) (λ e. tt) λ e.
+      let (o, f) = both (eqb (token s (p + 1)) OPEN) _ e in
+      let (w, g) = both (isWhole (token s (p + 2))) _ f in
+      let (a, h) = both (isGiven s (p + 3)) _ g in
+      let (b, c) = both (isGiven s (p + 8)) _ h in
+      let q : p + 3 + 5 ≡ p + 8 = omega arith in
+      let r : p + 8 + 5 ≡ p + 13 = omega arith in
+      passed-next p (p + 13) (p + 14)
+      (passed-on p (p + 8) (p + 13)
+      (passed-on p (p + 3) (p + 8) (three-past p n (equal-some (token s (p + 1)) OPEN (omega arith) o) w) (rw q at (given-past (p + 3) a)))
+      (rw r at (given-past (p + 8) b)))
+      (omega arith) (equal-some (token s (p + 13)) CLOSE (omega arith) c)
+
+  unindexed-past : (kw p : ℕ) → Past p (unindexedAt s kw (token s p) p)
+  unfolding unindexedAt
+  unindexed-past kw p = either (Past p) (eqb (token s p) SYNFCT) (λ e. synfct-past p (equal-some (token s p) SYNFCT (omega arith) e)) (λ e. command-past kw p)
 
   -- an action that the check reads
   pub action-past : (kw k p : ℕ) → Past p (actionAt s kw k p)
   unfolding actionAt
   action-past kw k p =
-      ifNot (Past p) (isIndexed s (token s p) p) (λ i. command-past kw p) λ i.
+      ifNot (Past p) (isIndexed s (token s p) p) (λ i. unindexed-past kw p) λ i.
       ifNot (Past p) (eqb (token s (p + 4)) EQUALS) (λ q. tt) (λ q. assignment-past k p i q)
 
   -- ---- the names in a line
@@ -253,7 +288,7 @@ module _ (s : List ℕ) where
       by-place : Dec (q ≡ p) → (namesKnown s known left (p + 1) ≡ true → Passed (p + 1) q → known (token s q) (whole (token s (q + 2))) ≡ true) → known (token s q) (whole (token s (q + 2))) ≡ true
       by-place (yes z) rest =
           let g = rw z at e in
-          rw z (here (eqb (token s p) END) (isNaming (token s p)) (known (token s p) (whole (token s (p + 2)))) (ne-eqb (token s p) END (between-some LOCK UNLOCK (token s p) (omega arith) g)) g h)
+          rw z (here (eqb (token s p) END) (isNaming (token s p)) (known (token s p) (whole (token s (p + 2)))) (ne-eqb (token s p) END (naming-some (token s p) g)) g h)
       by-place (no z) rest =
           rest (later (eqb (token s p) END) (isNaming (token s p)) (known (token s p) (whole (token s (p + 2)))) (ne-eqb (token s p) END (k .some p (omega arith) (omega (arith, k .on, z)))) h)
           (record { on = omega (arith, k .on, z); some = λ i l m. k .some i (omega arith) m })
@@ -264,4 +299,4 @@ module _ (s : List ℕ) where
     where
       by-place : Dec (q < length s) → q < p + setSize
       by-place (yes m) = omega arith
-      by-place (no m) = absurd (between-some LOCK UNLOCK (token s q) (omega arith) e (List·getD-eq-default s 0 {n = q} (omega (arith, m))))
+      by-place (no m) = absurd (naming-some (token s q) e (List·getD-eq-default s 0 {n = q} (omega (arith, m))))

@@ -73,6 +73,11 @@ calm-code : (k : ℕ) → 0 < k → k ≤ 255 → Not22 k → Calm k
 unfolding alarmOf lessThan
 calm-code k p l h = rw (le-ltb k 1 p, le-ltb 255 k l) h
 
+-- so it is another itself
+pub calm-not-22 : (k : ℕ) → Calm k → Not22 k
+unfolding alarmOf lessThan
+calm-not-22 k c e = let d = rw e at c in d refl
+
 -- the alarm of what was worked, if it is one
 abbrev pub Calmed : Worked → Type 0
 Calmed x = (k : ℕ) → x ≡ W.Alarm k → Calm k
@@ -111,7 +116,7 @@ fifo-calmed xs n i s l z m =
     absurd (omega (arith, eqb-false i 0 z, eqb-false i 1 e1, eqb-false i 2 e2, eqb-false i 3 e3, eqb-false i 4 e4))
 
 -- a variable that the check lets be read
-variable-calmed : (r c : List ℤ) (w i : ℕ) → BeatSound r c → readFault w i ≡ 0 → Calmed (variableValue r c w i)
+pub variable-calmed : (r c : List ℤ) (w i : ℕ) → BeatSound r c → readFault w i ≡ 0 → Calmed (variableValue r c w i)
 unfolding variableValue fifoAt readFault
 variable-calmed r c w i h f =
     let g = lower-zero (unless (isInside w i) outside) (unless (not (isFifo w && eqb i 0)) readOnly) f in
@@ -143,7 +148,7 @@ truth-ranged : (b : Bool) → inRange (yesNo b) ≡ true
 truth-ranged true = abs-range (pos 1) (omega arith)
 truth-ranged false = abs-range (pos 0) (omega arith)
 
-number-fits : (n : ℕ) → numberFault n ≡ 0 → inRange (pos (thousandths n)) ≡ true
+pub number-fits : (n : ℕ) → numberFault n ≡ 0 → inRange (pos (thousandths n)) ≡ true
 unfolding numberFault
 number-fits n e = abs-range (pos (thousandths n)) (leb-true (thousandths n) top (unless-zero (leb (thousandths n) top) outside e (omega arith)))
 

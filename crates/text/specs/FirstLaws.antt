@@ -99,11 +99,11 @@ other-none a b h g l =
     sym
     (token-skip pairs w 0 (no-sign a 61 _ h) ∙ token-skip pairs w 1 (no-sign a 60 _ l) ∙ token-skip pairs w 2 (no-sign a 60 _ l) ∙ token-skip pairs w 3 (no-sign a 62 _ g))
 
-pub single-none : (a : ℕ) → (a ≡ 61 → ⊥) → (a ≡ 60 → ⊥) → (a ≡ 62 → ⊥) → (a ≡ 43 → ⊥) → (a ≡ 45 → ⊥) → (a ≡ 42 → ⊥) → (a ≡ 47 → ⊥) → (a ≡ 40 → ⊥) → (a ≡ 41 → ⊥) → (a ≡ 91 → ⊥) → (a ≡ 93 → ⊥) → 0 ≡ tokenIn singles (a ∷ [])
-single-none a h0 h1 h2 h3 h4 h5 h6 h7 h8 h9 h10 =
+pub single-none : (a : ℕ) → (a ≡ 61 → ⊥) → (a ≡ 60 → ⊥) → (a ≡ 62 → ⊥) → (a ≡ 43 → ⊥) → (a ≡ 45 → ⊥) → (a ≡ 42 → ⊥) → (a ≡ 47 → ⊥) → (a ≡ 40 → ⊥) → (a ≡ 41 → ⊥) → (a ≡ 91 → ⊥) → (a ≡ 93 → ⊥) → (a ≡ 44 → ⊥) → 0 ≡ tokenIn singles (a ∷ [])
+single-none a h0 h1 h2 h3 h4 h5 h6 h7 h8 h9 h10 h11 =
     let w = a ∷ [] in
     sym
-    (token-skip singles w 0 (no-sign a 61 true h0) ∙ token-skip singles w 1 (no-sign a 60 true h1) ∙ token-skip singles w 2 (no-sign a 62 true h2) ∙ token-skip singles w 3 (no-sign a 43 true h3) ∙ token-skip singles w 4 (no-sign a 45 true h4) ∙ token-skip singles w 5 (no-sign a 42 true h5) ∙ token-skip singles w 6 (no-sign a 47 true h6) ∙ token-skip singles w 7 (no-sign a 40 true h7) ∙ token-skip singles w 8 (no-sign a 41 true h8) ∙ token-skip singles w 9 (no-sign a 91 true h9) ∙ token-skip singles w 10 (no-sign a 93 true h10))
+    (token-skip singles w 0 (no-sign a 61 true h0) ∙ token-skip singles w 1 (no-sign a 60 true h1) ∙ token-skip singles w 2 (no-sign a 62 true h2) ∙ token-skip singles w 3 (no-sign a 43 true h3) ∙ token-skip singles w 4 (no-sign a 45 true h4) ∙ token-skip singles w 5 (no-sign a 42 true h5) ∙ token-skip singles w 6 (no-sign a 47 true h6) ∙ token-skip singles w 7 (no-sign a 40 true h7) ∙ token-skip singles w 8 (no-sign a 41 true h8) ∙ token-skip singles w 9 (no-sign a 91 true h9) ∙ token-skip singles w 10 (no-sign a 93 true h10) ∙ token-skip singles w 11 (no-sign a 44 true h11))
 
 module _ (t : List ℕ) (k : ℕ) where
   pub lone-sign : length t ≡ 1 → k ≡ tokenIn singles (getD t 0 0 ∷ []) → found k 1 ≡ signFirst t

@@ -8,7 +8,7 @@ use lib.Dec.{eqb, leb}
 use lib.ListN.{length, getD}
 use borrow.Author.Tests.{eqb-true, eqb-false, eq-eqb, ne-eqb, le-leb, lt-leb, leb-true, leb-false, not-true}
 use Rattle.values.specs.Choice.{decide, contrary}
-use Rattle.tokens.specs.Token.{ID, XOR, IN, IM, POS, UNLOCK, X, W}
+use Rattle.tokens.specs.Token.{ID, XOR, FCTDEF, IN, IM, POS, UNLOCK, SYNFCT, X, W}
 use Rattle.text.specs.Byte.{DOLLAR}
 use Rattle.text.specs.Word.{words, sameBytes, nameIn, wordToken, sought}
 use Rattle.text.specs.WordLaws.{same-is, is-same, rows, found-passes, words-both-ways}
@@ -136,7 +136,12 @@ module _ (word : List ℕ) where
     pub word-keyword : (b t : ℕ) → sought (wordToken word) b t ≡ sought (wordToken word) ID 0 → (t ≡ 0 → ⊥) → t ≡ wordToken word
     word-keyword b t e z = sym (sought-some (wordToken word) b t z) ∙ e ∙ first without word plain ID refl
 
-    pub word-action : (t u v : ℕ) → sought (wordToken word) (XOR + 1) t ≡ sought (wordToken word) ID 0 → t ≡ 0 → sought (wordToken word) (UNLOCK + 1) u ≡ sought (wordToken word) POS 0 → sought (wordToken word) (W + 1) v ≡ sought (wordToken word) X u → v ≡ wordToken word
-    word-action t u v e z g f =
-        sym (last without word plain (W + 1) v (omega arith) refl) ∙ f ∙ past without word plain (UNLOCK + 1) X u (omega arith) refl ∙ g
-        ∙ past without word plain (XOR + 1) POS 0 (omega arith) refl ∙ going-on (wordToken word) (XOR + 1) t z ∙ e ∙ first without word plain ID refl
+    -- no such word has a token between XOR and FCTDEF
+    pub past-signs : (t : ℕ) → sought (wordToken word) FCTDEF t ≡ sought (wordToken word) (XOR + 1) t
+    past-signs t = past without word plain (XOR + 1) FCTDEF t (omega arith) refl
+
+    pub word-action : (t u v x : ℕ) → sought (wordToken word) (FCTDEF + 1) t ≡ sought (wordToken word) ID 0 → t ≡ 0 → sought (wordToken word) (UNLOCK + 1) u ≡ sought (wordToken word) POS 0 → sought (wordToken word) (SYNFCT + 1) v ≡ sought (wordToken word) SYNFCT u →
+        sought (wordToken word) (W + 1) x ≡ sought (wordToken word) X v → x ≡ wordToken word
+    word-action t u v x e z g k f =
+        sym (last without word plain (W + 1) x (omega arith) refl) ∙ f ∙ k ∙ past without word plain (UNLOCK + 1) SYNFCT u (omega arith) refl ∙ g
+        ∙ past without word plain (FCTDEF + 1) POS 0 (omega arith) refl ∙ going-on (wordToken word) (FCTDEF + 1) t z ∙ e ∙ first without word plain ID refl

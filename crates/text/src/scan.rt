@@ -17,6 +17,7 @@ use crate::word::word_token;
 use tokens::token::ATLEAST;
 use tokens::token::ATMOST;
 use tokens::token::CLOSE;
+use tokens::token::COMMA;
 use tokens::token::EQUALS;
 use tokens::token::LEFT;
 use tokens::token::LESS;
@@ -176,6 +177,9 @@ fn single_token(a: u8) -> u32
     }
     if a == b']' {
         return RIGHT;
+    }
+    if a == b',' {
+        return COMMA;
     }
     0
 }

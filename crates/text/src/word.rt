@@ -2,7 +2,7 @@
 ghost use mathlib.Core.Path.{_≡_};
 ghost use Prim.Native.Nat.{_+_, _<_};
 ghost use lib.ListN.{length};
-ghost use Rattle.tokens.specs.Token.{ID, EVERY, DO, XOR, IN, R, TIMER, IM, POS, UNLOCK, X, W};
+ghost use Rattle.tokens.specs.Token.{ID, EVERY, DO, XOR, FCTDEF, IN, R, TIMER, IM, POS, UNLOCK, SYNFCT, X, W};
 ghost use Rattle.text.specs.Word.{words, sameBytes, nameIn, wordToken, sought};
 use crate::bytes::DOLLAR;
 use tokens::token::AND;
@@ -10,6 +10,7 @@ use tokens::token::DO;
 use tokens::token::EVERY;
 use tokens::token::FA;
 use tokens::token::FALSE;
+use tokens::token::FCTDEF;
 use tokens::token::FIFO1;
 use tokens::token::FIFO4;
 use tokens::token::FROM;
@@ -29,6 +30,7 @@ use tokens::token::PARAM;
 use tokens::token::POS;
 use tokens::token::R;
 use tokens::token::SETAL;
+use tokens::token::SYNFCT;
 use tokens::token::TIMER;
 use tokens::token::TRUE;
 use tokens::token::UNLOCK;
@@ -94,6 +96,14 @@ fn from_do(t: u32, word: &[u8]) -> u32
     named(u, word, b"XOR", XOR)
 }
 
+// FCTDEF.
+fn from_fctdef(t: u32, word: &[u8]) -> u32
+    requires { ⌜ 0 < length (now word) ⌝ }
+    ensures { λ r. ⌜ sought (wordToken (now (word .entry))) (FCTDEF + 1) r ≡ sought (wordToken (now (word .entry))) FCTDEF t ⌝ }
+{
+    named(t, word, b"FCTDEF", FCTDEF)
+}
+
 // $A_IN to $R.
 fn from_in(t: u32, word: &[u8]) -> u32
     requires { ⌜ 0 < length (now word) ⌝ }
@@ -120,7 +130,7 @@ fn from_timer(t: u32, word: &[u8]) -> u32
     named(u, word, b"$AA_IM", IM)
 }
 
-// The actions.
+// POS to UNLOCK.
 fn from_pos(t: u32, word: &[u8]) -> u32
     requires { ⌜ 0 < length (now word) ⌝ }
     ensures { λ r. ⌜ sought (wordToken (now (word .entry))) (UNLOCK + 1) r ≡ sought (wordToken (now (word .entry))) POS t ⌝ }
@@ -132,6 +142,14 @@ fn from_pos(t: u32, word: &[u8]) -> u32
     u = named(u, word, b"SETAL", SETAL);
     u = named(u, word, b"LOCK", LOCK);
     named(u, word, b"UNLOCK", UNLOCK)
+}
+
+// SYNFCT.
+fn from_synfct(t: u32, word: &[u8]) -> u32
+    requires { ⌜ 0 < length (now word) ⌝ }
+    ensures { λ r. ⌜ sought (wordToken (now (word .entry))) (SYNFCT + 1) r ≡ sought (wordToken (now (word .entry))) SYNFCT t ⌝ }
+{
+    named(t, word, b"SYNFCT", SYNFCT)
 }
 
 // The axes.
@@ -165,5 +183,9 @@ pub fn word_token(word: &[u8]) -> u32
     if u != 0 {
         return u;
     }
-    from_x(from_pos(0, word), word)
+    let v = from_fctdef(0, word);
+    if v != 0 {
+        return v;
+    }
+    from_x(from_synfct(from_pos(0, word), word), word)
 }

@@ -5,7 +5,7 @@ use Prim.Native.Nat.{ℕ, _+_, _-_, min}
 use lib.Dec.{eqb, leb, ltb}
 use Rattle.values.specs.Codes.{confused, outside, readOnly, mAlone}
 use Rattle.values.specs.Value.{top}
-use Rattle.tokens.specs.Token.{END, OPEN, CLOSE, WHEN, EVERY, OUT, TIMER, R, SETAL, between, isFifo, thousandths}
+use Rattle.tokens.specs.Token.{maxCurves, END, OPEN, CLOSE, WHEN, EVERY, OUT, TIMER, R, SETAL, between, isFifo, thousandths}
 use Rattle.tokens.specs.Index.{isInside}
 
 -- the lower of two faults, where 0 is none
@@ -64,3 +64,7 @@ idFault n = unless (between 1 255 n) outside
 -- SETAL 65000..69999, LOCK and UNLOCK name a line
 unfoldable pub callFault : ℕ → ℕ → ℕ
 callFault w n = cond (eqb w SETAL) (unless (between 65000 69999 n) outside) (idFault n)
+
+-- a curve's number is 1..3
+unfoldable pub curveFault : ℕ → ℕ
+curveFault n = unless (between 1 maxCurves n) outside

@@ -129,6 +129,13 @@ OR = 27
 abbrev pub XOR : ℕ
 XOR = 28
 
+-- ,
+abbrev pub COMMA : ℕ
+COMMA = 29
+
+abbrev pub FCTDEF : ℕ
+FCTDEF = 30
+
 -- $A_IN $A_INA $A_OUT $AC_MARKER $AC_PARAM $R $AC_TIMER $AC_FIFO1 to $AC_FIFO4, which have a number for an index, and $AA_IM, which has an axis
 abbrev pub IN : ℕ
 IN = 32
@@ -181,6 +188,9 @@ LOCK = 53
 abbrev pub UNLOCK : ℕ
 UNLOCK = 54
 
+abbrev pub SYNFCT : ℕ
+SYNFCT = 56
+
 -- X Y Z U V W
 abbrev pub X : ℕ
 X = 57
@@ -227,9 +237,9 @@ isCall t = between SETAL UNLOCK t
 abbrev pub isLock : ℕ → Bool
 isLock t = between LOCK UNLOCK t
 
--- the words whose number in brackets is a name
+-- the words whose first number in brackets is a name: LOCK and UNLOCK name a line, SYNFCT a curve
 abbrev pub isNaming : ℕ → Bool
-isNaming t = isLock t
+isNaming t = isLock t || eqb t SYNFCT
 
 -- WHEN, WHENEVER, FROM or EVERY
 abbrev pub isKeyword : ℕ → Bool

@@ -3,8 +3,9 @@ ghost use mathlib.Core.Path.{_≡_};
 ghost use mathlib.Core.Bool.{true, false};
 ghost use Prim.Native.Nat.{_<_};
 ghost use lib.ListN.{drop};
-ghost use Rattle.tokens.specs.SingleFault.{lower, opensTooMany, wantingFault, numberFault, readFault, isWritable, writeFault, codeFault, callFault, idFault};
+ghost use Rattle.tokens.specs.SingleFault.{lower, opensTooMany, wantingFault, numberFault, readFault, isWritable, writeFault, codeFault, callFault, idFault, curveFault};
 use crate::index::is_inside;
+use crate::token::CURVES;
 use crate::token::END;
 use crate::token::EVERY;
 use crate::token::OPEN;
@@ -27,6 +28,9 @@ pub const BRACKETS: usize = 8;
 
 // The most that a number in the range carries: 1,000,000 and a written point.
 const HIGHEST: u32 = 2 * (TOP as u32) + 1;
+
+// The highest number of a curve.
+const LAST_CURVE: u32 = CURVES as u32;
 
 // The lower of two faults.
 pub fn lower_of(a: u8, b: u8) -> u8
@@ -134,6 +138,16 @@ pub fn id_fault(n: u32) -> u8
         return OUTSIDE;
     }
     if n <= 255 { 0 } else { OUTSIDE }
+}
+
+// Curves are 1 to 3.
+pub fn curve_fault(n: u32) -> u8
+    ensures { λ x. ⌜ x ≡ curveFault n ⌝ }
+{
+    if n < 1 {
+        return OUTSIDE;
+    }
+    if n <= LAST_CURVE { 0 } else { OUTSIDE }
 }
 
 // Whether more than eight brackets ( are open at some place from `at` to the line's end.

@@ -1,7 +1,7 @@
 // The tokens: their numbers, and what a token is. The same table stands in specs/Token.
 ghost use mathlib.Core.Path.{_≡_};
 ghost use lib.ListN.{getD};
-ghost use Rattle.tokens.specs.Token.{between, isVariable, isFifo, isAxis, isDrive, isCall, isNaming, isKeyword, isId, isBracket, isFactor, isTerm, isArithmetic, isCompare, isLogic, isWhole, whole};
+ghost use Rattle.tokens.specs.Token.{between, isVariable, isFifo, isAxis, isDrive, isCall, isLock, isNaming, isKeyword, isId, isBracket, isFactor, isTerm, isArithmetic, isCompare, isLogic, isWhole, whole};
 ghost use Rattle.tokens.specs.Descent.{isRow, isIndex, indexOf, isIndexed, indexAt};
 
 // The lines that a set may have, the actions of each, and the bytes of its text.
@@ -81,6 +81,10 @@ pub const OR: u32 = 27;
 
 pub const XOR: u32 = 28;
 
+pub const COMMA: u32 = 29;
+
+pub const FCTDEF: u32 = 30;
+
 pub const IN: u32 = 32;
 
 pub const INA: u32 = 33;
@@ -114,6 +118,8 @@ pub const SETAL: u32 = 52;
 pub const LOCK: u32 = 53;
 
 pub const UNLOCK: u32 = 54;
+
+pub const SYNFCT: u32 = 56;
 
 pub const X: u32 = 57;
 
@@ -167,11 +173,21 @@ pub fn is_call(t: u32) -> bool
     is_between(SETAL, UNLOCK, t)
 }
 
-// Whether the number in the brackets of a word is a name: LOCK and UNLOCK.
+// LOCK and UNLOCK.
+pub fn is_lock(t: u32) -> bool
+    ensures { λ r. ⌜ r ≡ isLock t ⌝ }
+{
+    is_between(LOCK, UNLOCK, t)
+}
+
+// Whether the first number in the brackets of a word is a name: LOCK and UNLOCK, and SYNFCT.
 pub fn is_naming(t: u32) -> bool
     ensures { λ r. ⌜ r ≡ isNaming t ⌝ }
 {
-    is_between(LOCK, UNLOCK, t)
+    if is_lock(t) {
+        return true;
+    }
+    t == SYNFCT
 }
 
 pub fn is_keyword(t: u32) -> bool

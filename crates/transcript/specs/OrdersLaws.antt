@@ -9,17 +9,18 @@ use Rattle.values.specs.Choice.{either, ifNot}
 use Rattle.engine.specs.Order.{maxOrders, orderSize}
 use Rattle.engine.specs.OrderLaws.{eight-bytes}
 use Rattle.engine.specs.declared.order.Order.{Order}
-use Rattle.tokens.specs.Token.{END, M, SETAL, LOCK, isVariable, isDrive, whole, maxLines, isAxis, isCall, maxActions}
-use Rattle.tokens.specs.Descent.{Answer, good, stop, indexAt}
-use Rattle.working.specs.Operators.{isYes}
+use Rattle.tokens.specs.Token.{END, M, SETAL, LOCK, SYNFCT, isVariable, isDrive, whole, maxLines, isAxis, isCall, maxActions}
+use Rattle.tokens.specs.Descent.{token, Answer, good, stop, indexAt}
+use Rattle.working.specs.Variables.{variableValue}
+use Rattle.working.specs.Operators.{fromWorked, isYes}
 use Rattle.working.specs.Working.{rightValue, conditionValue}
 use Rattle.checking.specs.declared.line.Line.{Line}
 use Rattle.engine.specs.declared.state.State.{State}
-use Rattle.engine.specs.Set.{rankIn, noLine, soundLines}
+use Rattle.engine.specs.Set.{curveLine, rankIn, noLine, soundLines}
 use Rattle.tokens.specs.AnswerLaws.{Ok, bind-ok, ok-then}
 use Rattle.engine.specs.SetLinesLaws.{lines-lined}
 use Rattle.engine.specs.Sound.{isSound}
-use Rattle.engine.specs.Action.{World, Did, ordered, fromValueOrAlarm, lockOf, takenAt, assignmentOf, driveOf, commandOf, actionOf}
+use Rattle.engine.specs.Action.{World, Did, ordered, fromValueOrAlarm, lockOf, takenAt, assignmentOf, curveAssigned, synfctOf, driveOf, commandOf, actionOf}
 use Rattle.engine.specs.Actions.{actionsOf}
 use Rattle.engine.specs.Drive.{driveOrder}
 use Rattle.engine.specs.Write.{writeTo}
@@ -57,6 +58,13 @@ assignment-adds s x w p =
     bind-ok (λ (d : Did). Adds x orderSize (d .world)) (writeTo (a .vars) w (indexAt s w p) (a .value)) _ λ v _.
     omega arith
 
+synfct-adds : (s : List ℕ) (x : World) (p : ℕ) → DidAdd x orderSize (synfctOf s x p)
+unfolding synfctOf
+synfct-adds s x p =
+    bind-ok (λ (d : Did). Adds x orderSize (d .world)) (fromWorked (variableValue (x .vars .r) (x .vars .cells) (token s (p + 9)) (indexAt s (token s (p + 9)) (p + 9)))) _ λ a _.
+    bind-ok (λ (d : Did). Adds x orderSize (d .world)) (curveAssigned (x .vars) (curveLine s (whole (token s (p + 2))) .curve) a (token s (p + 4)) (indexAt s (token s (p + 4)) (p + 4))) _ λ v _.
+    omega arith
+
 drive-adds : (s : List ℕ) (number : ℕ) (x : World) (w p : ℕ) → DidAdd x orderSize (driveOf s number x w p)
 unfolding driveOf
 drive-adds s number x w p =
@@ -79,7 +87,8 @@ module _ (s numbers : List ℕ) (cancelled : List Bool) (number : ℕ) where
   action-adds x p =
       either (DidAdd x orderSize) (eqb (getD s p 0) END) (λ e. tt) λ e.
       either (DidAdd x orderSize) (isVariable (getD s p 0)) (λ g. assignment-adds s x (getD s p 0) p) λ g.
-      either (DidAdd x orderSize) (isDrive (getD s p 0)) (λ h. drive-adds s number x (getD s p 0) p) (λ h. command-adds x (getD s p 0) p)
+      either (DidAdd x orderSize) (isDrive (getD s p 0)) (λ h. drive-adds s number x (getD s p 0) p) λ h.
+      either (DidAdd x orderSize) (eqb (getD s p 0) SYNFCT) (λ i. synfct-adds s x p) (λ i. command-adds x (getD s p 0) p)
 
   actions-add : (j : ℕ) (x : World) (p : ℕ) → DidAdd x (orderSize * j) (actionsOf s numbers cancelled number j x p)
   unfolding actionsOf

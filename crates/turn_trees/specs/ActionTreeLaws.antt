@@ -4,30 +4,32 @@ use mathlib.Core.Bool.{Bool, true, false}
 use mathlib.Core.List.{List, [], _∷_, _++_}
 use Prim.Native.Nat.{ℕ, zero, suc, _+_, _≤_, _<_}
 use native.Mathlib.Omega.{arith}
-use lib.Dec.{T, eqb, ltb}
+use lib.Dec.{T, eqb}
 use lib.IntN.{ℤ, pos}
 use lib.ListN.{length, getD}
-use borrow.Author.Tests.{eqb-false, le-leb, lt-ltb, le-ltb, eq-eqb, ne-eqb}
+use borrow.Author.Tests.{eqb-false, le-leb, lt-ltb, eq-eqb, ne-eqb}
 use Rattle.values.specs.Choice.{holds, chosen, refused}
-use Rattle.tokens.specs.Token.{END, EQUALS, LEFT, RIGHT, IN, IM, POS, MOV, M, SETAL, LOCK, UNLOCK, FIFO4, X, W, isVariable, isDrive, isCall, whole, wholeToken, axisOf, setSize, maxLines, isAxis, isLock}
+use Rattle.values.specs.declared.curve.Curve.{Curve}
+use Rattle.tokens.specs.Token.{END, EQUALS, LEFT, RIGHT, IN, IM, POS, MOV, M, SETAL, LOCK, UNLOCK, SYNFCT, COMMA, CLOSE, FIFO4, X, W, isVariable, isDrive, isCall, whole, wholeToken, axisOf, setSize, maxLines, isAxis, isLock}
 use Rattle.tokens.specs.Descent.{token, Answer, good, stop, _>>=_, isIndex, indexOf, indexAt}
 use Rattle.tokens.specs.ChooseLaws.{through, choose, choose-by}
 use Rattle.checking.specs.Fault.{isRemoval}
-use Rattle.working.specs.Operators.{isYes}
+use Rattle.working.specs.Variables.{variableValue}
+use Rattle.working.specs.Operators.{isYes, fromWorked}
 use Rattle.working.specs.Working.{valueOver, rightValue, conditionValue}
-use Rattle.engine.specs.Set.{rankIn}
+use Rattle.engine.specs.Set.{rankIn, curveLine}
 use Rattle.engine.specs.Write.{Vars, changeFifo, writeTo}
 use Rattle.engine.specs.Drive.{driveOrder}
-use Rattle.engine.specs.Action.{World, Did, Taken, fromValueOrAlarm, takenAt, assignmentOf, driveOf, commandOf, actionOf, did, withVars, ordered, lockOf}
+use Rattle.engine.specs.Action.{World, Did, Taken, fromValueOrAlarm, takenAt, assignmentOf, driveOf, commandOf, actionOf, did, withVars, ordered, lockOf, curveAssigned, synfctOf}
 use Rattle.engine.specs.Actions.{actionsOf}
-use Rattle.grammar.specs.Tree.{number, variable, position, truth, bracket, minus, not, product, Sum, sum, Expression, Action, assign, assignPosition, drive, code, call, sumTokens, expressionTokens, actionTokens, actionsTokens}
+use Rattle.grammar.specs.Tree.{number, variable, position, truth, bracket, minus, not, product, Sum, sum, Expression, Action, assign, assignPosition, drive, code, call, synfct, Place, placeWord, placeIndex, placeToken, placeTokens, sumTokens, expressionTokens, actionTokens, actionsTokens}
 use Rattle.grammar.specs.Meaning.{sumMeaning, expressionMeaning, Stands, EndsSum, EndsExpression}
 use Rattle.grammar.specs.TreeFault.{isRemovalTree}
 use Rattle.grammar.specs.Agreement.{sum-agrees, expression-agrees}
-use Rattle.grammar.specs.AgreementLaws.{bounds, within, beyond, stands-split, parts-fit, numbered, whole-token, number-index, axis-index, index-stands}
+use Rattle.grammar.specs.AgreementLaws.{bounds, within, beyond, stands-split, parts-fit, numbered, whole-token, number-index, axis-index, index-stands, place-index}
 use Rattle.grammar.specs.AgreementFault.{word-ends, end-ends, removal-agrees, actions-word}
 use Rattle.turn_trees.specs.TurnTree.{Names, RightTaken, valueTaken, takenTree, conditionTree, ActionsDone, doneIn, assignTree, lockTree, actionTree, actionsTree}
-use Rattle.turn_trees.specs.LineNames.{ActionNames, ActionsName, SameRank}
+use Rattle.turn_trees.specs.LineNames.{ActionNames, ActionsName, SameRank, SameCurve}
 use Rattle.turn_trees.specs.AlarmLaws.{right-stops, condition-stops, told-tree}
 
 -- a value, and the place behind it
@@ -111,6 +113,34 @@ module _ (s : List ℕ) where
       go (good u) = through _ (writeTo (u .vars) w i (u .value)) _ _ (λ v. refl)
       go (stop k) = refl
 
+  -- a place stands at p, and what stands behind it
+  place-stands : (y : Place) (l : List ℕ) (p q : ℕ) → Stands s p (placeTokens y ++ l) q → (token s p ≡ placeWord y) × (indexAt s (placeWord y) p ≡ placeIndex y) × Stands s (p + 4) l q
+  place-stands y l p q h =
+      let (i, f, g) = stands-split s (placeTokens y) l p q h in
+      let (v, x, k) = place-index y in
+      let (a, b, c) = index-stands s (placeWord y) (placeToken y) p i x f in
+      (f .0, b ∙ k, rw (← c) at g)
+
+  -- SYNFCT, where c is the curve that the set has
+  synfct-tree : (x : World) (m : ℕ) (y z : Place) (c : Curve) (p q : ℕ) → curveLine s m .curve ≡ c → Stands s p (actionTokens (synfct m y z)) q →
+      synfctOf s x p
+      ≡ (fromWorked (variableValue (x .vars .r) (x .vars .cells) (placeWord z) (placeIndex z)) >>= (λ u. curveAssigned (x .vars) c u (placeWord y) (placeIndex y) >>= λ v. doneIn (withVars x v)) >>= doneUpTo q)
+  unfolding synfctOf actionTokens
+  synfct-tree x m y z c p q g h =
+      let two : p + 1 + 1 ≡ p + 2 = omega arith in
+      let four : p + 1 + 1 + 1 + 1 ≡ p + 4 = omega arith in
+      let nine : p + 4 + 4 + 1 ≡ p + 9 = omega arith in
+      let t : whole (token s (p + 2)) ≡ m = rw (rw two at (h .1 .1 .0)) (whole-token m .1) in
+      let (w, i, d) = place-stands y (COMMA ∷ placeTokens z ++ (CLOSE ∷ [])) (p + 4) q (rw four at (h .1 .1 .1 .1)) in
+      let (v, j, b) = place-stands z (CLOSE ∷ []) (p + 9) q (rw nine at (d .1)) in
+      let fourteen : p + 14 ≡ q = let k = b .1 in omega arith in
+      rw (t, g, w, i, v, j, fourteen) (go (fromWorked (variableValue (x .vars .r) (x .vars .cells) (placeWord z) (placeIndex z))))
+    where
+      go : (r : Answer ℤ) → (r >>= λ a. curveAssigned (x .vars) c a (placeWord y) (placeIndex y) >>= λ v. did q (withVars x v))
+          ≡ (r >>= (λ u. curveAssigned (x .vars) c u (placeWord y) (placeIndex y) >>= λ v. doneIn (withVars x v)) >>= doneUpTo q)
+      go (good u) = through _ (curveAssigned (x .vars) c u (placeWord y) (placeIndex y)) _ _ (λ v. refl)
+      go (stop k) = refl
+
   module _ (numbers : List ℕ) (names : Names) (n : ℕ) where
     lock-tree : (x : World) (b : Bool) (k q : ℕ) → k < maxLines → lockOf (names .cancelled) x b k q ≡ (lockTree names x b k >>= doneUpTo q)
     unfolding lockOf lockTree
@@ -120,7 +150,7 @@ module _ (s : List ℕ) where
     lock-word : (w : ℕ) → T (isCall w) → eqb w SETAL ≡ false → isLock w ≡ true
     lock-word w v e = let b = bounds SETAL UNLOCK w v in within LOCK UNLOCK w (omega (arith, eqb-false w SETAL e)) (omega arith)
 
-    action-tree : (x : World) (a : Action) (p q : ℕ) → ActionNames (SameRank numbers names) a → length (actionTokens a) ≤ setSize → Stands s p (actionTokens a) q → EndsSum (token s q) →
+    action-tree : (x : World) (a : Action) (p q : ℕ) → ActionNames (SameRank numbers names) (SameCurve s names) a → length (actionTokens a) ≤ setSize → Stands s p (actionTokens a) q → EndsSum (token s q) →
         actionOf s numbers (names .cancelled) n x p ≡ (actionTree names n x a >>= doneUpTo q)
     unfolding actionOf actionTree actionTokens driveOf commandOf
     action-tree x (assign w v i a) p q g l h e =
@@ -160,7 +190,8 @@ module _ (s : List ℕ) where
         let t : token s (p + 2) ≡ wholeToken m = rw two at (h .1 .1 .0) in
         let off : isVariable (token s p) ≡ false = rw c in
         let no : isDrive (token s p) ≡ false = rw c in
-        refused _ _ _ (ne-eqb (token s p) END (λ z. omega arith)) ∙ refused _ _ _ off ∙ refused _ _ _ no ∙ chosen _ _ _ (eq-eqb (token s p) M c) ∙ rw (t, whole-token m .1, three)
+        refused _ _ _ (ne-eqb (token s p) END (λ z. omega arith)) ∙ refused _ _ _ off ∙ refused _ _ _ no
+        ∙ refused _ _ _ (ne-eqb (token s p) SYNFCT (λ z. omega arith)) ∙ chosen _ _ _ (eq-eqb (token s p) M c) ∙ rw (t, whole-token m .1, three)
     action-tree x (call w v m) p q g l h e =
         let c = h .0 in
         let b = bounds SETAL UNLOCK w v in
@@ -169,13 +200,20 @@ module _ (s : List ℕ) where
         let t : whole (token s (p + 2)) ≡ m = rw (rw two at (h .1 .1 .0)) (whole-token m .1) in
         let off : isVariable (token s p) ≡ false = rw c (beyond IN IM w (omega arith)) in
         let no : isDrive (token s p) ≡ false = rw c (beyond POS MOV w (omega arith)) in
-        refused _ _ _ (ne-eqb (token s p) END (λ z. omega arith)) ∙ refused _ _ _ off ∙ refused _ _ _ no ∙ refused _ _ _ (ne-eqb (token s p) M (λ z. omega arith))
+        refused _ _ _ (ne-eqb (token s p) END (λ z. omega arith)) ∙ refused _ _ _ off ∙ refused _ _ _ no
+        ∙ refused _ _ _ (ne-eqb (token s p) SYNFCT (λ z. omega arith)) ∙ refused _ _ _ (ne-eqb (token s p) M (λ z. omega arith))
         ∙ choose-by (doneUpTo q) (eqb (token s p) SETAL) (eqb w SETAL) _ _ _ _ (rw c) (λ z. rw (t, four))
         (λ z. let k = g (lock-word w v z) in let on : isCall (token s p) ≡ true = rw c (holds (isCall w) v) in chosen _ _ _ on ∙ rw (c, t, four, ← (k .1)) (lock-tree x (eqb w LOCK) (rankIn numbers m 0) q (k .0)))
+    action-tree x (synfct m y z) p q g l h e =
+        let c = h .0 in
+        let off : isVariable (token s p) ≡ false = rw c in
+        let no : isDrive (token s p) ≡ false = rw c in
+        refused _ _ _ (ne-eqb (token s p) END (λ t. omega arith)) ∙ refused _ _ _ off ∙ refused _ _ _ no ∙ chosen _ _ _ (eq-eqb (token s p) SYNFCT c)
+        ∙ synfct-tree x m y z (names .curves m) p q g h
 
     -- ---- actions
 
-    pub actions-tree : (r : List Action) (a : Action) (j : ℕ) (x : World) (p q : ℕ) → length r < j → ActionsName (SameRank numbers names) a r → length (actionsTokens a r) ≤ setSize →
+    pub actions-tree : (r : List Action) (a : Action) (j : ℕ) (x : World) (p q : ℕ) → length r < j → ActionsName (SameRank numbers names) (SameCurve s names) a r → length (actionsTokens a r) ≤ setSize →
         Stands s p (actionsTokens a r) q → token s q ≡ END → actionsOf s numbers (names .cancelled) n j x p ≡ (actionsTree names n x a r >>= doneUpTo q)
     unfolding actionsOf actionsTree actionsTokens
     actions-tree r a zero x p q j g l h e = absurd (omega arith)

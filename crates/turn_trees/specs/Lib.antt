@@ -1,5 +1,5 @@
--- A turn by its tree. TurnTree and LineNames are the definitions; that the engine does so is shown in TurnByTree, SoundTurns and TurnNumbersTo; the files named ..Laws hold what these need; TurnTable
--- computes an example.
+-- A turn by its tree. TurnTree and LineNames are the definitions; that the engine does so is shown in TurnByTree, SoundTurns, SoundCurves, TurnNumbersTo and TurnCurves; the files named ..Laws hold
+-- what these need; TurnTable computes an example.
 pub mod TurnTree
 pub mod LineNames
 pub mod AlarmLaws
@@ -7,5 +7,7 @@ pub mod ActionTreeLaws
 pub mod NamesLaws
 pub mod TurnByTree
 pub mod SoundTurns
+pub mod SoundCurves
 pub mod TurnNumbersTo
+pub mod TurnCurves
 pub mod TurnTable

@@ -8,6 +8,7 @@ use lib.Dec.{ltb}
 use lib.ListN.{length, getD, length-map}
 use borrow.Author.Tests.{ltb-true}
 use Rattle.values.specs.Choice.{both, chosen, refused}
+use Rattle.values.specs.declared.curve.Curve.{Curve}
 use Rattle.tokens.specs.Token.{setSize, maxLines}
 use Rattle.tokens.specs.Descent.{good, _>>=_}
 use Rattle.checking.specs.declared.line.Line.{Line as Told}
@@ -17,7 +18,7 @@ use Rattle.grammar.specs.TreeFault.{lineFault, partsFrom}
 use Rattle.grammar.specs.ClosedTokens.{line-fits}
 use Rattle.grammar.specs.AgreementLine.{line-found, line-fault, line-parts, not-deep, parts-number}
 use Rattle.engine.specs.declared.state.State.{State}
-use Rattle.engine.specs.Set.{startOf, rankIn, lineOf, soundLines}
+use Rattle.engine.specs.Set.{startOf, rankIn, lineOf, curveLine, soundLines}
 use Rattle.engine.specs.Sound.{isSound, stateSound}
 use Rattle.engine.specs.Action.{World}
 use Rattle.engine.specs.Turn.{beatIn, turnsFrom}
@@ -25,8 +26,8 @@ use Rattle.engine.specs.Beat.{bufferSize, areInputs, Given, beatBegun, wholeBea
 use Rattle.engine.specs.SetLinesLaws.{lines-lined}
 use Rattle.soundness.specs.SetSoundLaws.{lines-known, rank-inside}
 use Rattle.turn_trees.specs.TurnTree.{namesOf, turnsTree}
-use Rattle.turn_trees.specs.LineNames.{LineNames, SameRank}
-use Rattle.turn_trees.specs.NamesLaws.{Known, line-names, names-so, rank-same}
+use Rattle.turn_trees.specs.LineNames.{LineNames, SameRank, SameCurve}
+use Rattle.turn_trees.specs.NamesLaws.{Known, Defined, line-names, names-so, rank-same}
 use Rattle.turn_trees.specs.TurnByTree.{HoldingFrom, turns-by-tree}
 
 -- the tokens of the tree l stand where the line of rank k begins
@@ -41,6 +42,14 @@ TreesFrom s k (l ∷ ls) = TreeAt s k l × TreesFrom s (k + 1) ls
 pub record TreesOf (s : List ℕ) (ls : List Line) : Type 0 where
   pub count : length ls ≡ soundLines s .count
   pub trees : TreesFrom s 0 ls
+
+-- each curve that the set has is the one of these with its number
+abbrev pub CurvesOf : List ℕ → (ℕ → Curve) → Type 0
+CurvesOf s curves = (m : ℕ) → Defined s m → curveLine s m .curve ≡ curves m
+
+-- those that the check tells are
+pub own-curves : (s : List ℕ) → CurvesOf s (λ n. curveLine s n .curve)
+own-curves s m h = refl
 
 module _ (s : List ℕ) (size : length s ≤ setSize) (sound : soundLines s .sound ≡ true) where
   -- ---- one line
@@ -65,7 +74,7 @@ module _ (s : List ℕ) (size : length s ≤ setSize) (sound : soundLines s .sou
       pub tree-short : length (lineTokens l) ≤ suc setSize
       tree-short = let z = line-fits s l (startOf s k) (t .0) (t .1) in omega arith
 
-      tree-names : LineNames (Known (soundLines s .numbers)) l
+      tree-names : LineNames (Known (soundLines s .numbers)) (Defined s) l
       tree-names = line-names s (soundLines s .numbers) l (startOf s k) (t .0) tree-short tree-faultless (t .1) (lines-known s sound k inside)
 
   -- ---- all lines
@@ -86,9 +95,9 @@ module _ (s : List ℕ) (size : length s ≤ setSize) (sound : soundLines s .sou
   numbers-at (l ∷ ls) k zero t c h = let z : k + 0 ≡ k = omega arith in rw z (tree-number k (omega arith) l (t .0))
   numbers-at (l ∷ ls) k (suc j) t c h = let z : k + suc j ≡ k + 1 + j = omega arith in rw z (numbers-at ls (k + 1) j (t .1) (omega arith) (omega arith))
 
-  module _ (ls : List Line) (trees : TreesOf s ls) (cancelled : List Bool) (automatic : Bool) where
+  module _ (ls : List Line) (trees : TreesOf s ls) (curves : ℕ → Curve) (same : CurvesOf s curves) (cancelled : List Bool) (automatic : Bool) where
     -- a known number has one rank
-    known-rank : (m : ℕ) → Known (soundLines s .numbers) m → SameRank (soundLines s .numbers) (namesOf ls cancelled) m
+    known-rank : (m : ℕ) → Known (soundLines s .numbers) m → SameRank (soundLines s .numbers) (namesOf ls curves cancelled) m
     known-rank m h =
         let ns = soundLines s .numbers in
         let a = ltb-true (rankIn ns m 0) maxLines (h .0) in
@@ -100,7 +109,7 @@ module _ (s : List ℕ) (size : length s ≤ setSize) (sound : soundLines s .sou
         (a, rank-same (map treeNumber ls) ns m 0 (omega arith) (λ j i. let z : 0 + j ≡ j = omega arith in rw z at (numbers-at ls 0 j (trees .trees) (omega arith) (omega arith))) (omega arith))
 
     holding : (qs : List Line) (k : ℕ) → TreesFrom s k qs → k + length qs ≤ soundLines s .count →
-        HoldingFrom s (soundLines s .numbers) (namesOf ls cancelled) automatic (soundLines s .items) k qs
+        HoldingFrom s (soundLines s .numbers) (namesOf ls curves cancelled) automatic (soundLines s .items) k qs
     holding [] k t c = tt
     holding (l ∷ qs) k t c =
         let i : k < soundLines s .count = omega arith in (
@@ -111,22 +120,24 @@ module _ (s : List ℕ) (size : length s ≤ setSize) (sound : soundLines s .sou
             stands = t .0 .1;
             faultless = tree-faultless k i l (t .0);
             short = tree-short k i l (t .0);
-            named = names-so (Known (soundLines s .numbers)) (SameRank (soundLines s .numbers) (namesOf ls cancelled)) known-rank l (tree-names k i l (t .0));
+            named =
+                names-so (Known (soundLines s .numbers)) (Defined s) (SameRank (soundLines s .numbers) (namesOf ls curves cancelled)) (SameCurve s (namesOf ls curves cancelled)) known-rank same l
+                (tree-names k i l (t .0));
           },
           holding qs (k + 1) (t .1) (omega arith),
         )
 
     -- THE TURNS of a beat over a sound set
-    pub sound-turns : (x : World) → turnsFrom s (soundLines s .numbers) cancelled automatic (soundLines s .items) (soundLines s .count) 0 x ≡ turnsTree (namesOf ls cancelled) automatic ls 0 x
+    pub sound-turns : (x : World) → turnsFrom s (soundLines s .numbers) cancelled automatic (soundLines s .items) (soundLines s .count) 0 x ≡ turnsTree (namesOf ls curves cancelled) automatic ls 0 x
     sound-turns x =
         let c = trees .count in
-        rw (← c) (turns-by-tree s (soundLines s .numbers) (namesOf ls cancelled) automatic (soundLines s .items) ls 0 x (holding ls 0 (trees .trees) (omega arith)))
+        rw (← c) (turns-by-tree s (soundLines s .numbers) (namesOf ls curves cancelled) automatic (soundLines s .items) ls 0 x (holding ls 0 (trees .trees) (omega arith)))
 
 -- A BEAT THAT IS NOT REFUSED is the turns of the trees of its set, by rising number, from the world in which it begins
-pub beat-by-trees : (s : List ℕ) (ls : List Line) (st : State) (g : Given) → length s ≤ setSize → TreesOf s ls →
+pub beat-by-trees : (s : List ℕ) (ls : List Line) (curves : ℕ → Curve) (st : State) (g : Given) → length s ≤ setSize → TreesOf s ls → CurvesOf s curves →
     isSound s st ≡ true → ltb (length (g .buffer)) bufferSize ≡ false → areInputs (g .lent) ≡ true →
-    wholeBeat s st g ≡ (turnsTree (namesOf ls (st .cancelled)) (g .automatic) ls 0 (beatBegun st g) >>= λ t. good (record { world = t .world; entries = beatIn (g .automatic) ∷ t .entries }))
+    wholeBeat s st g ≡ (turnsTree (namesOf ls curves (st .cancelled)) (g .automatic) ls 0 (beatBegun st g) >>= λ t. good (record { world = t .world; entries = beatIn (g .automatic) ∷ t .entries }))
 unfolding wholeBeat isSound
-beat-by-trees s ls st g size trees a b c =
+beat-by-trees s ls curves st g size trees same a b c =
     let sound = both (soundLines s .sound) (stateSound (soundLines s .count) st) a .0 in
-    chosen _ _ _ a ∙ refused _ _ _ b ∙ chosen _ _ _ c ∙ rw (sound-turns s size sound ls trees (st .cancelled) (g .automatic) (beatBegun st g))
+    chosen _ _ _ a ∙ refused _ _ _ b ∙ chosen _ _ _ c ∙ rw (sound-turns s size sound ls trees curves same (st .cancelled) (g .automatic) (beatBegun st g))

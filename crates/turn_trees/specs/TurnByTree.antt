@@ -26,7 +26,7 @@ use Rattle.engine.specs.Action.{World, Did, fromValueOrAlarm}
 use Rattle.engine.specs.Turn.{Entry, worked, lockEntry, Turned, remembered, counted, takesTurn, doTurn, tryTurn, turnOf, turnsFrom}
 use Rattle.soundness.specs.WriteSoundLaws.{lower-zero, unless-zero}
 use Rattle.turn_trees.specs.TurnTree.{Names, ActionsDone, conditionTree, actionsTree, doTree, tryTree, takesTree, turnTree, turnsTree}
-use Rattle.turn_trees.specs.LineNames.{ActionsName, LineNames, SameRank}
+use Rattle.turn_trees.specs.LineNames.{ActionsName, LineNames, SameRank, SameCurve}
 use Rattle.turn_trees.specs.ActionTreeLaws.{doneUpTo, condition-tree, actions-tree}
 
 -- the two sides of a test
@@ -46,7 +46,7 @@ few-actions n f = omega (arith, leb-true (suc n) maxActions (unless-zero (leb (s
 
 module _ (s numbers : List ℕ) (names : Names) (automatic : Bool) where
   do-tree : (t : Told) (n k : ℕ) (x : World) (es : List Entry) (a : Action) (r : List Action) (p q : ℕ) (b : Bool) → t .number ≡ n → t .actions ≡ p → length r < maxActions →
-      ActionsName (SameRank numbers names) a r → length (actionsTokens a r) ≤ setSize → Stands s p (actionsTokens a r) q → token s q ≡ END →
+      ActionsName (SameRank numbers names) (SameCurve s names) a r → length (actionsTokens a r) ≤ setSize → Stands s p (actionsTokens a r) q → token s q ≡ END →
       doTurn s numbers (names .cancelled) automatic t k x es b ≡ doTree names n k x es a r b
   unfolding doTurn doTree
   do-tree t n k x es a r p q false u v m g l h e = refl
@@ -63,7 +63,7 @@ module _ (s numbers : List ℕ) (names : Names) (automatic : Bool) where
       go (stop j) = refl
 
   -- a line that takes its turn
-  try-by-tree : (l : Line) (p q k : ℕ) (x : World) → length (lineTokens l) ≤ suc setSize → lineFault l ≡ 0 → LineNames (SameRank numbers names) l → Stands s p (lineTokens l) q →
+  try-by-tree : (l : Line) (p q k : ℕ) (x : World) → length (lineTokens l) ≤ suc setSize → lineFault l ≡ 0 → LineNames (SameRank numbers names) (SameCurve s names) l → Stands s p (lineTokens l) q →
       tryTurn s numbers (names .cancelled) automatic (partsFrom p l) k x ≡ tryTree names l k x
   unfolding tryTurn tryTree partsFrom lineTokens conditionTokens lineFault tries acts
   try-by-tree (line w v n always a r) p q k x l f g h =
@@ -90,8 +90,9 @@ module _ (s numbers : List ℕ) (names : Names) (automatic : Bool) where
       (λ b. do-tree t n k _ _ a r (y .doing + 1) (y .end) _ refl i few g (omega arith) (y .actions) (y .stops)))
       (do-tree t n k x [] a r (y .doing + 1) (y .end) _ refl i few g (omega arith) (y .actions) (y .stops))
 
-  -- THE TURN of a faultless line whose tokens stand from p up to q, of rank k; each line that its LOCK and UNLOCK name has one rank in the numbers and in the names
-  pub turn-by-tree : (l : Line) (p q k : ℕ) (x : World) → length (lineTokens l) ≤ suc setSize → lineFault l ≡ 0 → LineNames (SameRank numbers names) l → Stands s p (lineTokens l) q →
+  -- THE TURN of a faultless line whose tokens stand from p up to q, of rank k; each line that its LOCK and UNLOCK name has one rank in the numbers and in the names, and each curve that
+  -- its SYNFCT name is in the set what it is in the names
+  pub turn-by-tree : (l : Line) (p q k : ℕ) (x : World) → length (lineTokens l) ≤ suc setSize → lineFault l ≡ 0 → LineNames (SameRank numbers names) (SameCurve s names) l → Stands s p (lineTokens l) q →
       turnOf s numbers (names .cancelled) automatic (partsFrom p l) k x ≡ turnTree names automatic l k x
   unfolding turnOf takesTurn turnTree takesTree partsFrom
   turn-by-tree (line w v n c a r) p q k x l f g h = alike (takesTree names automatic (line w v n c a r) k x) (try-by-tree (line w v n c a r) p q k x l f g h) refl
@@ -104,7 +105,7 @@ module _ (s numbers : List ℕ) (names : Names) (automatic : Bool) where
     pub stands : Stands s place (lineTokens l) behind
     pub faultless : lineFault l ≡ 0
     pub short : length (lineTokens l) ≤ suc setSize
-    pub named : LineNames (SameRank numbers names) l
+    pub named : LineNames (SameRank numbers names) (SameCurve s names) l
 
   abbrev pub HoldingFrom : List Told → ℕ → List Line → Type 0
   HoldingFrom items k [] = Unit {0}

@@ -3,19 +3,21 @@ use mathlib.Core.Path.{_≡_, refl}
 use mathlib.Core.Bool.{Bool, true, false}
 use mathlib.Core.List.{List, [], _∷_, map}
 use Prim.Native.Nat.{ℕ, _+_}
+use lib.Dec.{eqb}
 use lib.ListN.{getD}
-use Rattle.grammar.specs.Tree.{number, variable, position, truth, bracket, minus, not, product, Sum, sum, Expression, Action, assign, assignPosition, drive, code, call, always, under, Line, line, treeNumber}
+use Rattle.values.specs.declared.curve.Curve.{Curve}
+use Rattle.grammar.specs.Tree.{number, variable, position, truth, bracket, minus, not, product, Sum, sum, Expression, Action, assign, assignPosition, drive, code, call, synfct, always, under, Line, line, treeNumber, Definition}
 use Rattle.grammar.specs.TreeFault.{isRemovalTree}
-use Rattle.grammar.specs.NumbersTo.{operandTo, sumTo, expressionTo, actionTo, conditionTo, numbersTo}
-use Rattle.grammar.specs.NumbersToLaws.{Keeps, bind-same, removal-same, to-right-value, to-condition-value}
+use Rattle.grammar.specs.NumbersTo.{operandTo, sumTo, expressionTo, actionTo, conditionTo, numbersTo, definitionTo}
+use Rattle.grammar.specs.NumbersToLaws.{Keeps, bind-same, removal-same, to-right-value, to-condition-value, to-curve}
 use Rattle.engine.specs.Keyword.{acts, remembers, tries}
 use Rattle.engine.specs.Write.{Vars}
 use Rattle.engine.specs.Action.{World}
 use Rattle.engine.specs.Turn.{Entry, worked, remembered, counted}
-use Rattle.turn_trees.specs.TurnTree.{Names, oldestTaken, valueTaken, takenTree, conditionTree, assignTree, actionTree, actionsTree, doTree, tryTree, takesTree, turnTree, turnsTree, namesOf}
+use Rattle.turn_trees.specs.TurnTree.{Names, oldestTaken, valueTaken, takenTree, conditionTree, assignTree, actionTree, actionsTree, doTree, tryTree, takesTree, turnTree, turnsTree, namesOf, curveNamed}
 
 -- two choices, by tests that agree and with sides that do
-same-sides : {X : Type 0} (b c : Bool) (x u y v : X) → b ≡ c → x ≡ u → y ≡ v → _≡_ {A = X} (elim b as (λ _. X) [ true ↦ x | false ↦ y ]) (elim c as (λ _. X) [ true ↦ u | false ↦ v ])
+pub same-sides : {X : Type 0} (b c : Bool) (x u y v : X) → b ≡ c → x ≡ u → y ≡ v → _≡_ {A = X} (elim b as (λ _. X) [ true ↦ x | false ↦ y ]) (elim c as (λ _. X) [ true ↦ u | false ↦ v ])
 same-sides b true x u y v e p q = rw e p
 same-sides b false x u y v e p q = rw e q
 
@@ -51,6 +53,7 @@ module _ (f : ℕ → ℕ) (keeps : Keeps f) where
     action-to n x (drive w v y u a) = rw (to-right-value f keeps (x .vars .r) (x .vars .cells) a)
     action-to n x (code m) = refl
     action-to n x (call w v m) = refl
+    action-to n x (synfct m y z) = refl
 
     actions-to : (n : ℕ) (r : List Action) (x : World) (a : Action) → actionsTree names n x (actionTo f a) (map (actionTo f) r) ≡ actionsTree names n x a r
     unfolding actionsTree
@@ -93,6 +96,12 @@ module _ (f : ℕ → ℕ) (keeps : Keeps f) where
   numbers-to [] = refl
   numbers-to (l ∷ ls) = rw (number-to l, numbers-to ls)
 
-  -- the lines have the same names
-  pub names-to : (ls : List Line) (cancelled : List Bool) → namesOf (map (numbersTo f) ls) cancelled ≡ namesOf ls cancelled
-  names-to ls cancelled = rw (numbers-to ls)
+  -- the lines have the same names, whatever curves there are
+  pub names-to : (ls : List Line) (curves : ℕ → Curve) (cancelled : List Bool) → namesOf (map (numbersTo f) ls) curves cancelled ≡ namesOf ls curves cancelled
+  names-to ls curves cancelled = rw (numbers-to ls)
+
+  -- and definitions with other numbers name the same curves
+  pub curves-to : (ds : List Definition) (n : ℕ) → curveNamed (map (definitionTo f) ds) n ≡ curveNamed ds n
+  unfolding curveNamed definitionTo
+  curves-to [] n = refl
+  curves-to (d ∷ ds) n = same-sides (eqb (d .number) n) (eqb (d .number) n) _ _ _ _ refl (to-curve f keeps d) (curves-to ds n)

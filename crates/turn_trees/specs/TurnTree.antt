@@ -1,29 +1,33 @@
--- What a line does, from its tree (document 01, "Values and time" and "A beat"); where its tokens stand does not matter. Definitions only.
+-- What a line does, from its tree (document 01, "Values and time" and "A beat"; document 02, Req 03); where its tokens stand does not matter. Definitions only.
 use mathlib.Core.Bool.{Bool, true, false, not as isNot, _&&_, _||_}
 use mathlib.Core.List.{List, [], _∷_, _++_, map}
 use Prim.Native.Nat.{ℕ, _+_}
 use lib.Dec.{eqb}
 use lib.IntN.{ℤ, pos}
 use lib.ListN.{getD}
+use Rattle.values.specs.declared.curve.Curve.{Curve}
 use Rattle.tokens.specs.Token.{IDS, IM, SETAL, LOCK, axisOf}
 use Rattle.tokens.specs.Descent.{Answer, good, _>>=_}
-use Rattle.working.specs.Operators.{isYes}
+use Rattle.checking.specs.CurveDefinition.{faultyDefinition}
+use Rattle.working.specs.Variables.{variableValue}
+use Rattle.working.specs.Operators.{isYes, fromWorked}
 use Rattle.working.specs.Working.{valueOver}
-use Rattle.grammar.specs.Tree.{number, variable, position, truth, bracket, minus, not, product, Sum, sum, Expression, Action, assign, assignPosition, drive, code, call, always, under, Line, line, treeNumber}
+use Rattle.grammar.specs.Tree.{number, variable, position, truth, bracket, minus, not, product, Sum, sum, Expression, Action, assign, assignPosition, drive, code, call, synfct, placeWord, placeIndex, always, under, Line, line, treeNumber, Definition}
 use Rattle.grammar.specs.Meaning.{sumMeaning, expressionMeaning}
-use Rattle.grammar.specs.TreeFault.{isRemovalTree}
+use Rattle.grammar.specs.TreeFault.{isRemovalTree, curveIn}
 use Rattle.engine.specs.declared.order.Kind.the-variants as K
 use Rattle.engine.specs.Set.{rankIn}
 use Rattle.engine.specs.Write.{Vars, changeFifo, withChanged, writeTo}
 use Rattle.engine.specs.Drive.{driveOrder, orderOf}
 use Rattle.engine.specs.Keyword.{acts, remembers, tries}
-use Rattle.engine.specs.Action.{World, Note, ordered, withVars, withLock}
+use Rattle.engine.specs.Action.{World, Note, ordered, withVars, withLock, curveAssigned}
 use Rattle.engine.specs.Turn.{Entry, worked, lockEntry, Turned, remembered, counted}
 
--- what a line may name: the lines of the set, by rank, with their numbers, and which of them are cancelled
+-- what a line may name: the lines of the set, by rank, with their numbers, and which of them are cancelled; and the curve that each number names
 pub record Names : Type 0 where
   pub numbers : List ℕ
   pub cancelled : List Bool
+  pub curves : ℕ → Curve
 
 -- ---- right sides and conditions
 
@@ -84,6 +88,10 @@ module _ (names : Names) where
   actionTree n x (code m) = doneIn (ordered x (orderOf n K.M 0 (pos m)))
   actionTree n x (call w v m) =
       elim (eqb w SETAL) [ true ↦ doneIn (ordered x (orderOf n K.Setal 0 (pos m))) | false ↦ lockTree x (eqb w LOCK) (rankIn (names .numbers) m 0) ]
+  actionTree n x (synfct m y z) =
+      fromWorked (variableValue (x .vars .r) (x .vars .cells) (placeWord z) (placeIndex z)) >>= λ u.
+      curveAssigned (x .vars) (names .curves m) u (placeWord y) (placeIndex y) >>= λ v.
+      doneIn (withVars x v)
 
   -- one or more, left to right: each finds the world as the one before it left it
   unfoldable pub actionsTree : ℕ → World → Action → List Action → Answer ActionsDone
@@ -126,6 +134,11 @@ module _ (names : Names) (automatic : Bool) where
   turnsTree [] k x = good (record { world = x; entries = [] })
   turnsTree (l ∷ ls) k x = turnTree l k x >>= λ t. turnsTree ls (k + 1) (t .world) >>= λ u. good (record { world = u .world; entries = t .entries ++ u .entries })
 
--- the names of a set of lines by rising number
-abbrev pub namesOf : List Line → List Bool → Names
-namesOf ls cancelled = record { numbers = map treeNumber ls; cancelled = cancelled }
+-- the names of a set of lines by rising number, and of curves
+abbrev pub namesOf : List Line → (ℕ → Curve) → List Bool → Names
+namesOf ls curves cancelled = record { numbers = map treeNumber ls; cancelled = cancelled; curves = curves }
+
+-- the curve that the number n names by some definitions: that of the first with the number; the zero curve where there is none
+unfoldable pub curveNamed : List Definition → ℕ → Curve
+curveNamed [] n = faultyDefinition 0 .curve
+curveNamed (d ∷ ds) n = elim (eqb (d .number) n) [ true ↦ curveIn d | false ↦ curveNamed ds n ]

@@ -49,6 +49,10 @@ usedAbove = 11
 abbrev pub notInSet : ℕ
 notInSet = 12
 
+-- a curve whose lower limit is above its upper one, that is defined twice, or used but not defined
+abbrev pub wrongCurve : ℕ
+wrongCurve = 13
+
 -- order buffer under 2,048 bytes
 abbrev pub shortBuffer : ℕ
 shortBuffer = 20

@@ -1,4 +1,4 @@
--- What the promises mean: values, time, FIFOs and the two's complement, document 01's codes, a list written into an array, and the laws that follow from them.
+-- What the promises mean: values, curves, time, FIFOs and the two's complement, document 01's codes, a list written into an array, and the laws that follow from them.
 pub mod Codes
 pub mod Size
 pub mod Value
@@ -11,6 +11,9 @@ pub mod Cut
 pub mod CutLaws
 pub mod Unique
 mod ValueTable
+pub mod Curve
+pub mod CurveLaws
+mod CurveTable
 pub mod Time
 pub mod TimeLaws
 pub mod Fifo

@@ -1,7 +1,7 @@
 -- Signed numbers in the code: each is read back from its bits, and what two of them give fits twice the width.
 use mathlib.Core.Path.{_≡_, sym, ap, _∙_}
 use mathlib.Core.Bool.{true, false}
-use Prim.Native.Nat.{ℕ, suc, _≤_}
+use Prim.Native.Nat.{ℕ, suc, _≤_, _<_}
 use native.Mathlib.Omega.{arith}
 use lib.Dec.{T, eqb, lit<}
 use lib.IntN.{ℤ, pos, negsuc, natAbs, negℤ, ℤ-discrete, _+ℤ_, _-ℤ_, +ℤ-idl}
@@ -120,17 +120,17 @@ turned-back h = back w64 (turned-fits h) ∙ turned h
 pub size-cast : (z : ℤ) (n : ℕ) → z ≡ pos n → n ≤ 2147483648 → T (nonNeg z) × Fits w64 (natAbs z)
 size-cast z n e h = rw e (tt, record { fits = omega arith })
 
--- a size up to the top, as an i32, and its negative
-pub size-back : (n : ℕ) → n ≤ top → toZ w32 n ≡ pos n
+-- a size that fits an i32, as one, and its negative
+pub size-back : (n : ℕ) → n < 2147483648 → toZ w32 n ≡ pos n
 size-back n h = toZ-pos w32 n (omega arith)
 
-negative : (n : ℕ) → n ≤ top → pos 0 -ℤ toZ w32 n ≡ negℤ (pos n)
+negative : (n : ℕ) → n < 2147483648 → pos 0 -ℤ toZ w32 n ≡ negℤ (pos n)
 negative n h = rw (size-back n h) (+ℤ-idl (negℤ (pos n)))
 
-pub negative-fits : (n : ℕ) → n ≤ top → SFits w32 (pos 0 -ℤ toZ w32 n)
+pub negative-fits : (n : ℕ) → n < 2147483648 → SFits w32 (pos 0 -ℤ toZ w32 n)
 negative-fits n h = rw (negative n h) (fits-abs w32 (negℤ (pos n)) (omega (arith, abs-neg (pos n))))
 
-pub negative-back : (n : ℕ) → n ≤ top → toZ w32 (ofZ w32 (pos 0 -ℤ toZ w32 n)) ≡ negℤ (pos n)
+pub negative-back : (n : ℕ) → n < 2147483648 → toZ w32 (ofZ w32 (pos 0 -ℤ toZ w32 n)) ≡ negℤ (pos n)
 negative-back n h = back w32 (negative-fits n h) ∙ negative n h
 
 -- the test of a sign

@@ -36,6 +36,9 @@ pub const USED_ABOVE: u8 = 11;
 // LOCK or UNLOCK of a number not in the set.
 pub const NOT_IN_SET: u8 = 12;
 
+// A curve whose lower limit is above its upper one, that is defined twice, or used but not defined.
+pub const WRONG_CURVE: u8 = 13;
+
 // Order buffer under 2,048 bytes.
 pub const SHORT_BUFFER: u8 = 20;
 

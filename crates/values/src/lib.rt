@@ -4,5 +4,6 @@
 pub mod arithmetic;
 pub mod codes;
 pub mod complement;
+pub mod curve;
 pub mod fifo;
 pub mod time;

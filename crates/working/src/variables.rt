@@ -148,7 +148,7 @@ fn fifo_at(r: &[i32; RS], cells: &[i32; CELLS], w: u32, i: u32) -> Worked
 }
 
 // What the variable w[i] reads.
-pub(crate) fn variable_value(r: &[i32; RS], cells: &[i32; CELLS], w: u32, i: u32) -> Worked
+pub fn variable_value(r: &[i32; RS], cells: &[i32; CELLS], w: u32, i: u32) -> Worked
     ensures { λ x. ⌜ x ≡ variableValue (now (r .entry)) (now (cells .entry)) w i ⌝ }
 {
     if !is_inside(w, i) {

@@ -67,8 +67,8 @@ pub fn constant(random: &mut Random) -> String {
 
 /// A value around a half, by itself or beside a whole number.
 pub fn half(random: &mut Random) -> String {
-    match random.below(4) {
-        3 => random.pick(&HIGH_HALVES).into(),
+    match random.below(5) {
+        3..=4 => random.pick(&HIGH_HALVES).into(),
         0 => format!("$A_IN [ {} ] + {}", random.between(1, 4), random.pick(&HALVES)),
         1 => format!("- $A_IN [ {} ] - {}", random.between(1, 4), random.pick(&["0.499", "0.5", "0.501"])),
         _ => random.pick(&HALVES).into(),

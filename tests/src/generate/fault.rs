@@ -4,19 +4,19 @@ use super::expression::loose_expression;
 use crate::random::Random;
 
 /// Bytes and words that make no token.
-const NO_TOKENS: [&str; 24] = [
+const NO_TOKENS: [&str; 23] = [
     "#", "a", "$R1", "$AC_FIFO5", "1.", ".5", "1A", "_", "\t", "\r", "ELSE", "X1", "M7", "1_", "$", "when",
-    "!", "A", "1.5.2", "\u{7f}", "AUTOMATIC", "12DO", "$A_INX", ",",
+    "!", "A", "1.5.2", "\u{7f}", "AUTOMATIC", "12DO", "$A_INX",
 ];
 /// Tokens for lines that leave the grammar.
-const TOKENS: [&str; 20] = [
+const TOKENS: [&str; 21] = [
     "(", ")", "[", "]", "=", "==", "<", "<>", "AND", "OR", "NOT", "-", "+", "*", "1", "1.0", "DO", "X",
-    "TRUE", "$R",
+    "TRUE", "$R", ",",
 ];
 /// The other tokens, for lines that still may be in it.
-const MORE_TOKENS: [&str; 16] = [
+const MORE_TOKENS: [&str; 18] = [
     "FALSE", "XOR", ">", "<=", ">=", "/", "ID", "IDS", "WHEN", "FROM", "M", "SETAL", "LOCK", "POS", "$AA_IM",
-    "$AC_FIFO1",
+    "$AC_FIFO1", "FCTDEF", "SYNFCT",
 ];
 const KIND_FAULTS: [&str; 6] = [
     "$R [ 9 ] = TRUE", "$R [ 9 ] = ( 1 < 2 )", "$R [ 9 ] = 1 + NOT TRUE", "POS [ X ] = FALSE",
@@ -86,18 +86,18 @@ fn fault_in_line(random: &mut Random, fault: usize, line: &mut String, numbers: 
     }
 }
 
-fn append(line: &mut String, tokens: &str) {
+pub fn append(line: &mut String, tokens: &str) {
     line.push(' ');
     line.push_str(tokens);
 }
 
-fn insert(random: &mut Random, line: &mut String, from: &[&str]) {
+pub fn insert(random: &mut Random, line: &mut String, from: &[&str]) {
     let mut tokens: Vec<&str> = line.split(' ').collect();
     tokens.insert(random.below(tokens.len() + 1), random.pick(from));
     *line = tokens.join(" ");
 }
 
-fn remove(random: &mut Random, line: &mut String) {
+pub fn remove(random: &mut Random, line: &mut String) {
     let mut tokens: Vec<&str> = line.split(' ').collect();
     tokens.remove(random.below(tokens.len()));
     *line = tokens.join(" ");
@@ -155,7 +155,7 @@ fn more_lines(random: &mut Random, lines: &mut Vec<String>, numbers: &[i64]) {
 }
 
 /// A number that is no line's.
-fn missing(random: &mut Random, numbers: &[i64]) -> i64 {
+pub fn missing(random: &mut Random, numbers: &[i64]) -> i64 {
     let any = random.between(1, 255);
     (0..255).map(|step| (any + step) % 255 + 1).find(|number| !numbers.contains(number)).unwrap_or(255)
 }

@@ -19,11 +19,13 @@ pub fn filled(random: &mut Random, set: RandomSet) -> RandomSet {
     let head = format!("{} = {} DO POS [ Y ] =", random.pick(&["ID", "IDS"]), set.numbers[last]);
     lines[last] = format!("{head} 5");
     let wanted = TEXT - random.pick(&[0, 0, 0, 1, 2, 9]);
-    let Some(signs) = wanted.checked_sub(tight_text(&lines).len()) else {
+    let defining: Vec<String> = set.curves.iter().map(|curve| curve.line.clone()).collect();
+    let text = |lines: &[String]| tight_text(&[&defining, lines].concat());
+    let Some(signs) = wanted.checked_sub(text(&lines).len()) else {
         return set;
     };
     lines[last] = format!("{head} {}5", "- ".repeat(signs));
-    RandomSet { text: tight_text(&lines), lines, ..set }
+    RandomSet { text: text(&lines), lines, ..set }
 }
 
 /// The places, among the tokens of a line's body, of numbers that are operands.

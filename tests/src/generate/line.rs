@@ -41,7 +41,7 @@ fn head(random: &mut Random, keyword: &str) -> String {
     }
 }
 
-fn any_head(random: &mut Random) -> String {
+pub fn any_head(random: &mut Random) -> String {
     let keyword = random.weighted(&KEYWORDS);
     head(random, keyword)
 }

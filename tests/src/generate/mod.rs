@@ -1,6 +1,8 @@
 //! Random inputs by seed: set text with beats, host sessions, short and long, and set text for prints.
 
 mod beats;
+mod curve;
+mod curve_fault;
 mod expression;
 mod fault;
 mod filled;
@@ -14,9 +16,12 @@ mod steady;
 use crate::load::TEXT;
 use crate::random::Random;
 use crate::runner::Form;
+use crate::set::LINES;
+use curve::Curve;
 
-/// A random set. `faulty` says that near misses were put in.
+/// A random set: its curves, and its numbered lines. `faulty` says that near misses were put in.
 struct RandomSet {
+    curves: Vec<Curve>,
     numbers: Vec<i64>,
     lines: Vec<String>,
     text: Vec<u8>,
@@ -59,12 +64,21 @@ fn long_synrun_input(random: &mut Random) -> Vec<u8> {
 /// A set that has near misses in `percent` of a hundred.
 fn random_set(random: &mut Random, percent: usize) -> RandomSet {
     let set = random_lines(random, percent);
-    RandomSet { text: layout::set_text(random, &set.lines), ..set }
+    RandomSet { text: layout::set_text(random, &set.all_lines()), ..set }
+}
+
+impl RandomSet {
+    /// The lines that define curves, and then the numbered lines.
+    fn all_lines(&self) -> Vec<String> {
+        self.curves.iter().map(|curve| &curve.line).chain(&self.lines).cloned().collect()
+    }
 }
 
 /// Such a set without its text.
 fn random_lines(random: &mut Random, percent: usize) -> RandomSet {
-    let count = if random.chance(4) { random.below(33) } else { random.between(1, 9) as usize };
+    let mut curves = curve::some_curves(random);
+    let count = if random.chance(4) { random.below(LINES + 1) } else { random.between(1, 9) as usize };
+    let count = count.min(LINES - curves.len());
     let numbers = distinct_numbers(random, count);
     let mut lines: Vec<String> = numbers.iter().map(|number| line::line(random, *number, &numbers)).collect();
     if count > 3 && random.chance(25) {
@@ -72,14 +86,28 @@ fn random_lines(random: &mut Random, percent: usize) -> RandomSet {
             lines[place] = format!("{} = {} {body}", random.pick(&["ID", "IDS"]), numbers[place]);
         }
     }
+    for (place, line) in lines.iter_mut().enumerate() {
+        if !curves.is_empty() && random.chance(30) {
+            *line = format!(
+                "{} = {} {}",
+                random.pick(&["ID", "IDS"]),
+                numbers[place],
+                curve::line(random, &curves)
+            );
+        }
+    }
     if count > 0 && random.chance(75) {
         lines[0] = format!("IDS = {} {}", numbers[0], line::watching_line(random, &lines[1..]));
     }
     let faulty = count > 0 && random.chance(percent);
-    if faulty {
+    let in_curves = faulty && random.chance(35);
+    if in_curves {
+        curve_fault::add_fault(random, &mut curves, &mut lines, &numbers);
+    }
+    if faulty && (!in_curves || random.chance(25)) {
         fault::add_faults(random, &mut lines, &numbers);
     }
-    RandomSet { numbers, lines, text: Vec::new(), faulty }
+    RandomSet { curves, numbers, lines, text: Vec::new(), faulty }
 }
 
 /// Distinct line numbers in no order, mostly small, the highest first so that a watching line comes last.

@@ -7,6 +7,10 @@ use crate::random::Random;
 /// Brackets that may be open at once.
 const DEPTH: usize = 8;
 /// Lines as a print writes them, words and numbers in every neighbourhood.
+const PLAIN_CURVES: [&str; 3] = [
+    "FCTDEF(2,0,120,160,-2,0,0)\n", "FCTDEF(1,-0.5,1,-0,0,0.001,1000000)\n",
+    "FCTDEF(3,-100,-10.01,1,2,3,4)\n",
+];
 const PLAIN_BODIES: [&str; 6] = [
     " DO$R[1]=1.5$R[2]=$A_INA[1]POS[X]=0.001", " WHEN NOT TRUE DO M=7 M=99",
     " FROM(1<2)AND TRUE DO FA[U]=10 SETAL(65000)", " EVERY 1<=$A_IN[1]DO$AC_MARKER[0]=--1",
@@ -26,13 +30,16 @@ pub fn input(random: &mut Random) -> Vec<u8> {
     input
 }
 
-/// A set whose lines are written at length; every sixth has near misses, and some have no line.
+/// A set whose lines are written at length; every sixth has near misses, and some have no line, or curves alone.
 fn dressed_text(random: &mut Random) -> Vec<u8> {
     if random.chance(2) {
         return layout::set_text(random, &["".into(), " ".into(), "".into()]);
     }
-    let set = random_lines(random, 16);
-    let lines: Vec<String> = set.lines.iter().map(|line| dressed(random, line)).collect();
+    let mut set = random_lines(random, 16);
+    if random.chance(4) {
+        set.lines.clear();
+    }
+    let lines: Vec<String> = set.all_lines().iter().map(|line| dressed(random, line)).collect();
     layout::set_text(random, &lines)
 }
 
@@ -52,15 +59,16 @@ fn dressed(random: &mut Random, line: &str) -> String {
             "TRUE" | "FALSE" | "NOT" if random.chance(40) => format!("{}{token}", chain(random, "NOT ")),
             _ if !token.starts_with(|first: char| first.is_ascii_digit()) => token.to_string(),
             _ if stands_alone(before(2), before(1)) => zeros(random, token, false),
+            _ if tokens[0] == "FCTDEF" => zeros(random, token, true),
             _ => operand(random, token, DEPTH.saturating_sub(open)),
         });
     }
     written.join(" ")
 }
 
-/// The number after these two tokens is one without a point: an index, or that of a line, M, SETAL, LOCK or UNLOCK.
+/// The number after these two tokens is one without a point: an index, or that of a line, a curve, M, SETAL, LOCK or UNLOCK.
 pub fn stands_alone(first: &str, second: &str) -> bool {
-    let named = ["ID", "IDS", "M", "SETAL", "LOCK", "UNLOCK"].contains(&first);
+    let named = ["ID", "IDS", "M", "SETAL", "LOCK", "UNLOCK", "FCTDEF", "SYNFCT"].contains(&first);
     second == "[" || (named && ["=", "("].contains(&second))
 }
 
@@ -103,13 +111,14 @@ fn zeros(random: &mut Random, number: &str, pointed: bool) -> String {
 
 /// A text that is its own print but for the order of its lines, filled up to the most bytes, or one fewer or more.
 fn full_text(random: &mut Random) -> Vec<u8> {
-    let count = random.between(1, 32) as usize;
+    let curves = PLAIN_CURVES[..random.below(4)].concat();
+    let count = random.between(1, 29) as usize;
     let numbers = distinct_numbers(random, count);
     let lines: Vec<String> = numbers
         .iter()
         .map(|number| format!("{}={number}{}", random.pick(&["ID", "IDS"]), random.pick(&PLAIN_BODIES)))
         .collect();
-    let text = lines.join("\n");
+    let text = curves + &lines.join("\n");
     let wanted = TEXT + 1 - random.pick(&[0, 1, 1, 1, 1, 2]);
     let head = if text.ends_with(|last: char| last.is_ascii_digit()) { " POS[Y]=" } else { "POS[Y]=" };
     let signs = wanted.saturating_sub(text.len() + head.len() + 1);

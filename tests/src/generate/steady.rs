@@ -1,6 +1,7 @@
 //! Full sets that run for thousands of beats: what their lines write stays in range, so that alarms come from inputs
 //! and pass with them.
 
+use super::curve::{curves, steady_lines, steady_sorts};
 use super::expression::{axis, half};
 use super::layout::lines_text;
 use super::line::{held_lines, lock, watching_line, ALARMS, KEYWORDS};
@@ -16,7 +17,10 @@ const SHORT_BODY: &str = "DO POS [ X ] = 1";
 
 /// A set that is taken when loaded; in half of them most lines are IDS lines, which outlive a reset.
 pub fn full_set(random: &mut Random) -> RandomSet {
-    let count = if random.chance(80) { LINES } else { random.between(20, 31) as usize };
+    let sorts = steady_sorts(random);
+    let curves = if random.chance(70) { curves(random, &sorts) } else { Vec::new() };
+    let most = LINES - curves.len();
+    let count = if random.chance(80) { most } else { random.between(21, most as i64 - 1) as usize };
     let numbers = distinct_numbers(random, count);
     let ids = random.pick(&[20, 45, 80, 95]);
     let crowded = random.chance(25);
@@ -28,6 +32,10 @@ pub fn full_set(random: &mut Random) -> RandomSet {
     bodies[8] = alarm_line(random);
     bodies[9..12].clone_from_slice(&fifo_lines(random));
     bodies[12..14].clone_from_slice(&self_locking_lines(random, numbers[12]));
+    if !curves.is_empty() {
+        let steady = steady_lines(random, &curves);
+        bodies[14..14 + steady.len()].clone_from_slice(&steady);
+    }
     bodies[0] = watching_line(random, &bodies[1..]);
     let scope = |random: &mut Random| if random.chance(ids) { "IDS" } else { "ID" };
     let head = |random: &mut Random, number: i64| format!("{} = {number}", scope(random));
@@ -36,13 +44,14 @@ pub fn full_set(random: &mut Random) -> RandomSet {
         .zip(bodies)
         .map(|(number, body)| format!("{} {body}", head(random, *number)))
         .collect();
-    let mut text = lines_text(random, &lines);
+    let defining: Vec<String> = curves.iter().map(|curve| curve.line.clone()).collect();
+    let mut text = lines_text(random, &[&defining[..], &lines].concat());
     while text.len() > TEXT {
         let (place, number) = longest(&lines, &numbers);
         lines[place] = format!("{} {SHORT_BODY}", head(random, number));
-        text = lines_text(random, &lines);
+        text = lines_text(random, &[&defining[..], &lines].concat());
     }
-    RandomSet { numbers, lines, text, faulty: false }
+    RandomSet { curves, numbers, lines, text, faulty: false }
 }
 
 fn longest(lines: &[String], numbers: &[i64]) -> (usize, i64) {
@@ -107,8 +116,8 @@ fn source(random: &mut Random) -> String {
 /// Counters, and values that shrink more than they grow.
 fn action(random: &mut Random, keyword: &str, numbers: &[i64]) -> String {
     let (to, from) = (random.between(0, 7), random.between(0, 7));
-    match random.below(26) {
-        24..=25 => format!("$AC_MARKER [ {} ] = {}", random.between(28, 31), half(random)),
+    match random.below(28) {
+        24..=27 => format!("$AC_MARKER [ {} ] = {}", random.between(28, 31), half(random)),
         0..=4 => format!("$AC_MARKER [ {to} ] = $AC_MARKER [ {to} ] + 1"),
         5 => format!("$AC_MARKER [ {to} ] = 0"),
         6..=8 => format!("$R [ {to} ] = $R [ {from} ] / 3 + {}", source(random)),

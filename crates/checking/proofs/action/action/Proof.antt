@@ -4,7 +4,7 @@ use native.Mathlib.Omega.{arith}
 use borrow.Author.Tests.{not-true, not-false}
 use mathlib.Core.Path.{refl, sym, _∙_}
 use Prim.Native.Nat.{_+_}
-use Rattle.checking.proofs.FaultLaws.{no-action, action-command, action-wrong, action-assigns}
+use Rattle.checking.proofs.FaultLaws.{no-action, action-unindexed, action-wrong, action-assigns}
 use Rattle.checking.proofs.SightNumberLaws.{faulted-nothing}
 use Rattle.checking.proofs.BracketCountLaws.{counts-assigned, counted-nothing, counted-behind, counted-token}
 use Rattle.tokens.specs.BetweenLaws.{lies-inside}
@@ -24,8 +24,8 @@ action-spec =
     (λ c.
     let i = c .before .before in
     let t = i .before .before .before .token-at .ensures in (
-      c .command .ensures .0 ∙ action-command _ _ _ _ _ t (sym (i .is-indexed .ensures) ∙ not-true _ (c .before .if2 .taken)),
-      counted-token _ _ t (c .command .ensures .1 .0) (c .command .ensures .1 .1),
+      c .unindexed .ensures .0 ∙ action-unindexed _ _ _ _ _ t (sym (i .is-indexed .ensures) ∙ not-true _ (c .before .if2 .taken)),
+      counted-token _ _ t (c .unindexed .ensures .1 .0) (c .unindexed .ensures .1 .1),
     ))
     (λ c.
     let s = c .before .before .before .before in

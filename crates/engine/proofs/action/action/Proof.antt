@@ -1,6 +1,6 @@
 -- `action::action` meets its contract: by the word at the place.
 use borrow.Author.Needs.{needs}
-use borrow.Author.Tests.{ne-eqb}
+use borrow.Author.Tests.{eq-eqb, ne-eqb}
 use mathlib.Core.Path.{refl, sym, _∙_}
 use Prim.Native.Nat.{_<_}
 use native.Mathlib.Omega.{arith}
@@ -39,10 +39,19 @@ action-spec =
     let e = v .before .before in
     let a = e .before .before .before .args in
     (λ memory. simp (actionOf, sym (e .before .token-at .ensures), ne-eqb _ _ (e .if1 .left), sym (v .before .is-variable .ensures) ∙ v .if2 .left, sym (d .before .is-drive .ensures) ∙ d .if3 .taken) (c .drive .ensures .0 (now (a .runs)) (now (a .locked)) memory), c .drive .ensures .1))
-    (λ c κs. (place (c .before .before .before .before .before .before), search needs))
+    (λ c κs. place (c .before .before .before .before .before .before .before .before))
     (λ c.
-    let d = c .before .before .before in
+    let f = c .before .before .before .before in
+    let d = f .before in
     let v = d .before .before in
     let e = v .before .before in
     let a = e .before .before .before .args in
-    (λ memory. simp (actionOf, sym (e .before .token-at .ensures), ne-eqb _ _ (e .if1 .left), sym (v .before .is-variable .ensures) ∙ v .if2 .left, sym (d .before .is-drive .ensures) ∙ d .if3 .left) (c .command .ensures .0 (varsOf (now (a .r)) (now (a .cells)) (now (a .runs))) memory), c .command .ensures .1)))
+    (λ memory. simp (actionOf, sym (e .before .token-at .ensures), ne-eqb _ _ (e .if1 .left), sym (v .before .is-variable .ensures) ∙ v .if2 .left, sym (d .before .is-drive .ensures) ∙ d .if3 .left, eq-eqb _ _ (f .if4 .taken)) (c .synfct .ensures .0 (now (a .locked)) memory (now (a .out))), (omega arith, c .synfct .ensures .1 .1)))
+    (λ c κs. (place (c .before .before .before .before .before .before .before), search needs))
+    (λ c.
+    let f = c .before .before .before in
+    let d = f .before in
+    let v = d .before .before in
+    let e = v .before .before in
+    let a = e .before .before .before .args in
+    (λ memory. simp (actionOf, sym (e .before .token-at .ensures), ne-eqb _ _ (e .if1 .left), sym (v .before .is-variable .ensures) ∙ v .if2 .left, sym (d .before .is-drive .ensures) ∙ d .if3 .left, ne-eqb _ _ (f .if4 .left)) (c .command .ensures .0 (varsOf (now (a .r)) (now (a .cells)) (now (a .runs))) memory), c .command .ensures .1)))

@@ -3,16 +3,16 @@ use borrow.Author.Needs.{needs}
 use borrow.Author.Tests.{not-true, not-false}
 use native.Mathlib.Omega.{arith}
 use mathlib.Core.Path.{_≡_, refl, sym, ap, _∙_}
-use mathlib.Core.List.{List}
+use mathlib.Core.List.{List, _++_}
 use Prim.Native.Nat.{ℕ, _≤_}
 use lib.ListN.{length}
 use denote.Ref.{now}
-use Rattle.tokens.specs.Token.{maxLines}
+use Rattle.tokens.specs.Token.{maxLines, maxCurves}
 use Rattle.values.specs.PutAt.{putAt}
 use Rattle.engine.specs.Set.{soundLines}
 use Rattle.engine.specs.SetCountLaws.{sound-count}
 use Rattle.engine.specs.declared.set.Lines.{Lines}
-use Rattle.print.specs.PrintText.{lineRows, rowsOf, rowsText, printText}
+use Rattle.print.specs.PrintText.{lineRows, curveRows, rowsOf, rowsText, printText}
 use Rattle.print.specs.PrintAnswerLaws.{answers-unsound, answers-small, answers-short, answers-printed}
 use Rattle.print.proofs.set_print.print.Statement.{statement}
 use Rattle.print.proofs.set_print.print.Tie as tie
@@ -22,9 +22,9 @@ module _ (s : List ℕ) {l : Lines} (e : l ≡ soundLines s) where
   few : l .count ≤ maxLines
   few = let n = sound-count s in let c = ap (λ (x : Lines). x .count) e in omega arith
 
-  text-is : rowsText (lineRows s (l .count) 0) ≡ printText s
+  text-is : rowsText (curveRows s maxCurves 1 ++ lineRows s (l .count) 0) ≡ printText s
   unfolding printText rowsOf
-  text-is = ap (λ (x : Lines). rowsText (lineRows s (x .count) 0)) e
+  text-is = ap (λ (x : Lines). rowsText (curveRows s maxCurves 1 ++ lineRows s (x .count) 0)) e
 
 pub print-spec : {M : Type 1} → statement M
 print-spec =

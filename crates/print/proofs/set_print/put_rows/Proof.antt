@@ -1,23 +1,40 @@
--- `set_print::put_rows` meets its contract: in the loop the rows from `k` on, put at `at`, come to what all of them come to.
-use borrow.Author.Needs.{needs}
+-- `set_print::put_rows` meets its contract: in the loop the rows of the slots from `k` on, put at `at`, come to what all of them come to.
 use native.Mathlib.Omega.{arith}
-use mathlib.Core.Path.{_≡_, refl, _∙_}
-use Prim.Native.Nat.{_+_, _-_, _*_, _≤_}
+use mathlib.Core.Path.{_≡_, refl, sym, ap, _∙_}
+use mathlib.Core.Bool.{Bool, false, _||_}
+use mathlib.Core.List.{List, _++_}
+use Prim.Native.Nat.{ℕ, _+_, _-_, _*_, _≤_, _<_}
 use lib.ListN.{length}
 use denote.Ref.{now}
-use Rattle.values.specs.PutLaws.{put-nothing, put-byte, put-both, put-as, Left, left-all, left-after, left-none}
-use Rattle.print.specs.PrintText.{lineRows, behindText, rowsText}
-use Rattle.print.specs.PrintRoomLaws.{lineRoom}
-use Rattle.print.specs.PrintLaws.{rows-none, rows-first, rows-next, rows-over}
+use Rattle.values.specs.PutLaws.{put-as, Left, left-all, left-after, left-none}
+use Rattle.tokens.specs.Token.{maxCurves}
+use Rattle.print.specs.PrintText.{rowsText}
+use Rattle.print.specs.PrintOrder.{isThere, slotRows, rowsBehind, slotText}
+use Rattle.print.specs.PrintRoomLaws.{rowRoom}
+use Rattle.print.specs.PrintOrderLaws.{slots-rows, slots-next, slots-over}
 use Rattle.print.proofs.set_print.put_rows.Statement.{statement}
 use Rattle.print.proofs.set_print.put_rows.Tie as tie
 
+-- all that is put, and what is left of it from slot k on
+abbrev all : List ℕ → ℕ → List ℕ
+all s count = rowsText (slotRows s (maxCurves + count) 0)
+
+abbrev rest : List ℕ → ℕ → Bool → ℕ → List ℕ
+rest s count behind k = rowsBehind behind (slotRows s (maxCurves + count - k) k)
+
 abbrev Inv-loop : tie.InvT-loop
-Inv-loop set count out₀ at₀ k₀ out at k =
-    Left out₀ at₀ (behindText (lineRows set (count - 1) 1)) out at (behindText (lineRows set (count - k) k)) × (length out ≡ length out₀) × (at ≤ at₀ + (lineRoom + 1) * k)
+Inv-loop set count out₀ at₀ behind₀ k₀ out at behind k = Left out₀ 0 (all set count) out at (rest set count behind k) × (length out ≡ length out₀) × (at ≤ rowRoom * k)
 
 abbrev μ-loop : tie.MeasureT-loop
-μ-loop set count out₀ at₀ k₀ out at k = count - k
+μ-loop set count out₀ at₀ behind₀ k₀ out at behind k = maxCurves + count - k
+
+-- at first all of it
+all-left : (s : List ℕ) (count : ℕ) → rest s count false 0 ≡ all s count
+all-left s count = let e : maxCurves + count - 0 ≡ maxCurves + count = omega arith in ap (λ (n : ℕ). rowsText (slotRows s n 0)) e
+
+-- then that of slot k, and what is left from the next on
+next-left : (s : List ℕ) (count k : ℕ) (b : Bool) {c : Bool} → c ≡ (b || isThere s k) → k < maxCurves + count → rest s count b k ≡ slotText s b k ++ rest s count c (k + 1)
+next-left s count k b e h = slots-next s b (maxCurves + count) k h ∙ ap (λ (c : Bool). slotText s b k ++ rest s count c (k + 1)) (sym e)
 
 pub put-rows-spec : {M : Type 1} → statement M
 put-rows-spec =
@@ -25,35 +42,26 @@ put-rows-spec =
     (tie.spec
     Inv-loop
     μ-loop
-    (λ c. let a = c .before .before .args in put-as (rows-none (now (a .set)) (a .count) (c .if1 .taken)) put-nothing)
-    (λ c κs. search needs)
-    (λ c. (left-all refl, refl, omega arith))
-    (λ c κs. search needs)
-    (λ c.
-    let b = c .before .before .before .before .before .before in
-    let p = b .before .before .before in
-    omega (arith, b .loop .inv .2, p .put-ranked .ensures .1))
-    (λ c κs.
-    let b = c .before .before .before .before .before .before in
-    let p = b .before .before .before in
-    (omega arith, omega (arith, b .loop .inv .2, p .put-ranked .ensures .1)))
+    (λ c. let a = c .before .args in (left-all (all-left (now (a .set)) (a .count)), refl, omega arith))
+    (λ c. omega arith)
+    (λ c κs. let b = c .before .before in (omega arith, omega (arith, b .loop .inv .2)))
+    (λ c κs. omega arith)
     (λ c. omega arith)
     (λ c. omega arith)
     (λ c.
-    let p = c .before .before in
-    let u = p .before .before .before .before in
-    let b = u .before .before .before in
-    let a = b .before .before .before .before .before .before .before .args in
+    let p = c .before .before .before in
+    let b = p .before .before .before in
+    let a = b .before .before .args in
     let s = now (a .set) in
     let k = b .loop .k in (
-      left-after (behindText (lineRows s (a .count - (k + 1)) (k + 1))) (b .loop .inv .0) (rows-next s (a .count) k (omega arith)) (put-both (put-byte (u .put .ensures)) (p .put-ranked2 .ensures .0)),
-      p .put-ranked2 .kept .1 .1 .0 ∙ u .put .kept .0 ∙ b .loop .inv .1,
-      omega (arith, p .put-ranked2 .ensures .1, b .loop .inv .2),
+      left-after (rest s (a .count) (c .is-behind .result) (k + 1)) (b .loop .inv .0)
+          (next-left s (a .count) k (b .loop .behind) (c .is-behind .ensures) (omega arith)) (p .put-slot .ensures .0),
+      p .put-slot .kept .1 .1 .1 .0 ∙ b .loop .inv .1,
+      omega (arith, p .put-slot .ensures .1, b .loop .inv .2),
     ))
-    (λ c. let b = c .before in b .loop .inv .1 ∙ b .before .before .before .put-ranked .kept .1 .1 .0)
+    (λ c. c .before .loop .inv .1)
     (λ c.
     let b = c .before in
-    let p = b .before .before .before in
-    let a = p .before .before .before .before .args in
+    let a = b .before .before .args in
     let s = now (a .set) in
-    put-as (rows-first s (a .count) (omega arith)) (put-both (p .put-ranked .ensures .0) (left-none (b .loop .inv .0) (rows-over s (a .count) (b .loop .k) (omega arith))))))
+    put-as (ap rowsText (sym (slots-rows s (a .count)))) (left-none (b .loop .inv .0) (slots-over s (b .loop .behind) (maxCurves + a .count) (b .loop .k) (omega arith)))))

@@ -1,4 +1,4 @@
--- `lines::read_lines` meets its contract: in the loop what becomes of the lines from place `i` on, below those that are kept, is what becomes of all; LineLaws and TokenLineLaws have the turn.
+-- `lines::read_lines` meets its contract: in the loop what becomes of the lines from place `i` on, below those that are kept, is what becomes of all; EachLineLaws and TokenLineLaws have the turn.
 use borrow.Author.Needs.{needs}
 use native.Mathlib.Omega.{arith}
 use mathlib.Core.List.{List, [], _∷_}
@@ -9,8 +9,9 @@ use denote.Ref.{now}
 use Rattle.tokens.specs.Token.{maxLines}
 use Rattle.engine.specs.Set.{emptySet}
 use Rattle.text.specs.Lines.{textLines, bodies, firstBody, numbered, tokenLines}
+use Rattle.reader.specs.Row.{nothing}
 use Rattle.reader.specs.Load.{Outcome, rowsFrom}
-use Rattle.reader.specs.Draft.{noDraft, rowsAt, rowsIn, Held, Says}
+use Rattle.reader.specs.Draft.{noDraft, rowsAt, curvesAt, keptIn, Held, Says}
 use Rattle.reader.proofs.TokenLineLaws.{lines-none, line-inside, part-is, lines-step}
 use Rattle.reader.proofs.EachLineLaws.{none-held, first-count, line-next, line-stop}
 use Rattle.reader.proofs.lines.read_lines.Statement.{statement}
@@ -18,7 +19,7 @@ use Rattle.reader.proofs.lines.read_lines.Tie as tie
 
 abbrev Inv-loop : tie.InvT-loop
 Inv-loop text s₀ row₀ d₀ k₀ i₀ s row d k i =
-    (rowsFrom (rowsIn s d) (numbered k (bodies (textLines (drop i text)))) ≡ rowsFrom [] (tokenLines text))
+    (rowsFrom (keptIn s d) (numbered k (bodies (textLines (drop i text)))) ≡ rowsFrom nothing (tokenLines text))
     × Held s d × (row ≡ emptySet) × (d .code ≡ 0)
     × (d .count + length (numbered k (bodies (textLines (drop i text)))) ≤ maxLines) × (d .at ≤ i) × (k ≤ i + 1) × (i ≤ length text + 1)
 
@@ -49,18 +50,18 @@ module _ (c : tie.After-line-bounds Inv-loop μ-loop) where
   steps : numbered (begun .loop .k) (bodies (textLines (drop (begun .loop .i) (text begun)))) ≡ numbered (begun .loop .k) (body ∷ behind)
   steps = lines-step (text begun) (begun .loop .i) _ (c .line-bounds .ensures) (begun .loop .k)
 
-  whole : rowsFrom (rowsIn (begun .loop .s) (begun .loop .d)) (numbered (begun .loop .k) (body ∷ behind)) ≡ rowsFrom [] (tokenLines (text begun))
-  whole = ap (rowsFrom (rowsIn (begun .loop .s) (begun .loop .d))) (sym steps) ∙ begun .loop .inv .0
+  whole : rowsFrom (keptIn (begun .loop .s) (begun .loop .d)) (numbered (begun .loop .k) (body ∷ behind)) ≡ rowsFrom nothing (tokenLines (text begun))
+  whole = ap (rowsFrom (keptIn (begun .loop .s) (begun .loop .d))) (sym steps) ∙ begun .loop .inv .0
 
 module _ (c : tie.After-take-line Inv-loop μ-loop) where
   abbrev line : tie.After-line-bounds Inv-loop μ-loop
   line = c .before .before .before .before
 
-  said : Says (rowsFrom (rowsIn (begun line .loop .s) (begun line .loop .d)) (numbered (begun line .loop .k) (body line ∷ []))) (c .take-line .last .1 .0) (c .take-line .result)
+  said : Says (rowsFrom (keptIn (begun line .loop .s) (begun line .loop .d)) (numbered (begun line .loop .k) (body line ∷ []))) (c .take-line .last .1 .0) (c .take-line .result)
   said = rw (is-body line) at (c .take-line .ensures .0)
 
 pub read-lines-spec : {M : Type 1} → statement M
-unfolding tokenLines rowsFrom rowsAt
+unfolding tokenLines rowsFrom rowsAt curvesAt emptySet
 read-lines-spec =
     tie.close
     (tie.spec
@@ -108,5 +109,5 @@ read-lines-spec =
     (λ c.
     let b = c .before in
     let v = b .loop .inv in
-    let e = ap (rowsFrom (rowsIn (b .loop .s) (b .loop .d))) (sym (lines-none (text b) (b .loop .i) (omega arith) (b .loop .k))) ∙ v .0 in
+    let e = ap (rowsFrom (keptIn (b .loop .s) (b .loop .d))) (sym (lines-none (text b) (b .loop .i) (omega arith) (b .loop .k))) ∙ v .0 in
     (subst (λ (o : Outcome). Says o (b .loop .s) (b .loop .d)) e (v .3, refl, v .1), v .2)))

@@ -2,7 +2,7 @@
 use borrow.Author.Needs.{needs}
 use native.Mathlib.Omega.{arith}
 use mathlib.Core.Path.{_≡_, sym, _∙_}
-use mathlib.Core.List.{List, []}
+use mathlib.Core.List.{List}
 use Prim.Native.Nat.{ℕ, _≤_}
 use lib.ListN.{length}
 use denote.Ref.{now}
@@ -10,9 +10,10 @@ use Rattle.tokens.specs.Token.{maxLines, textSize}
 use Rattle.engine.specs.Set.{emptySet}
 use Rattle.text.specs.Lines.{tokenLines}
 use Rattle.reader.specs.declared.draft.Draft.{Draft}
+use Rattle.reader.specs.Row.{nothing}
 use Rattle.reader.specs.Load.{taken, rowsFrom}
-use Rattle.reader.specs.Draft.{rowsIn, Held, Apart}
-use Rattle.reader.proofs.LoadLaws.{text-long, text-many, text-faulty, text-rows, text-unknown, text-good}
+use Rattle.reader.specs.Draft.{rowsIn, keptIn, Held, Apart}
+use Rattle.reader.proofs.LoadLaws.{text-long, text-many, text-faulty, text-kept, text-unknown, text-good}
 use Rattle.reader.proofs.load_text.load.Statement.{statement}
 use Rattle.reader.proofs.load_text.load.Tie as tie
 
@@ -46,8 +47,8 @@ module _ (c : tie.After-read-lines) where
   abbrev draft : Draft
   draft = c .read-lines .result
 
-  rows : draft .code ≡ 0 → (rowsFrom [] (tokenLines (text (start small))) ≡ taken (rowsIn array draft)) × Held array draft × Apart (rowsIn array draft)
-  rows z = text-rows (text (start small)) (short small) (few small) array draft (c .read-lines .ensures .0) z
+  kept : draft .code ≡ 0 → (rowsFrom nothing (tokenLines (text (start small))) ≡ taken (keptIn array draft)) × Held array draft × Apart (rowsIn array draft)
+  kept z = text-kept (text (start small)) (short small) (few small) array draft (c .read-lines .ensures .0) z
 
 pub load-spec : {M : Type 1} → statement M
 load-spec =
@@ -73,16 +74,16 @@ load-spec =
     let l = small r in
     let w = text-faulty (text (start l)) (short l) (few l) (array r) (draft r) (r .read-lines .ensures .0) (c .before .if3 .taken) in
     (c .answered3 .ensures ∙ w .0, r .read-lines .ensures .1 ∙ w .1))
-    (λ c κs. let i = c .before .before in (rows (i .before) (i .if3 .left) .1, i .before .read-lines .ensures .1))
+    (λ c κs. let i = c .before .before in (kept (i .before) (i .if3 .left) .1, i .before .read-lines .ensures .1))
     (λ c κs. search needs)
     (λ c.
     let u = c .before .before in
     let i = u .before .before .before in
     let r = i .before in
     let l = small r in
-    let w = text-unknown (text (start l)) (short l) (few l) (rowsIn (array r) (draft r)) (rows r (i .if3 .left) .0) _ (u .first-unknown .ensures .0) (c .before .if4 .taken) in
+    let w = text-unknown (text (start l)) (short l) (few l) (keptIn (array r) (draft r)) (kept r (i .if3 .left) .0) _ (u .first-unknown .ensures .0) (c .before .if4 .taken) in
     (c .answered4 .ensures ∙ w .0, u .first-unknown .ensures .1 ∙ w .1))
-    (λ c κs. let i = c .before .before .before .before .before .before in let w = rows (i .before) (i .if3 .left) in (w .1, w .2))
+    (λ c κs. let i = c .before .before .before .before .before .before in let w = kept (i .before) (i .if3 .left) in (w .1, w .2))
     (λ c κs. search needs)
     (λ c.
     let p = c .before in
@@ -91,5 +92,5 @@ load-spec =
     let i = u .before .before .before in
     let r = i .before in
     let l = small r in
-    let w = text-good (text (start l)) (short l) (few l) (rowsIn (array r) (draft r)) (rows r (i .if3 .left) .0) _ (u .first-unknown .ensures .0) (n .if4 .left) _ (rw (u .first-unknown .ensures .1) at (p .put-rows .ensures)) in
+    let w = text-good (text (start l)) (short l) (few l) (keptIn (array r) (draft r)) (kept r (i .if3 .left) .0) _ (u .first-unknown .ensures .0) (n .if4 .left) _ (rw (u .first-unknown .ensures .1) at (p .put-rows .ensures)) in
     (c .answered5 .ensures ∙ w .0, w .1)))

@@ -18,4 +18,5 @@ single-token-spec =
     (λ c. rw (c .if9 .taken))
     (λ c. rw (c .if10 .taken))
     (λ c. rw (c .if11 .taken))
-    (λ c. single-none (c .before .before .before .before .before .before .before .before .before .before .before .args .a) (c .before .before .before .before .before .before .before .before .before .before .if1 .left) (c .before .before .before .before .before .before .before .before .before .if2 .left) (c .before .before .before .before .before .before .before .before .if3 .left) (c .before .before .before .before .before .before .before .if4 .left) (c .before .before .before .before .before .before .if5 .left) (c .before .before .before .before .before .if6 .left) (c .before .before .before .before .if7 .left) (c .before .before .before .if8 .left) (c .before .before .if9 .left) (c .before .if10 .left) (c .if11 .left)))
+    (λ c. rw (c .if12 .taken))
+    (λ c. single-none (c .before .before .before .before .before .before .before .before .before .before .before .before .args .a) (c .before .before .before .before .before .before .before .before .before .before .before .if1 .left) (c .before .before .before .before .before .before .before .before .before .before .if2 .left) (c .before .before .before .before .before .before .before .before .before .if3 .left) (c .before .before .before .before .before .before .before .before .if4 .left) (c .before .before .before .before .before .before .before .if5 .left) (c .before .before .before .before .before .before .if6 .left) (c .before .before .before .before .before .if7 .left) (c .before .before .before .before .if8 .left) (c .before .before .before .if9 .left) (c .before .before .if10 .left) (c .before .if11 .left) (c .if12 .left)))
