@@ -12,7 +12,7 @@ const NUMBER_AT: usize = 2;
 const BEYOND: u32 = 2_000_002_000;
 const TOP: u64 = 1_000_000_000;
 
-const SIGNS: [(&str, u32); 15] = [
+const SIGNS: [(&str, u32); 16] = [
     ("==", 2),
     ("<>", 3),
     ("<=", 6),
@@ -28,9 +28,10 @@ const SIGNS: [(&str, u32); 15] = [
     (")", 13),
     ("[", 14),
     ("]", 15),
+    (",", 29),
 ];
 
-const WORDS: [(&str, u32); 38] = [
+const WORDS: [(&str, u32); 40] = [
     ("ID", 16),
     ("IDS", 17),
     ("WHEN", 18),
@@ -44,6 +45,7 @@ const WORDS: [(&str, u32); 38] = [
     ("AND", 26),
     ("OR", 27),
     ("XOR", 28),
+    ("FCTDEF", 30),
     ("$A_IN", 32),
     ("$A_INA", 33),
     ("$A_OUT", 34),
@@ -63,6 +65,7 @@ const WORDS: [(&str, u32); 38] = [
     ("SETAL", 52),
     ("LOCK", 53),
     ("UNLOCK", 54),
+    ("SYNFCT", 56),
     ("X", 57),
     ("Y", 58),
     ("Z", 59),
