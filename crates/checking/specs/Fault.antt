@@ -1,4 +1,4 @@
--- Faults 4 to 10 of a line, from its tokens, and where its parts lie (document 01, "Lines of text" and "Codes"). Definitions only.
+-- Faults 4 to 10 of a line, from its tokens, and where its parts lie (document 01, "Lines of text" and "Codes"; document 02, Req 03). Definitions only.
 use mathlib.Core.Bool.{Bool, true, false, cond, not, _&&_, _||_}
 use mathlib.Core.List.{List}
 use Prim.Native.Nat.{ℕ, zero, suc, _+_}

@@ -102,14 +102,14 @@ unfoldable pub curveAssigned : Vars → Curve → ℤ → ℕ → ℕ → Answer
 curveAssigned v c x w i = fromWorked (curveOf c x) >>= λ y. writeTo v w i y
 
 -- SYNFCT(n,target,variable) where the variable reads a: curve n is worked there, and its result is assigned to the target
-abbrev pub synfctAt : List ℕ → World → ℤ → ℕ → Answer Did
-synfctAt s x a p =
+abbrev pub synfctWith : List ℕ → World → ℤ → ℕ → Answer Did
+synfctWith s x a p =
     curveAssigned (x .vars) (curveLine s (whole (token s (p + 2))) .curve) a (token s (p + 4)) (indexAt s (token s (p + 4)) (p + 4)) >>= λ v.
     did (p + 14) (withVars x v)
 
 -- the variable is read first
 unfoldable pub synfctOf : List ℕ → World → ℕ → Answer Did
-synfctOf s x p = fromWorked (variableValue (x .vars .r) (x .vars .cells) (token s (p + 9)) (indexAt s (token s (p + 9)) (p + 9))) >>= λ a. synfctAt s x a p
+synfctOf s x p = fromWorked (variableValue (x .vars .r) (x .vars .cells) (token s (p + 9)) (indexAt s (token s (p + 9)) (p + 9))) >>= λ a. synfctWith s x a p
 
 -- POS[axis]=, FA[axis]=, MOV[axis]= and a sum; an index that is no axis is in no sound set
 unfoldable pub driveOf : List ℕ → ℕ → World → ℕ → ℕ → Answer Did

@@ -1,4 +1,4 @@
--- Sound, as document 01 lists it ("Codes"). Definitions only.
+-- Sound, as documents 01 ("Codes") and 02 list it. Definitions only.
 use mathlib.Core.Bool.{Bool, true, false, cond, not, _&&_}
 use mathlib.Core.List.{List, [], _∷_}
 use Prim.Native.Nat.{ℕ, zero, suc, _+_}

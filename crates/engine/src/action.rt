@@ -7,7 +7,7 @@ ghost use Prim.Native.Nat.{ℕ, _+_, _<_};
 ghost use mathlib.Core.List.{List};
 ghost use lib.IntN.{pos};
 ghost use Rattle.working.specs.Working.{rightValue};
-ghost use Rattle.engine.specs.Action.{fromValueOrAlarm, alarmOf, did, ordered, takenAt, assignmentOf, curveAssigned, synfctAt, synfctOf, driveOf, lockOf, commandOf, actionOf};
+ghost use Rattle.engine.specs.Action.{fromValueOrAlarm, alarmOf, did, ordered, takenAt, assignmentOf, curveAssigned, synfctWith, synfctOf, driveOf, lockOf, commandOf, actionOf};
 ghost use Rattle.engine.specs.Order.{maxOrders};
 ghost use Rattle.engine.specs.ReadLines.{linesIn};
 ghost use Rattle.engine.specs.Write.{Vars};
@@ -215,7 +215,7 @@ fn synfct_at(
     p: usize,
 ) -> Done
     requires { ⌜ p < setSize ⌝ }
-    ensures { λ d. ⌜ ((locked memory : List Bool) (out : List ℕ) → IsDone d (worldOf (varsOf (now (r .exit)) (now (cells .exit)) (now (runs .exit))) locked memory out (d .progress)) (synfctAt (now (set .entry)) (worldOf (varsOf (now (r .entry)) (now (cells .entry)) (now (runs .entry))) locked memory out progress) x p)) × Within 0 d progress ⌝ }
+    ensures { λ d. ⌜ ((locked memory : List Bool) (out : List ℕ) → IsDone d (worldOf (varsOf (now (r .exit)) (now (cells .exit)) (now (runs .exit))) locked memory out (d .progress)) (synfctWith (now (set .entry)) (worldOf (varsOf (now (r .entry)) (now (cells .entry)) (now (runs .entry))) locked memory out progress) x p)) × Within 0 d progress ⌝ }
 {
     let w = token_at(set, p + 4);
     let i = index_at(set, w, p + 4);

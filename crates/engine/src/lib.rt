@@ -40,6 +40,7 @@ pub use set::FIRST_PLACE;
 pub use set::Lines;
 pub use set::START_PLACE;
 pub use set::empty_set;
+pub use set::is_defined;
 pub use set::names_known;
 pub use set::put_count;
 pub use set::put_line;

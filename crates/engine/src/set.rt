@@ -204,7 +204,7 @@ fn curves_in(set: &[u32; SIZE]) -> [bool; CURVES]
 }
 
 // Whether curve n is one of those that are there.
-fn is_defined(curves: &[bool; CURVES], n: u32) -> bool
+pub fn is_defined(curves: &[bool; CURVES], n: u32) -> bool
     ensures { λ x. ⌜ x ≡ isDefined (now (curves .entry)) n ⌝ }
 {
     if n < 1 {

@@ -20,7 +20,7 @@ use Rattle.loading.specs.Unmarked.{unmarkedTree, unmarkedDefinition}
 use Rattle.loading.specs.LoadAnswers.{taken-answer}
 use Rattle.loading.specs.PlacedLaws.{heldTokens, Laid, CurveHeld, CurvesHeld, set-length, set-count}
 use Rattle.loading.specs.StoredLineLaws.{written, held, written-curve, toldOf, held-curve}
-use Rattle.loading.specs.TakenLaws.{All, all-at, withCurves, taken-rows, taken-defined, AllTokens, taken-tokens, Fine, taken-fine}
+use Rattle.loading.specs.TakenLaws.{All, all-at, curvesAdded, taken-rows, taken-defined, AllTokens, taken-tokens, Fine, taken-fine}
 use Rattle.loading.specs.ByNumberLaws.{Of, by-length, by-rises, by-of, by-rank, rises-apart}
 use Rattle.loading.specs.LinesReadLaws.{FineFrom}
 use Rattle.loading.specs.LoadedLaws.{rows-apart, curves-three, curves-fine, each-by, taken-laid, taken-held}
@@ -148,5 +148,5 @@ set-holds t q h =
 -- WHAT A TEXT HAS THAT IS TAKEN: the curves and the rows are its lines with tokens, those that begin with FCTDEF and the others behind them, in their order; these consist of tokens alone; and
 -- the loaded set holds them
 pub load-lines : (t : List ℕ) (q : Kept) → outcome t ≡ taken q →
-    (q .rows ≡ map rowOf (rowLines (tokenLines t))) × (q .curves ≡ withCurves (nothing .curves) (curveLines (tokenLines t))) × AllTokens (tokenLines t) × HoldsAll (loadSet t) q
+    (q .rows ≡ map rowOf (rowLines (tokenLines t))) × (q .curves ≡ curvesAdded (nothing .curves) (curveLines (tokenLines t))) × AllTokens (tokenLines t) × HoldsAll (loadSet t) q
 load-lines t q h = (taken-rows t q h, taken-defined t q h, taken-tokens t q h, rw (taken-answer t q h .2) (set-holds t q h))

@@ -62,9 +62,9 @@ taking t q h =
 -- ---- the lines with tokens, in their order
 
 -- the tokens of some lines, each set at the place of the curve that they define
-unfoldable pub withCurves : List (List ℕ) → List Numbered → List (List ℕ)
-withCurves cs [] = cs
-withCurves cs (l ∷ ls) = withCurves (set cs (curveNumberIn (tokensOf (l .body) .list) - 1) (tokensOf (l .body) .list)) ls
+unfoldable pub curvesAdded : List (List ℕ) → List Numbered → List (List ℕ)
+curvesAdded cs [] = cs
+curvesAdded cs (l ∷ ls) = curvesAdded (set cs (curveNumberIn (tokensOf (l .body) .list) - 1) (tokensOf (l .body) .list)) ls
 
 -- those that are there, by number
 unfoldable pub thereOf : List (List ℕ) → List (List ℕ)
@@ -87,10 +87,10 @@ rows-behind (l ∷ ls) k q n h =
 
 -- what is kept with some lines, below no numbered one
 abbrev Keeps : Kept → List Numbered → Kept → Type 0
-Keeps k ls q = (q .rows ≡ map rowOf (rowLines ls)) × (q .curves ≡ withCurves (k .curves) (curveLines ls))
+Keeps k ls q = (q .rows ≡ map rowOf (rowLines ls)) × (q .curves ≡ curvesAdded (k .curves) (curveLines ls))
 
 pub text-kept : (ls : List Numbered) (k q : Kept) → k .rows ≡ [] → rowsFrom k ls ≡ taken q → Keeps k ls q
-unfolding rowsFrom curveLines rowLines withCurves
+unfolding rowsFrom curveLines rowLines curvesAdded
 text-kept [] k q n h = let e : k ≡ q = cc in (ap (λ (x : Kept). x .rows) (sym e) ∙ n, ap (λ (x : Kept). x .curves) (sym e))
 text-kept (l ∷ ls) k q n h =
     next-row _ k l ls (taken q) h
@@ -107,7 +107,7 @@ text-kept (l ∷ ls) k q n h =
 
 -- what is kept of a text that is taken
 abbrev pub keptOf : List ℕ → Kept
-keptOf t = record { curves = withCurves (nothing .curves) (curveLines (tokenLines t)); rows = map rowOf (rowLines (tokenLines t)) }
+keptOf t = record { curves = curvesAdded (nothing .curves) (curveLines (tokenLines t)); rows = map rowOf (rowLines (tokenLines t)) }
 
 pub taken-kept : (t : List ℕ) (q : Kept) → rowsFrom nothing (tokenLines t) ≡ taken q → q ≡ keptOf t
 taken-kept t q h = let (a, b) = text-kept (tokenLines t) nothing q refl h in λ i. record { curves = b i; rows = a i }
@@ -117,7 +117,7 @@ pub taken-rows : (t : List ℕ) (q : Kept) → outcome t ≡ taken q → q .rows
 taken-rows t q h = text-kept (tokenLines t) nothing q refl (taking t q h .rows) .0
 
 -- and these are the curves, each in the place of its number
-pub taken-defined : (t : List ℕ) (q : Kept) → outcome t ≡ taken q → q .curves ≡ withCurves (nothing .curves) (curveLines (tokenLines t))
+pub taken-defined : (t : List ℕ) (q : Kept) → outcome t ≡ taken q → q .curves ≡ curvesAdded (nothing .curves) (curveLines (tokenLines t))
 taken-defined t q h = text-kept (tokenLines t) nothing q refl (taking t q h .rows) .1
 
 -- each of some lines consists of tokens alone

@@ -20,7 +20,7 @@ use Rattle.reader.specs.Row.{nothing, isThere, curvesThere}
 use Rattle.reader.specs.Load.{curveNumberIn}
 use Rattle.reader.specs.CheckedLaws.{definition-number}
 use Rattle.loading.specs.TextTrees.{Distinct, curveNumber, GoodCurves}
-use Rattle.loading.specs.TakenLaws.{withCurves}
+use Rattle.loading.specs.TakenLaws.{curvesAdded}
 use Rattle.loading.specs.TextTreesLaws.{there-at, none-there, curve-number-is}
 use Rattle.loading.specs.LoadedCurves.{AreDefinitions}
 
@@ -32,15 +32,15 @@ abbrev more : List (List ℕ) → Numbered → List (List ℕ)
 more cs l = set cs (curveNumberIn (tokens l) - 1) (tokens l)
 
 -- there are as many places
-kept-length : (cs : List (List ℕ)) (ls : List Numbered) → length (withCurves cs ls) ≡ length cs
-unfolding withCurves
+kept-length : (cs : List (List ℕ)) (ls : List Numbered) → length (curvesAdded cs ls) ≡ length cs
+unfolding curvesAdded
 kept-length cs [] = refl
 kept-length cs (l ∷ ls) = kept-length (more cs l) ls ∙ length-set cs _ (tokens l)
 
 -- a number that none of some definitions has: its curve stays
 other-kept : (ls : List Numbered) (ds : List Definition) (cs : List (List ℕ)) (n : ℕ) → GoodCurves ls ds → 1 ≤ n → (OneOf n (map curveNumber ds) → ⊥) →
-    getD (withCurves cs ls) (n - 1) [] ≡ getD cs (n - 1) []
-unfolding withCurves
+    getD (curvesAdded cs ls) (n - 1) [] ≡ getD cs (n - 1) []
+unfolding curvesAdded
 other-kept [] [] cs n g i o = refl
 other-kept [] (d ∷ ds) cs n g i o = absurd g
 other-kept (l ∷ ls) [] cs n g i o = absurd g
@@ -51,8 +51,8 @@ other-kept (l ∷ ls) (d ∷ ds) cs n g i o =
 
 -- each definition is written as the tokens in the place of its number
 written-kept : (ls : List Numbered) (ds : List Definition) (cs : List (List ℕ)) → length cs ≡ maxCurves → GoodCurves ls ds → Distinct (map curveNumber ds) →
-    (d : Definition) → OneOf d ds → DefinedAs d (getD (withCurves cs ls) (d .number - 1) [])
-unfolding withCurves
+    (d : Definition) → OneOf d ds → DefinedAs d (getD (curvesAdded cs ls) (d .number - 1) [])
+unfolding curvesAdded
 written-kept [] [] cs s g h d o = absurd o
 written-kept [] (x ∷ ds) cs s g h d o = absurd g
 written-kept (l ∷ ls) [] cs s g h d o = absurd o
@@ -61,14 +61,14 @@ written-kept (l ∷ ls) (x ∷ ds) cs s g h d (inl z) =
     let b = definition-number x (g .0 .faultless) in
     let k : curveNumberIn (tokens l) - 1 ≡ x .number - 1 = omega arith in
     let own : getD (more cs l) (x .number - 1) [] ≡ tokens l = rw (← k) (getD-set-same cs (curveNumberIn (tokens l) - 1) (tokens l) [] (omega arith)) in
-    subst (λ (y : Definition). DefinedAs y (getD (withCurves (more cs l) ls) (y .number - 1) [])) z
+    subst (λ (y : Definition). DefinedAs y (getD (curvesAdded (more cs l) ls) (y .number - 1) [])) z
     (g .0 .written ∙ sym (other-kept ls ds (more cs l) (x .number) (g .1) (b .0) (h .0) ∙ own))
 written-kept (l ∷ ls) (x ∷ ds) cs s g h d (inr o) = written-kept ls ds (more cs l) (length-set cs _ (tokens l) ∙ s) (g .1) (h .1) d o
 
 -- a curve that is there is that of a definition, or was there before
-each-kept : (ls : List Numbered) (ds : List Definition) (cs : List (List ℕ)) (n : ℕ) → GoodCurves ls ds → 1 ≤ n → isThere (getD (withCurves cs ls) (n - 1) []) ≡ true →
+each-kept : (ls : List Numbered) (ds : List Definition) (cs : List (List ℕ)) (n : ℕ) → GoodCurves ls ds → 1 ≤ n → isThere (getD (curvesAdded cs ls) (n - 1) []) ≡ true →
     ((d : Definition) × OneOf d ds × (d .number ≡ n)) ⊎ (isThere (getD cs (n - 1) []) ≡ true)
-unfolding withCurves
+unfolding curvesAdded
 each-kept [] [] cs n g i t = inr t
 each-kept [] (d ∷ ds) cs n g i t = absurd g
 each-kept (l ∷ ls) [] cs n g i t = absurd g
@@ -93,12 +93,12 @@ good-number (l ∷ ls) (x ∷ ds) g d (inl e) = subst (λ (y : Definition). (1 �
 good-number (l ∷ ls) (x ∷ ds) g d (inr o) = good-number ls ds (g .1) d o
 
 -- THE DEFINITIONS OF A TEXT, whose numbers are distinct, are those of the curves that are taken of it
-pub good-definitions : (ls : List Numbered) (ds : List Definition) → GoodCurves ls ds → Distinct (map curveNumber ds) → AreDefinitions ds (withCurves (nothing .curves) ls)
+pub good-definitions : (ls : List Numbered) (ds : List Definition) → GoodCurves ls ds → Distinct (map curveNumber ds) → AreDefinitions ds (curvesAdded (nothing .curves) ls)
 good-definitions ls ds g h = record {
   number = λ d o. let b = good-number ls ds g d o in let e = kept-length (nothing .curves) ls in omega arith;
   written = written-kept ls ds (nothing .curves) refl g h;
   each = λ n t.
-      let cs = withCurves (nothing .curves) ls in
+      let cs = curvesAdded (nothing .curves) ls in
       let (a, b) = both (leb 1 n) (getD (curvesThere cs) (n - 1) false) t in
       of-text n (each-kept ls ds (nothing .curves) n g (leb-true 1 n a) (sym (there-at cs (n - 1)) ∙ b));
 }

@@ -19,13 +19,13 @@ abbrev pub slotStart : List ℕ → ℕ → ℕ
 slotStart s k = getD s (slotAt k) 0
 
 -- whether the set has one: a line always, a curve if it begins somewhere
-unfoldable pub isThere : List ℕ → ℕ → Bool
-isThere s k = leb maxCurves k || ltb 0 (slotStart s k)
+unfoldable pub hasRow : List ℕ → ℕ → Bool
+hasRow s k = leb maxCurves k || ltb 0 (slotStart s k)
 
 -- the rows of m slots from slot k on
 unfoldable pub slotRows : List ℕ → ℕ → ℕ → List (List ℕ)
 slotRows s zero k = []
-slotRows s (suc m) k = elim (isThere s k) [ true ↦ rowAt s (slotStart s k) ∷ slotRows s m (k + 1) | false ↦ slotRows s m (k + 1) ]
+slotRows s (suc m) k = elim (hasRow s k) [ true ↦ rowAt s (slotStart s k) ∷ slotRows s m (k + 1) | false ↦ slotRows s m (k + 1) ]
 
 -- rows, behind others or first
 abbrev pub rowsBehind : Bool → List (List ℕ) → List ℕ
@@ -37,4 +37,4 @@ rowBehind s b p = elim b [ true ↦ LF ∷ lineText (rowAt s p) | false ↦ line
 
 -- what is put for slot k
 unfoldable pub slotText : List ℕ → Bool → ℕ → List ℕ
-slotText s b k = elim (isThere s k) [ true ↦ rowBehind s b (slotStart s k) | false ↦ [] ]
+slotText s b k = elim (hasRow s k) [ true ↦ rowBehind s b (slotStart s k) | false ↦ [] ]

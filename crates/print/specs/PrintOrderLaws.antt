@@ -13,7 +13,7 @@ use Rattle.engine.specs.Set.{startPlace, curvePlace, startOf, curveStart}
 use Rattle.text.specs.Byte.{LF}
 use Rattle.print.specs.TokenText.{lineText}
 use Rattle.print.specs.PrintText.{rowAt, curveRows, lineRows, behindText, rowsText}
-use Rattle.print.specs.PrintOrder.{slotAt, slotStart, isThere, slotRows, rowsBehind, rowBehind, slotText}
+use Rattle.print.specs.PrintOrder.{slotAt, slotStart, hasRow, slotRows, rowsBehind, rowBehind, slotText}
 
 -- ---- slots
 
@@ -23,8 +23,8 @@ module _ (k : ℕ) (h : k < maxCurves) where
   unfolding slotAt
   slot-curve = chosen _ _ _ (lt-ltb k maxCurves h)
 
-  pub curve-there : (s : List ℕ) → isThere s k ≡ ltb 0 (slotStart s k)
-  unfolding isThere
+  pub curve-there : (s : List ℕ) → hasRow s k ≡ ltb 0 (slotStart s k)
+  unfolding hasRow
   curve-there s = rw (lt-leb maxCurves k h)
 
 -- and those of the lines
@@ -33,8 +33,8 @@ module _ (k : ℕ) (h : maxCurves ≤ k) where
   unfolding slotAt
   slot-line = refused _ _ _ (le-ltb k maxCurves h)
 
-  pub line-there : (s : List ℕ) → isThere s k ≡ true
-  unfolding isThere
+  pub line-there : (s : List ℕ) → hasRow s k ≡ true
+  unfolding hasRow
   line-there s = rw (le-leb maxCurves k h)
 
 -- ---- all rows
@@ -77,11 +77,11 @@ module _ (s : List ℕ) (b : Bool) where
       go false = refl
 
   module _ (count k : ℕ) where
-    pub slots-next : k < count → rowsBehind b (slotRows s (count - k) k) ≡ slotText s b k ++ rowsBehind (b || isThere s k) (slotRows s (count - (k + 1)) (k + 1))
+    pub slots-next : k < count → rowsBehind b (slotRows s (count - k) k) ≡ slotText s b k ++ rowsBehind (b || hasRow s k) (slotRows s (count - (k + 1)) (k + 1))
     unfolding slotRows slotText
     slots-next h =
         let e : count - k ≡ suc (count - (k + 1)) = omega arith in
-        decide _ (isThere s k)
+        decide _ (hasRow s k)
         (λ t. rw (e, slotRows, slotText, t, or-true b) (behind-line (slotStart s k) (slotRows s (count - (k + 1)) (k + 1))))
         (λ t. rw (e, slotRows, slotText, t, or-false b))
 
@@ -105,10 +105,10 @@ module _ (s : List ℕ) (b : Bool) (p : ℕ) where
   row-next h = chosen _ _ _ h
 
 module _ (s : List ℕ) (b : Bool) (k : ℕ) where
-  pub slot-none : isThere s k ≡ false → slotText s b k ≡ []
+  pub slot-none : hasRow s k ≡ false → slotText s b k ≡ []
   unfolding slotText
   slot-none h = refused _ _ _ h
 
-  pub slot-some : isThere s k ≡ true → slotText s b k ≡ rowBehind s b (slotStart s k)
+  pub slot-some : hasRow s k ≡ true → slotText s b k ≡ rowBehind s b (slotStart s k)
   unfolding slotText
   slot-some h = chosen _ _ _ h

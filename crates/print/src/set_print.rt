@@ -7,7 +7,7 @@ ghost use lib.ListN.{length};
 ghost use Rattle.values.specs.PutAt.{IsPut};
 ghost use Rattle.tokens.specs.Token.{maxLines, maxCurves};
 ghost use Rattle.print.specs.PrintText.{lineRows, curveRows, rowsText, notPrinted, printAnswer, printBuffer};
-ghost use Rattle.print.specs.PrintOrder.{slotAt, slotStart, isThere, rowBehind, slotText};
+ghost use Rattle.print.specs.PrintOrder.{slotAt, slotStart, hasRow, rowBehind, slotText};
 ghost use Rattle.print.specs.PrintRoomLaws.{lastPlace, rowRoom};
 use crate::line::put_line;
 use engine::CURVE_PLACE;
@@ -59,7 +59,7 @@ fn slot_start(set: &[u32; SIZE], k: usize) -> usize
 // Whether the set has it: a line always, a curve if it begins somewhere.
 fn is_there(set: &[u32; SIZE], k: usize) -> bool
     requires { ⌜ k < maxCurves + maxLines ⌝ }
-    ensures { λ x. ⌜ x ≡ isThere (now (set .entry)) k ⌝ }
+    ensures { λ x. ⌜ x ≡ hasRow (now (set .entry)) k ⌝ }
 {
     if CURVES <= k {
         return true;
@@ -95,7 +95,7 @@ fn put_slot(set: &[u32; SIZE], behind: bool, k: usize, out: &mut [u8], at: usize
 // Whether rows were put up to slot k; `behind`: before it.
 fn is_behind(set: &[u32; SIZE], behind: bool, k: usize) -> bool
     requires { ⌜ k < maxCurves + maxLines ⌝ }
-    ensures { λ x. ⌜ x ≡ (behind || isThere (now (set .entry)) k) ⌝ }
+    ensures { λ x. ⌜ x ≡ (behind || hasRow (now (set .entry)) k) ⌝ }
 {
     if behind {
         return true;

@@ -15,7 +15,7 @@ use Rattle.tokens.specs.Token.{setSize, maxLines, maxCurves}
 use Rattle.reader.specs.declared.draft.Draft.{Draft}
 use Rattle.engine.specs.Set.{isDefined}
 use Rattle.reader.specs.Row.{Row, isThere, curvesThere, numbersOf, noRow}
-use Rattle.reader.specs.Draft.{grownBy, definedBy, rowIn, rowsAt, rowsIn, curveIn, curvesAt, keptIn, tokensTo, lengths, tokensKept, Held}
+use Rattle.reader.specs.Draft.{grownBy, grownByCurve, rowIn, rowsAt, rowsIn, curveIn, curvesAt, keptIn, tokensTo, lengths, tokensKept, Held}
 use Rattle.reader.specs.RisingLaws.{number-at, numbers-length}
 
 -- ---- a part of an array that something is put into
@@ -257,7 +257,7 @@ lengths-set (c ∷ cs) (suc j) ts l h = let i = lengths-set cs j ts (omega arith
 -- curve n, which is not there, and the tokens of whose line stand behind those that are kept, up to the place `end`
 module _ (s : List ℕ) (d : Draft) (h : Held s d) (n end : ℕ) (low : 1 ≤ n) (high : n ≤ maxCurves) (new : isDefined (curvesThere (keptIn s d .curves)) n ≡ false) (begin : d .at < end) (fits : end ≤ setSize) where
   abbrev curved : Draft
-  curved = definedBy d n end
+  curved = grownByCurve d n end
 
   same-rows : rowsIn s curved ≡ rowsIn s d
   same-rows = rows-same s s curved d (d .count) 0 (λ i l. refl)

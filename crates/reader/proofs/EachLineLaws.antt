@@ -22,7 +22,7 @@ use Rattle.text.specs.Lines.{Numbered, isBlank, numbered}
 use Rattle.reader.specs.declared.draft.Draft.{Draft}
 use Rattle.reader.specs.Row.{Kept, curvesThere, numbersOf}
 use Rattle.reader.specs.Load.{faultOf, numberIn, areKnown, curveFaultOf, curveNumberIn, curveBelow, curveTable, lineBelow, defines, tokensFault, faultBelow, taken, refused, rowOf, keptWith, rowsFrom}
-use Rattle.reader.specs.Draft.{alone, noDraft, refusedAt, grownBy, definedBy, rowsAt, curvesAt, keptIn, tokensTo, unlessFault, curveAdded, lineAdded, lengths, tokensKept, Held, Says}
+use Rattle.reader.specs.Draft.{alone, noDraft, refusedAt, grownBy, grownByCurve, rowsAt, curvesAt, keptIn, tokensTo, unlessFault, curveAdded, lineAdded, lengths, tokensKept, Held, Says}
 use Rattle.reader.specs.StandLaws.{zero-anywhere}
 use Rattle.reader.specs.CheckedLaws.{check-fault, check-number, check-names, curve-number, check-curve-fault, check-curve-number}
 use Rattle.reader.specs.KeptLaws.{by-kind}
@@ -149,8 +149,8 @@ module _ (s : List ℕ) (d : Draft) (h : Held s d) (l : Numbered) (end : ℕ) (b
   pub says-curve : (x : Draft) → defines kept list ≡ true → x ≡ curveAdded s d (l .place) end → Says (rowsFrom kept (l ∷ [])) s x
   unfolding tokensFault
   says-curve x t e =
-      says-so kept l s x (curveBelow (kept .curves) list) d (definedBy d (curveNumberIn list) end) (fault-by ∙ chosen _ _ _ t)
-      (λ z. by-kind kept (λ (q : Kept). Says (taken q) s (definedBy d (curveNumberIn list) end)) l z
+      says-so kept l s x (curveBelow (kept .curves) list) d (grownByCurve d (curveNumberIn list) end) (fault-by ∙ chosen _ _ _ t)
+      (λ z. by-kind kept (λ (q : Kept). Says (taken q) s (grownByCurve d (curveNumberIn list) end)) l z
       (λ c.
       let b = curve-number list (c .clean) in
       let m = tokens-length s d h end begin fits in

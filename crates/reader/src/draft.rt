@@ -6,13 +6,14 @@ ghost use Prim.Native.Nat.{_+_, _<_, _≤_};
 ghost use lib.Dec.{eqb};
 ghost use lib.ListN.{length, getD};
 ghost use Rattle.tokens.specs.Token.{END, FCTDEF, setSize, maxLines, maxCurves};
-ghost use Rattle.engine.specs.Set.{askedTable, namesKnown, isDefined, emptySet};
+ghost use Rattle.engine.specs.Set.{askedTable, namesKnown, emptySet};
 ghost use Rattle.reader.specs.Load.{rowsFrom};
-ghost use Rattle.reader.specs.Draft.{alone, noDraft, refusedAt, grownBy, definedBy, keptIn, curveAdded, lineAdded, Held, Follows, Says};
+ghost use Rattle.reader.specs.Draft.{alone, noDraft, refusedAt, grownBy, grownByCurve, keptIn, curveAdded, lineAdded, Held, Follows, Says};
 use crate::alone::curve_alone;
 use crate::alone::line_alone;
 use crate::alone::names_alone;
 use crate::line_tokens::write_tokens;
+use engine::is_defined;
 use engine::rank_in;
 use tokens::token::CURVES;
 use tokens::token::FCTDEF;
@@ -94,9 +95,9 @@ fn grown_by(d: Draft, k: u32, n: u8, end: usize) -> Draft
 }
 
 // The line that defines curve n stands behind the others and ends before the place `end`.
-fn defined_by(d: Draft, n: u32, end: usize) -> Draft
+fn grown_by_curve(d: Draft, n: u32, end: usize) -> Draft
     requires { ⌜ (1 ≤ n) × (n ≤ maxCurves) ⌝ }
-    ensures { λ x. ⌜ x ≡ definedBy d n end ⌝ }
+    ensures { λ x. ⌜ x ≡ grownByCurve d n end ⌝ }
 {
     let j = (n - 1) as usize;
     let mut e = d;
@@ -113,21 +114,6 @@ fn defined_by(d: Draft, n: u32, end: usize) -> Draft
     e.from = from;
     e.to = to;
     e
-}
-
-// Whether curve n is one of those that are there.
-fn is_there(curves: &[bool; CURVES], n: u32) -> bool
-    ensures { λ x. ⌜ x ≡ isDefined (now (curves .entry)) n ⌝ }
-{
-    if n < 1 {
-        return false;
-    }
-    let all = &curves[..];
-    let j = (n - 1) as usize;
-    if all.len() <= j {
-        return false;
-    }
-    all[j]
 }
 
 // Whether a line defines a curve, where `count` numbered lines stand above it.
@@ -156,10 +142,10 @@ fn add_curve(s: &[u32; SIZE], row: &mut [u32; SIZE], d: Draft, k: u32, end: usiz
         return refused_at(d, fault, k);
     }
     let curves = d.curves;
-    if is_there(&curves, f.number) {
+    if is_defined(&curves, f.number) {
         return refused_at(d, WRONG_CURVE, k);
     }
-    defined_by(d, f.number, end)
+    grown_by_curve(d, f.number, end)
 }
 
 // Whether each curve that a line names is there, where it is noted whether the line names anything: a line that names nothing is not looked through.

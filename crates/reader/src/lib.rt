@@ -1,4 +1,4 @@
-// The reader of set text: text to set (document 01, "Lines of text" and "Codes").
+// The reader of set text: text to set (document 01, "Lines of text" and "Codes"; document 02, Req 03).
 //
 // It rests only on what the crates below promise. `load` asks nothing of its caller.
 mod alone;

@@ -24,7 +24,7 @@ use Rattle.text.specs.Digits.{digitsUp}
 use Rattle.reader.specs.Row.{numbersOf, leastFrom, leastAbove, rising, byNumber}
 use Rattle.reader.specs.Load.{faultOf, curveFaultOf, curveBelow, lineBelow, tokensFault, faultBelow, taken, keptWith, rowsFrom, firstNot, named, outcome, loadSet}
 use Rattle.loading.specs.TextTrees.{curveLines, rowLines}
-use Rattle.loading.specs.TakenLaws.{thereOf, withCurves, keptOf}
+use Rattle.loading.specs.TakenLaws.{thereOf, curvesAdded, keptOf}
 use Rattle.print.specs.TokenText.{partDigits, partText, numberText, nameText, tokenText, needsSpace, gap, lineText}
 use Rattle.print.specs.PrintText.{behindText, rowsText, printText}
 use Rattle.round_trip.specs.LoadedRowsLaws.{tokens, loaded-print}
@@ -47,7 +47,7 @@ abbrev Prints : List ℕ → List ℕ → Type 0
 Prints t p = (outcome t ≡ taken (keptOf t)) × (rowsText (thereOf (keptOf t .curves) ++ map tokens (byNumber (keptOf t .rows))) ≡ p)
 
 computed : Prints text print × Prints curvesText curvesPrint
-unfolding factorsGuess productGuess termsGuess sumGuess sumsGuess expressionGuess operandFirst operandGuess placeGuess actionGuess actionsGuess conditionGuess lineGuess sameTokens ifWritten treeOf parameterGuess definitionGuess definitionOf parameterTokens definitionFront operandTokens actionTokens actionsTokens conditionTokens lineTokens operandMeaning rightFault isRemovalTree assignedFault actionFault actionsFault lineFault curveIn numbersFault definitionFault limitsFault lessThan curveFault actionsNames namesIn eachKnown isInside lower opensTooMany wantingFault numberFault readFault joinSights sight isWritable writeFault codeFault idFault callFault countFault rankIn run wordToken written isFit numberToken wordFirst behindPoint numberWith numberFirst signFirst firstToken tokensFrom tokensOf split withoutReturn withoutComment bodies isBlank numbered tokenLines numbersOf leastFrom leastAbove faultOf curveFaultOf curveBelow lineBelow tokensFault faultBelow keptWith rowsFrom firstNot named outcome rising curveLines rowLines withCurves thereOf digitsUp partDigits partText numberText nameText tokenText needsSpace gap lineText behindText rowsText
+unfolding factorsGuess productGuess termsGuess sumGuess sumsGuess expressionGuess operandFirst operandGuess placeGuess actionGuess actionsGuess conditionGuess lineGuess sameTokens ifWritten treeOf parameterGuess definitionGuess definitionOf parameterTokens definitionFront operandTokens actionTokens actionsTokens conditionTokens lineTokens operandMeaning rightFault isRemovalTree assignedFault actionFault actionsFault lineFault curveIn numbersFault definitionFault limitsFault lessThan curveFault actionsNames namesIn eachKnown isInside lower opensTooMany wantingFault numberFault readFault joinSights sight isWritable writeFault codeFault idFault callFault countFault rankIn run wordToken written isFit numberToken wordFirst behindPoint numberWith numberFirst signFirst firstToken tokensFrom tokensOf split withoutReturn withoutComment bodies isBlank numbered tokenLines numbersOf leastFrom leastAbove faultOf curveFaultOf curveBelow lineBelow tokensFault faultBelow keptWith rowsFrom firstNot named outcome rising curveLines rowLines curvesAdded thereOf digitsUp partDigits partText numberText nameText tokenText needsSpace gap lineText behindText rowsText
 computed = ((refl, refl), (refl, refl))
 
 tried : (printText (loadSet text) ≡ print) × (printText (loadSet curvesText) ≡ curvesPrint)

@@ -1,4 +1,4 @@
--- The faults of single things: brackets, a number, an index, a place that is read or written, an M, a line number (document 01, "Codes"). Definitions only.
+-- The faults of single things: brackets, a number, an index, a place that is read or written, an M, a line number, a curve number (document 01, "Codes"; document 02, Req 03). Definitions only.
 use mathlib.Core.Bool.{Bool, true, false, cond, not, _&&_, _||_, Bool·beq}
 use mathlib.Core.List.{List, [], _∷_}
 use Prim.Native.Nat.{ℕ, _+_, _-_, min}

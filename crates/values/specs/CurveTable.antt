@@ -10,16 +10,16 @@ use Rattle.values.specs.ValueTable.{Case, Holds}
 use Rattle.values.specs.Curve.{_times_, _plus_, polynomialOf, limitedTo, curveOf}
 
 -- a straight line between two limits
-abbrev line : ℤ → ℤ → ℤ → ℤ → Curve
-line l u b m = record { lower = l; upper = u; a0 = b; a1 = m; a2 = pos 0; a3 = pos 0 }
+abbrev straight : ℤ → ℤ → ℤ → ℤ → Curve
+straight l u b m = record { lower = l; upper = u; a0 = b; a1 = m; a2 = pos 0; a3 = pos 0 }
 
 -- 0,120,160,-2,0,0: a feed that falls with the load
 abbrev pub falling : Curve
-falling = line (pos 0) (pos 120000) (pos 160000) (negsuc 1999)
+falling = straight (pos 0) (pos 120000) (pos 160000) (negsuc 1999)
 
 -- -100,100,500,-100,0,0
 abbrev pub steep : Curve
-steep = line (negsuc 99999) (pos 100000) (pos 500000) (negsuc 99999)
+steep = straight (negsuc 99999) (pos 100000) (pos 500000) (negsuc 99999)
 
 -- document 02, request 03
 unfoldable pub curveCases : List Case
@@ -39,7 +39,7 @@ curveCases =
     -- a step beyond the range gives 30, though the limits would hold it (reading D22)
     ∷ record { gives = curveOf steep (pos 1000000000); says = Alarm outOfRange }
     -- limits that are equal leave one value (reading D25)
-    ∷ record { gives = curveOf (line (pos 7000) (pos 7000) (pos 0) (pos 1000)) (pos 9000); says = Value (pos 7000) }
+    ∷ record { gives = curveOf (straight (pos 7000) (pos 7000) (pos 0) (pos 1000)) (pos 9000); says = Value (pos 7000) }
     ∷ []
 
 -- document 02's examples hold

@@ -9,7 +9,7 @@ use denote.Ref.{now}
 use Rattle.values.specs.PutLaws.{put-as, Left, left-all, left-after, left-none}
 use Rattle.tokens.specs.Token.{maxCurves}
 use Rattle.print.specs.PrintText.{rowsText}
-use Rattle.print.specs.PrintOrder.{isThere, slotRows, rowsBehind, slotText}
+use Rattle.print.specs.PrintOrder.{hasRow, slotRows, rowsBehind, slotText}
 use Rattle.print.specs.PrintRoomLaws.{rowRoom}
 use Rattle.print.specs.PrintOrderLaws.{slots-rows, slots-next, slots-over}
 use Rattle.print.proofs.set_print.put_rows.Statement.{statement}
@@ -33,7 +33,7 @@ all-left : (s : List ℕ) (count : ℕ) → rest s count false 0 ≡ all s count
 all-left s count = let e : maxCurves + count - 0 ≡ maxCurves + count = omega arith in ap (λ (n : ℕ). rowsText (slotRows s n 0)) e
 
 -- then that of slot k, and what is left from the next on
-next-left : (s : List ℕ) (count k : ℕ) (b : Bool) {c : Bool} → c ≡ (b || isThere s k) → k < maxCurves + count → rest s count b k ≡ slotText s b k ++ rest s count c (k + 1)
+next-left : (s : List ℕ) (count k : ℕ) (b : Bool) {c : Bool} → c ≡ (b || hasRow s k) → k < maxCurves + count → rest s count b k ≡ slotText s b k ++ rest s count c (k + 1)
 next-left s count k b e h = slots-next s b (maxCurves + count) k h ∙ ap (λ (c : Bool). slotText s b k ++ rest s count c (k + 1)) (sym e)
 
 pub put-rows-spec : {M : Type 1} → statement M

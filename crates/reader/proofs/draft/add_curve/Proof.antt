@@ -12,7 +12,7 @@ use Rattle.checking.specs.CurveDefinition.{definitionAt}
 use Rattle.engine.specs.Set.{isDefined}
 use Rattle.reader.specs.declared.draft.Draft.{Draft}
 use Rattle.reader.specs.Row.{curvesThere}
-use Rattle.reader.specs.Draft.{alone, definedBy, keptIn, tokensTo, Held}
+use Rattle.reader.specs.Draft.{alone, grownByCurve, keptIn, tokensTo, Held}
 use Rattle.reader.proofs.DraftLaws.{tokens-length}
 use Rattle.reader.proofs.EachLineLaws.{curve-number-is, curve-told, curve-again, curve-new, with-fault, without-fault}
 use Rattle.reader.proofs.draft.add_curve.Statement.{statement}
@@ -49,15 +49,15 @@ module _ (c : tie.After-curve-alone) where
   told = c .curve-alone .ensures .0
 
 -- whether the curve is there
-module _ (c : tie.After-is-there) where
+module _ (c : tie.After-is-defined) where
   abbrev looked : tie.After-curve-alone
   looked = c .before .before .before .before
 
   fine : looked .curve-alone .result .fault ≡ 0
   fine = c .before .before .before .if1 .left
 
-  there : c .is-there .result ≡ isDefined (curvesThere (curves (start looked))) (looked .curve-alone .result .number)
-  there = c .is-there .ensures ∙ ap (λ (x : List Bool). isDefined x (looked .curve-alone .result .number)) (held (start looked) .there)
+  there : c .is-defined .result ≡ isDefined (curvesThere (curves (start looked))) (looked .curve-alone .result .number)
+  there = c .is-defined .ensures ∙ ap (λ (x : List Bool). isDefined x (looked .curve-alone .result .number)) (held (start looked) .there)
 
 pub add-curve-spec : {M : Type 1} → statement M
 add-curve-spec =
@@ -91,7 +91,7 @@ add-curve-spec =
     let t = c .before .before in
     let l = looked t in
     let s = start l in (
-      c .defined-by .ensures ∙ ap (λ (n : ℕ). definedBy (draft s) n (s .args .end)) (curve-number-is (tokens s) (real s) (short s) (curves s) _ (told l) (fine t) .0)
+      c .grown-by-curve .ensures ∙ ap (λ (n : ℕ). grownByCurve (draft s) n (s .args .end)) (curve-number-is (tokens s) (real s) (short s) (curves s) _ (told l) (fine t) .0)
           ∙ without-fault (draft s) _ (s .args .k) _ (curve-new (tokens s) (real s) (short s) (curves s) _ (told l) (fine t) _ (there t) (c .before .if2 .left)),
       l .curve-alone .ensures .1,
     )))
