@@ -1,8 +1,9 @@
-//! The checks of one line, codes 4 to 10, lowest first, and those of curves, code 13. Loading and soundness both use them.
+//! The checks of one line, codes 4 to 10, lowest first, then 14, and those of curves, code 13. Loading and soundness both use them.
 
 use crate::code::Code;
 use crate::parse;
-use crate::token::{Keyword, Name, Token};
+use crate::slip::Slip;
+use crate::token::{Keyword, Motion, Name, Token};
 use crate::tree::{Action, Curve, Expression, Line, Variable};
 use std::ops::RangeInclusive;
 
@@ -16,8 +17,13 @@ const LINE_NUMBERS: RangeInclusive<i64> = 1..=255;
 /// The numbers a curve may have.
 const CURVE_NUMBERS: RangeInclusive<i64> = 1..=3;
 
-/// The tree of a numbered line, or its lowest code of 4 to 10.
+/// The tree of a numbered line, or its lowest code of 4 to 10, or 14.
 pub fn line(tokens: &[Token]) -> Result<Line, Code> {
+    slipped_line(tokens, Slip::None)
+}
+
+/// The same with a slip.
+pub fn slipped_line(tokens: &[Token], slip: Slip) -> Result<Line, Code> {
     demand(depth(tokens) <= DEPTH, Code::TooDeep)?;
     let line = parse::line(tokens).ok_or(Code::NotInGrammar)?;
     demand(kinds_agree(&line), Code::KindsConfused)?;
@@ -25,6 +31,7 @@ pub fn line(tokens: &[Token]) -> Result<Line, Code> {
     demand(places_allowed(&line), Code::PlaceNotAllowed)?;
     demand(m_allowed(&line), Code::MNotAllowed)?;
     demand(line.actions.len() <= ACTIONS, Code::TooManyActions)?;
+    demand(one_move_an_axis(&line, slip), Code::TwoMoves)?;
     Ok(line)
 }
 
@@ -187,6 +194,27 @@ fn reads_removal(expression: &Expression) -> bool {
 fn m_allowed(line: &Line) -> bool {
     let has_m = line.actions.iter().any(|action| matches!(action, Action::M(_)));
     !has_m || matches!(line.keyword(), Some(Keyword::When | Keyword::Every))
+}
+
+/// No axis has two moves, POS or MOV; FA is none.
+fn one_move_an_axis(line: &Line, slip: Slip) -> bool {
+    let moves = |motion: Motion| match slip {
+        Slip::FaIsAMove => true,
+        Slip::MovIsNoMove => motion == Motion::Pos,
+        _ => motion != Motion::Fa,
+    };
+    let mut axes: Vec<u8> = line
+        .actions
+        .iter()
+        .filter_map(|action| match action {
+            Action::Move(motion, axis, _) if moves(*motion) => Some(*axis),
+            _ => None,
+        })
+        .collect();
+    let all = axes.len();
+    axes.sort_unstable();
+    axes.dedup();
+    axes.len() == all || slip == Slip::TwoMovesTaken
 }
 
 fn right_side(action: &Action) -> Option<&Expression> {

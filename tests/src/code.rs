@@ -1,4 +1,4 @@
-//! The codes of documents 01 and 02, by name. `number` gives the figure that is printed.
+//! The codes of documents 01 and 02, by name; in a line 14 comes before 11. `number` gives the figure that is printed.
 
 #[derive(Clone, Copy, PartialEq, Eq, PartialOrd, Ord, Debug)]
 pub enum Code {
@@ -16,6 +16,7 @@ pub enum Code {
     NumberUsedAbove = 11,
     LockOfNoLine = 12,
     CurveNotAllowed = 13,
+    TwoMoves = 14,
     BufferTooShort = 20,
     BadNumbers = 21,
     NotSound = 22,

@@ -42,7 +42,7 @@ impl Control {
     /// A control with an empty set, at power-on.
     pub fn new(slip: Slip, seen: Seen) -> Control {
         let witness = Witness::default();
-        Control { set: Set::new(&[], &[], true), state: State::power_on(), slip, seen, witness }
+        Control { set: Set::new(&[], &[], slip), state: State::power_on(), slip, seen, witness }
     }
 
     /// A control that writes its history and holds its flags against it.
@@ -61,7 +61,7 @@ impl Control {
     /// Loads set text. The state is that of power-on afterwards; on refusal the set is empty.
     pub fn load(&mut self, text: &[u8]) -> Result<(), Refusal> {
         self.state = State::power_on();
-        self.set = Set::new(&[], &[], true);
+        self.set = Set::new(&[], &[], self.slip);
         self.witness.load();
         self.set = load(text, self.slip)?;
         Ok(())

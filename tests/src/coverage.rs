@@ -1,18 +1,23 @@
 //! Counts what the random inputs reach, so that a hole in the generator shows.
 
+use crate::code::Code;
 use crate::control::Control;
 use crate::generate;
 use crate::host_print_seen::{self, HostPrint};
+use crate::load::Refusal;
+use crate::parse;
 use crate::print_seen::{Printed, PATHS};
 use crate::report::Report;
 use crate::runner::{work, Form, Seeds};
 use crate::seen::Seen;
 use crate::slip::Slip;
 use crate::text;
-use crate::token;
+use crate::token::{self, Motion};
+use crate::tree::{Action, Line};
 use crate::{check, load};
 use std::collections::BTreeMap;
 
+const MOVES: [&str; 4] = ["POS and POS", "POS and MOV", "MOV and POS", "MOV and MOV"];
 const ALARMS: [u8; 5] = [30, 31, 32, 33, 34];
 const HOST_FORMS: [&str; 27] = [
     "A", "M", "B", "L", "U", "C", "R", "P", "N", "K", "G", "D", "T", "S N", "S I", "S C", "S X", "V O",
@@ -61,7 +66,7 @@ impl Coverage {
             self.output_line(form, line, before, &script);
             before = line;
         }
-        self.refused_curve(set_text);
+        self.refused(set_text);
         if form == Form::Synrun && !output.starts_with("L ") {
             self.note("load 0".into());
         }
@@ -70,8 +75,8 @@ impl Coverage {
         }
     }
 
-    /// Notes the code of a line with FCTDEF or SYNFCT, and the ground of code 13.
-    fn refused_curve(&mut self, set_text: &[u8]) {
+    /// Notes the code of a line with FCTDEF or SYNFCT, and the ground of codes 13 and 14.
+    fn refused(&mut self, set_text: &[u8]) {
         let Err(refusal) = load::load(set_text, Slip::None) else {
             return;
         };
@@ -85,6 +90,24 @@ impl Coverage {
         if code == 13 {
             self.note(format!("load 13, {}", ground(line)));
         }
+        if code == 14 {
+            self.two_moves(set_text, refusal.line, line);
+        }
+    }
+
+    /// Notes what the two moves of a refused line are, and what else would be found if they were taken.
+    fn two_moves(&mut self, set_text: &[u8], place: usize, line: &[u8]) {
+        let tokens = token::tokens(text::without_comment(line)).unwrap_or_default();
+        if let Some(moves) = parse::line(&tokens).as_ref().and_then(first_two_moves) {
+            self.note(format!("load 14, {moves}"));
+        }
+        let other = match load::load(set_text, Slip::TwoMovesTaken) {
+            Err(Refusal { code: Code::NumberUsedAbove, line }) if line == place => "11 too",
+            Err(Refusal { code: Code::CurveNotAllowed, line }) if line == place => "13 too",
+            Err(Refusal { code: Code::LockOfNoLine, line }) if line < place => "12 above",
+            _ => return,
+        };
+        self.note(format!("load 14, {other}"));
     }
 
     /// A set text that is taken, and its print.
@@ -145,6 +168,26 @@ fn holds(line: &[u8], word: &str) -> bool {
     text::without_comment(line).windows(word.len()).any(|bytes| bytes == word.as_bytes())
 }
 
+/// The first two moves of one axis in a line, in their order.
+fn first_two_moves(line: &Line) -> Option<&'static str> {
+    let mut moves: Vec<(Motion, u8)> = Vec::new();
+    for action in &line.actions {
+        let Action::Move(motion @ (Motion::Pos | Motion::Mov), axis, _) = action else {
+            continue;
+        };
+        if let Some((before, _)) = moves.iter().find(|(_, other)| other == axis) {
+            return Some(match (before, motion) {
+                (Motion::Pos, Motion::Pos) => MOVES[0],
+                (Motion::Pos, _) => MOVES[1],
+                (_, Motion::Pos) => MOVES[2],
+                _ => MOVES[3],
+            });
+        }
+        moves.push((*motion, *axis));
+    }
+    None
+}
+
 /// Why a line has code 13.
 fn ground(line: &[u8]) -> &'static str {
     let tokens = token::tokens(text::without_comment(line)).unwrap_or_default();
@@ -177,9 +220,9 @@ pub fn host_form(line: &[u8]) -> String {
 
 /// Everything that can occur outside the beats.
 fn expected() -> Vec<String> {
-    let mut names: Vec<String> = (0..=13).map(|code| format!("load {code}")).collect();
+    let mut names: Vec<String> = (0..=14).map(|code| format!("load {code}")).collect();
     names.extend([3, 4, 5, 7, 13].map(|code| format!("FCTDEF line, load {code}")));
-    names.extend([3, 4, 5, 6, 7, 8, 9, 10, 11, 12, 13].map(|code| format!("SYNFCT line, load {code}")));
+    names.extend((3..=14).map(|code| format!("SYNFCT line, load {code}")));
     names.extend(["lower above upper", "defined twice", "not defined"].map(|why| format!("load 13, {why}")));
     names.extend([0, 21].iter().chain(&ALARMS).map(|code| format!("synrun beat {code}")));
     for form in ["host", "long"] {
@@ -196,7 +239,9 @@ fn expected() -> Vec<String> {
         names.extend(["E", "END"].map(|end| format!("{form} ends with {end}")));
     }
     names.extend(["long load 0".into(), "long ends with END".into()]);
-    names.extend((0..=13).map(|code| format!("print load {code}")));
+    names.extend((0..=14).map(|code| format!("print load {code}")));
+    names.extend(MOVES.map(|moves| format!("load 14, {moves}")));
+    names.extend(["11 too", "13 too", "12 above"].map(|other| format!("load 14, {other}")));
     names.extend(PATHS.iter().map(|(name, _)| format!("print {name}")));
     names
 }

@@ -1,8 +1,8 @@
-//! Loading set text: codes 1 and 2, then the first faulty line with its code, then 12.
+//! Loading set text: codes 1 and 2, then the first faulty line with its code of 3 to 10, 14, 11 and 13, then 12.
 
 use crate::check;
 use crate::code::Code;
-use crate::set::{lock_of_no_line, Set, LINES};
+use crate::set::{lock_of_no_line, plain, Set, HEAD, LINES};
 use crate::slip::Slip;
 use crate::text;
 use crate::token::{self, Token};
@@ -48,7 +48,7 @@ pub fn load(text: &[u8], slip: Slip) -> Result<Set, Refusal> {
     }
     taken.locks_name_lines()?;
     taken.curves_are_defined()?;
-    Ok(Set::new(&taken.curve_tokens, &taken.line_tokens, slip != Slip::TextOrder))
+    Ok(Set::new(&taken.curve_tokens, &taken.line_tokens, slip))
 }
 
 /// The lines that hold more than spaces and comment, each with its number in the text.
@@ -80,7 +80,12 @@ impl Taken {
     }
 
     fn take_line(&mut self, place: usize, tokens: Vec<Token>, slip: Slip) -> Result<(), Code> {
-        let line = check::line(&tokens)?;
+        let line = match check::slipped_line(&tokens, slip) {
+            Err(Code::TwoMoves) if slip == Slip::FourteenAfterEleven && self.has_number(&tokens) => {
+                return Err(Code::NumberUsedAbove);
+            }
+            checked => checked?,
+        };
         if self.lines.iter().any(|above| above.number == line.number) {
             return Err(Code::NumberUsedAbove);
         }
@@ -91,6 +96,11 @@ impl Taken {
         self.line_tokens.push(tokens);
         self.places.push(place);
         Ok(())
+    }
+
+    /// A line above has the number of these tokens, for a slip.
+    fn has_number(&self, tokens: &[Token]) -> bool {
+        self.line_tokens.iter().any(|above| plain(above[HEAD - 1]) == plain(tokens[HEAD - 1]))
     }
 
     /// Every LOCK and UNLOCK names one of these lines.

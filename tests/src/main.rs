@@ -17,7 +17,7 @@ use std::thread;
 const STACK: usize = 256 << 20;
 /// Seeds that the gate compares if none are given, and those whose coverage it tests.
 const GATE_SEEDS: Seeds = Seeds { synrun: 0..5000, host: 0..5000, long: 0..40, print: 0..2000 };
-const COVERED_SEEDS: Seeds = Seeds { synrun: 0..1000, host: 0..5000, long: 0..30, print: 0..2000 };
+const COVERED_SEEDS: Seeds = Seeds { synrun: 0..1000, host: 0..5000, long: 0..40, print: 0..2000 };
 
 const USAGE: &str = "reference                           answer standard input as synrun does
 reference host                      answer standard input as a host session

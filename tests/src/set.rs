@@ -2,6 +2,7 @@
 
 use crate::check;
 use crate::code::Code;
+use crate::slip::Slip;
 use crate::token::{Number, Scope, Token};
 use crate::tree::{Curve, Line};
 
@@ -23,17 +24,18 @@ pub struct Set {
     trees: Option<(Vec<Curve>, Vec<Line>)>,
     /// The ranks in the order of their turns.
     turns: Vec<usize>,
+    slip: Slip,
 }
 
 impl Set {
-    /// The set of these lines, which have passed loading. `by_number` is false only in a slip.
-    pub fn new(curves: &[Vec<Token>], lines: &[Vec<Token>], by_number: bool) -> Set {
+    /// The set of these lines, which have passed loading.
+    pub fn new(curves: &[Vec<Token>], lines: &[Vec<Token>], slip: Slip) -> Set {
         let (written_curves, written) = (stored(curves), stored(lines));
         let rank_of = |line: &Vec<Token>| written.iter().position(|other| number(other) == number(line));
         let turns: Vec<usize> = lines.iter().filter_map(rank_of).collect();
-        let mut set = Set { written_curves, count: written.len(), written, ..Set::default() };
+        let mut set = Set { written_curves, count: written.len(), written, slip, ..Set::default() };
         set.examine();
-        if !by_number {
+        if slip == Slip::TextOrder {
             set.turns = turns;
         }
         set
@@ -117,7 +119,8 @@ impl Set {
 
     fn sound_lines(&self) -> Option<Vec<Line>> {
         let written = self.written.get(..self.count)?;
-        let lines: Vec<Line> = written.iter().map(|line| check::line(line)).collect::<Result<_, _>>().ok()?;
+        let lines: Vec<Line> =
+            written.iter().map(|line| check::slipped_line(line, self.slip)).collect::<Result<_, _>>().ok()?;
         let rising = lines.windows(2).all(|pair| pair[0].number < pair[1].number);
         (rising && lock_of_no_line(lines.iter()).is_none()).then_some(lines)
     }

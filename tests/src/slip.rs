@@ -35,6 +35,14 @@ pub enum Slip {
     CurveWorkedWhole,
     /// Code 13 of a SYNFCT is looked for after code 12.
     UndefinedAfterTwelve,
+    /// Two moves of an axis in a line are taken.
+    TwoMovesTaken,
+    /// FA counts as a move.
+    FaIsAMove,
+    /// MOV counts as none.
+    MovIsNoMove,
+    /// Code 14 is looked for after code 11.
+    FourteenAfterEleven,
     /// A print keeps zeros at the end of a fraction.
     PrintKeepsZeros,
     /// A print has a space between a word or number and a variable.
@@ -55,7 +63,7 @@ pub enum Slip {
 
 impl Slip {
     /// In what the control prints.
-    pub const PRINTED: [Slip; 18] = [
+    pub const PRINTED: [Slip; 22] = [
         Slip::EveryByLevel,
         Slip::MemoryClearedAtUnlock,
         Slip::MemoryClearedAtSkip,
@@ -70,6 +78,10 @@ impl Slip {
         Slip::CurveUnlimited,
         Slip::CurveWorkedWhole,
         Slip::UndefinedAfterTwelve,
+        Slip::TwoMovesTaken,
+        Slip::FaIsAMove,
+        Slip::MovIsNoMove,
+        Slip::FourteenAfterEleven,
         Slip::PrintKeepsZeros,
         Slip::PrintSpacesDollar,
         Slip::PrintShortensChains,
@@ -98,7 +110,9 @@ impl Slip {
     }
 
     fn is_in_loading(self) -> bool {
-        [Slip::TextOrder, Slip::TwelveBeforeFive, Slip::UndefinedAfterTwelve].contains(&self)
+        let of_order = [Slip::TextOrder, Slip::TwelveBeforeFive, Slip::UndefinedAfterTwelve];
+        let of_moves = [Slip::TwoMovesTaken, Slip::FaIsAMove, Slip::MovIsNoMove, Slip::FourteenAfterEleven];
+        of_order.contains(&self) || of_moves.contains(&self)
     }
 
     fn is_in_prints(self) -> bool {

@@ -1,7 +1,7 @@
--- Laws on the faults of a line: FIFO [0] as a right side; a command and an action by their tokens; the loop over actions; a line's parts, 4 before 5 to 10, DO, the keyword.
+-- Laws on the faults of a line: FIFO [0] as a right side; a command and an action by their tokens; the loop over actions; a line's parts, 4 before 5 to 10 and 14, DO, the keyword.
 use mathlib.Core.Path.{_≡_, refl, sym, ap, _∙_}
 use mathlib.Core.Bool.{Bool, true, false, _&&_, _||_, not, or-false, or-assoc}
-use mathlib.Core.List.{List}
+use mathlib.Core.List.{List, [], _++_}
 use Prim.Native.Nat.{ℕ, zero, suc, _+_, _-_, _<_, _≤_}
 use native.Mathlib.Omega.{arith}
 use lib.Dec.{eqb}
@@ -11,7 +11,7 @@ use Rattle.values.specs.Codes.{tooDeep, notInGrammar}
 use Rattle.checking.specs.declared.line.Line.{Line}
 use Rattle.tokens.specs.Token.{setSize, FIFO1, FIFO4, END, EQUALS, OPEN, CLOSE, COMMA, IDS, DO, M, SYNFCT, isArithmetic, isVariable, isFifo, isCall, isNaming, isKeyword, isWhole, whole}
 use Rattle.tokens.specs.Descent.{Read, read, ends, then, isIndexed, indexAt, expressionAt}
-use Rattle.checking.specs.Fault.{sight, faultFor, isRemoval, assignmentAt, commandAt, isGiven, isSynfct, synfctFault, synfctAt, unindexedAt, actionAt, countFault, actionsAt, namesFrom, numberOf, faultyLine, judged, lineParts, bodyAt, restAt}
+use Rattle.checking.specs.Fault.{sight, faultFor, isRemoval, assignmentAt, commandAt, isGiven, isSynfct, synfctFault, synfctAt, unindexedAt, actionAt, countFault, movesFault, movesAt, actionsAt, namesFrom, numberOf, faultyLine, judged, lineParts, bodyAt, restAt}
 use Rattle.tokens.specs.SingleFault.{lower, codeFault, callFault, curveFault, readFault, writeFault, opensTooMany}
 use Rattle.values.specs.Choice.{both, chosen, refused}
 use Rattle.tokens.specs.BetweenLaws.{tested}
@@ -67,12 +67,13 @@ module _ (s : List ℕ) (kw w p : ℕ) where
         unfolding commandAt
         a-call e g = sym (simp (commandAt, h, ne-eqb _ _ m, f, eq-eqb _ _ e, eq-eqb _ _ g))
 
-command-none : (s : List ℕ) (kw p : ℕ) → commandAt s kw 0 p ≡ ends notInGrammar
+-- a word that begins no command
+pub no-command-word : (s : List ℕ) (kw w p : ℕ) → eqb w M ≡ false → isCall w ≡ false → commandAt s kw w p ≡ ends notInGrammar
 unfolding commandAt
-command-none s kw p = go (isWhole (getD s (p + 2) 0)) refl
+no-command-word s kw w p m c = go (isWhole (getD s (p + 2) 0)) refl
   where
-    go : (b : Bool) → isWhole (getD s (p + 2) 0) ≡ b → commandAt s kw 0 p ≡ ends notInGrammar
-    go true h = simp (commandAt, h)
+    go : (b : Bool) → isWhole (getD s (p + 2) 0) ≡ b → commandAt s kw w p ≡ ends notInGrammar
+    go true h = simp (commandAt, h, m, c)
     go false h = simp (commandAt, h)
 
 -- SYNFCT: a , and a variable with its index; and all that stands behind the word at p
@@ -117,7 +118,7 @@ no-action s kw k p e = go (isIndexed s (getD s p 0) p) (eqb (getD s (p + 4) 0) E
     go : (a b : Bool) → isIndexed s (getD s p 0) p ≡ a → eqb (getD s (p + 4) 0) EQUALS ≡ b → actionAt s kw k p ≡ ends notInGrammar
     go true true h i = simp (actionAt, h, i) (ap (λ (w : ℕ). assignmentAt s k w p) e)
     go true false h i = simp (actionAt, h, i)
-    go false b h i = simp (actionAt, h) (ap (λ (w : ℕ). unindexedAt s kw w p) e ∙ command-none s kw p)
+    go false b h i = simp (actionAt, h) (ap (λ (w : ℕ). unindexedAt s kw w p) e ∙ no-command-word s kw 0 p refl refl)
 
 -- an action, by its first token
 module _ (s : List ℕ) (kw k p w : ℕ) (e : w ≡ getD s p 0) where
@@ -134,38 +135,38 @@ module _ (s : List ℕ) (kw k p w : ℕ) (e : w ≡ getD s p 0) where
     unfolding actionAt
     action-assigns z = rw e (sym (simp (actionAt, rw e at h, eq-eqb _ _ z)))
 
-pub acts-none : (s : List ℕ) (kw k t n f p : ℕ) → t ≤ 0 → actionsAt s kw k t n f p ≡ ends notInGrammar
+pub acts-none : (s : List ℕ) (kw k t n : ℕ) (m : List ℕ) (f p : ℕ) → t ≤ 0 → actionsAt s kw k t n m f p ≡ ends notInGrammar
 unfolding actionsAt
-acts-none s kw k t n f p l =
+acts-none s kw k t n m f p l =
     let z : t ≡ 0 = omega arith in
     rw z
 
 -- one action and what follows it
-module _ (s : List ℕ) (kw k t n f p : ℕ) (l : 0 < t) where
+module _ (s : List ℕ) (kw k t n : ℕ) (m : List ℕ) (f p : ℕ) (l : 0 < t) where
   -- what follows an action
   after : ℕ → ℕ → ℕ → Read ℕ
-  after j g q = elim (eqb (getD s q 0) END) [ true ↦ read (lower (lower f g) (countFault (n + 1))) q | false ↦ actionsAt s kw k j (n + 1) (lower f g) q ]
+  after j g q = elim (eqb (getD s q 0) END) [ true ↦ read (lower (lower f g) (lower (countFault (n + 1)) (movesFault (m ++ movesAt s p)))) q | false ↦ actionsAt s kw k j (n + 1) (m ++ movesAt s p) (lower f g) q ]
 
-  one : then (actionAt s kw k p) (after (t - 1)) ≡ actionsAt s kw k t n f p
+  one : then (actionAt s kw k p) (after (t - 1)) ≡ actionsAt s kw k t n m f p
   unfolding after actionsAt
   one = go t l
     where
-      go : (t : ℕ) → 0 < t → then (actionAt s kw k p) (after (t - 1)) ≡ actionsAt s kw k t n f p
-      go zero m = absurd (omega arith)
-      go (suc j) m = let q : suc j - 1 ≡ j = omega arith in rw q
+      go : (t : ℕ) → 0 < t → then (actionAt s kw k p) (after (t - 1)) ≡ actionsAt s kw k t n m f p
+      go zero z = absurd (omega arith)
+      go (suc j) z = let q : suc j - 1 ≡ j = omega arith in rw q
 
-  acts-stop : actionAt s kw k p ≡ ends notInGrammar → ends notInGrammar ≡ actionsAt s kw k t n f p
+  acts-stop : actionAt s kw k p ≡ ends notInGrammar → ends notInGrammar ≡ actionsAt s kw k t n m f p
   acts-stop e = ap (λ (x : Read ℕ). then x (after (t - 1))) (sym e) ∙ one
 
   module _ (g q : ℕ) (e : actionAt s kw k p ≡ read g q) where
-    reaches : after (t - 1) g q ≡ actionsAt s kw k t n f p
+    reaches : after (t - 1) g q ≡ actionsAt s kw k t n m f p
     reaches = ap (λ (x : Read ℕ). then x (after (t - 1))) (sym e) ∙ one
 
-    acts-end : getD s q 0 ≡ END → read (lower (lower f g) (countFault (n + 1))) q ≡ actionsAt s kw k t n f p
+    acts-end : getD s q 0 ≡ END → read (lower (lower f g) (lower (countFault (n + 1)) (movesFault (m ++ movesAt s p)))) q ≡ actionsAt s kw k t n m f p
     unfolding after
     acts-end z = sym (rw (after, eq-eqb _ _ z)) ∙ reaches
 
-    acts-on : (getD s q 0 ≡ END → ⊥) → actionsAt s kw k (t - 1) (n + 1) (lower f g) q ≡ actionsAt s kw k t n f p
+    acts-on : (getD s q 0 ≡ END → ⊥) → actionsAt s kw k (t - 1) (n + 1) (m ++ movesAt s p) (lower f g) q ≡ actionsAt s kw k t n m f p
     unfolding after
     acts-on ne = sym (rw (after, ne-eqb _ _ ne)) ∙ reaches
 
@@ -174,41 +175,41 @@ module _ (s : List ℕ) (kw k t n f p : ℕ) (l : 0 < t) where
     names-end z = sym (go t l)
       where
         go : (t : ℕ) → 0 < t → namesFrom s kw k t p ≡ isNaming (getD s p 0)
-        go zero m = absurd (omega arith)
-        go (suc j) m = simp (namesFrom, e, eq-eqb _ _ z) (or-false (isNaming (getD s p 0)))
+        go zero i = absurd (omega arith)
+        go (suc j) i = simp (namesFrom, e, eq-eqb _ _ z) (or-false (isNaming (getD s p 0)))
 
     names-on : (getD s q 0 ≡ END → ⊥) → (isNaming (getD s p 0) || namesFrom s kw k (t - 1) q) ≡ namesFrom s kw k t p
     unfolding namesFrom
     names-on ne = go t l
       where
         go : (t : ℕ) → 0 < t → (isNaming (getD s p 0) || namesFrom s kw k (t - 1) q) ≡ namesFrom s kw k t p
-        go zero m = absurd (omega arith)
-        go (suc j) m = let x : suc j - 1 ≡ j = omega arith in rw x (sym (simp (namesFrom, e, ne-eqb _ _ ne)))
+        go zero i = absurd (omega arith)
+        go (suc j) i = let x : suc j - 1 ≡ j = omega arith in rw x (sym (simp (namesFrom, e, ne-eqb _ _ ne)))
 
 fault-in : Read ℕ → ℕ
 fault-in (read f q) = f
 fault-in (ends k) = k
 
 -- one round of the loop over the actions: `low` tells of what was read before it, up to p, a of the next action, x of both, up to i
-pub record Round (s : List ℕ) (kw k t n low a x p i : ℕ) (whole : Read ℕ) : Type 0 where
+pub record Round (s : List ℕ) (kw k t n : ℕ) (m : List ℕ) (low a x p i : ℕ) (whole : Read ℕ) : Type 0 where
   pub left : 0 < t
   pub from : p ≡ nextOf low
   pub begun : InGrammar low
-  pub all : then (faulted low) (actionsAt s kw k t n) ≡ whole
+  pub all : then (faulted low) (actionsAt s kw k t n m) ≡ whole
   pub action : faulted a ≡ actionAt s kw k p
   pub joins : faulted x ≡ then (faulted a) (λ g q. read (lower (faultOf low) g) q)
   pub joined : Joined low a x
   pub to : i ≡ nextOf x
 
-module _ {s : List ℕ} {kw k t n low a x p i : ℕ} {whole : Read ℕ} (r : Round s kw k t n low a x p i whole) where
-  all-from : actionsAt s kw k t n (faultOf low) p ≡ whole
-  all-from = ap (λ (y : Read ℕ). then y (actionsAt s kw k t n)) (sym (faulted-read low (r .from) (λ z. r .begun (sym (r .from) ∙ z)))) ∙ r .all
+module _ {s : List ℕ} {kw k t n : ℕ} {m : List ℕ} {low a x p i : ℕ} {whole : Read ℕ} (r : Round s kw k t n m low a x p i whole) where
+  all-from : actionsAt s kw k t n m (faultOf low) p ≡ whole
+  all-from = ap (λ (y : Read ℕ). then y (actionsAt s kw k t n m)) (sym (faulted-read low (r .from) (λ z. r .begun (sym (r .from) ∙ z)))) ∙ r .all
 
   pub round-stops : i ≡ 0 → ends notInGrammar ≡ whole
-  round-stops z = acts-stop s kw k t n (faultOf low) p (r .left) (sym (r .action) ∙ faulted-stop a (r .to ∙ r .joined .next) z) ∙ all-from
+  round-stops z = acts-stop s kw k t n m (faultOf low) p (r .left) (sym (r .action) ∙ faulted-stop a (r .to ∙ r .joined .next) z) ∙ all-from
 
   module _ (o : i ≡ 0 → ⊥) where
-    next-action : faulted a ≡ read (faultOf a) i
+    pub next-action : faulted a ≡ read (faultOf a) i
     next-action = faulted-read a (r .to ∙ r .joined .next) o
 
     all-so-far : faulted x ≡ read (lower (faultOf low) (faultOf a)) i
@@ -218,11 +219,11 @@ module _ {s : List ℕ} {kw k t n low a x p i : ℕ} {whole : Read ℕ} (r : Rou
     unfolding fault-in
     lowest-so-far = ap fault-in (sym (faulted-read x (r .to) o) ∙ all-so-far)
 
-    pub round-ends : getD s i 0 ≡ END → read (lower (faultOf x) (countFault (n + 1))) i ≡ whole
-    round-ends z = ap (λ (f : ℕ). read (lower f (countFault (n + 1))) i) lowest-so-far ∙ acts-end s kw k t n (faultOf low) p (r .left) (faultOf a) i (sym (r .action) ∙ next-action) z ∙ all-from
+    pub round-ends : getD s i 0 ≡ END → read (lower (faultOf x) (lower (countFault (n + 1)) (movesFault (m ++ movesAt s p)))) i ≡ whole
+    round-ends z = ap (λ (f : ℕ). read (lower f (lower (countFault (n + 1)) (movesFault (m ++ movesAt s p)))) i) lowest-so-far ∙ acts-end s kw k t n m (faultOf low) p (r .left) (faultOf a) i (sym (r .action) ∙ next-action) z ∙ all-from
 
-    pub round-goes : (getD s i 0 ≡ END → ⊥) → then (faulted x) (actionsAt s kw k (t - 1) (n + 1)) ≡ whole
-    round-goes ne = ap (λ (y : Read ℕ). then y (actionsAt s kw k (t - 1) (n + 1))) all-so-far ∙ acts-on s kw k t n (faultOf low) p (r .left) (faultOf a) i (sym (r .action) ∙ next-action) ne ∙ all-from
+    pub round-goes : (getD s i 0 ≡ END → ⊥) → then (faulted x) (actionsAt s kw k (t - 1) (n + 1) (m ++ movesAt s p)) ≡ whole
+    round-goes ne = ap (λ (y : Read ℕ). then y (actionsAt s kw k (t - 1) (n + 1) (m ++ movesAt s p))) all-so-far ∙ acts-on s kw k t n m (faultOf low) p (r .left) (faultOf a) i (sym (r .action) ∙ next-action) ne ∙ all-from
 
     -- whether a line was named before, b, and with this action, c; u is its first token
     module _ (b : Bool) {c all : Bool} {u : ℕ} (v : u ≡ getD s p 0) (d : c ≡ (b || isNaming u)) (h : (b || namesFrom s kw k t (nextOf low)) ≡ all) where
@@ -233,12 +234,12 @@ module _ {s : List ℕ} {kw k t n low a x p i : ℕ} {whole : Read ℕ} (r : Rou
       all-named = ap (λ (q : ℕ). b || namesFrom s kw k t q) (r .from) ∙ h
 
       pub round-noted : getD s i 0 ≡ END → c ≡ all
-      round-noted z = named ∙ ap (λ (y : Bool). b || y) (names-end s kw k t n (faultOf low) p (r .left) (faultOf a) i (sym (r .action) ∙ next-action) z) ∙ all-named
+      round-noted z = named ∙ ap (λ (y : Bool). b || y) (names-end s kw k t n m (faultOf low) p (r .left) (faultOf a) i (sym (r .action) ∙ next-action) z) ∙ all-named
 
       pub round-names : (getD s i 0 ≡ END → ⊥) → (c || namesFrom s kw k (t - 1) (nextOf x)) ≡ all
       round-names ne =
           rw (named, ← r .to) (or-assoc b (isNaming (getD s p 0)) (namesFrom s kw k (t - 1) i)) ∙
-          ap (λ (y : Bool). b || y) (names-on s kw k t n (faultOf low) p (r .left) (faultOf a) i (sym (r .action) ∙ next-action) ne) ∙ all-named
+          ap (λ (y : Bool). b || y) (names-on s kw k t n m (faultOf low) p (r .left) (faultOf a) i (sym (r .action) ∙ next-action) ne) ∙ all-named
 
 -- ---- a line
 
@@ -280,10 +281,10 @@ module _ (s : List ℕ) (p kw cp f q : ℕ) {t : ℕ} (e : t ≡ getD s q 0) whe
   body-none h = sym (simp (bodyAt, ne-eqb (getD s q 0) DO (λ z. h (e ∙ z))))
 
   -- w tells of what was read up to the place behind DO, x of the actions too
-  pub body-does : t ≡ DO → {d w : ℕ} (x : ℕ) → Made f d (q + 1) w → faulted x ≡ actionsAt s kw setSize setSize 0 (faultOf w) (nextOf w) → lineParts s p kw cp (q + 1) (faulted x) ≡ bodyAt s p kw cp f q
+  pub body-does : t ≡ DO → {d w : ℕ} (x : ℕ) → Made f d (q + 1) w → faulted x ≡ actionsAt s kw setSize setSize 0 [] (faultOf w) (nextOf w) → lineParts s p kw cp (q + 1) (faulted x) ≡ bodyAt s p kw cp f q
   unfolding bodyAt
   body-does h {w = w} x k j =
-      ap (lineParts s p kw cp (q + 1)) (j ∙ ap (λ (g : ℕ). actionsAt s kw setSize setSize 0 g (nextOf w)) (k .fault) ∙ ap (λ (r : ℕ). actionsAt s kw setSize setSize 0 f r) (k .next)) ∙ sym (simp (bodyAt, eq-eqb (getD s q 0) DO (sym e ∙ h)))
+      ap (lineParts s p kw cp (q + 1)) (j ∙ ap (λ (g : ℕ). actionsAt s kw setSize setSize 0 [] g (nextOf w)) (k .fault) ∙ ap (λ (r : ℕ). actionsAt s kw setSize setSize 0 [] f r) (k .next)) ∙ sym (simp (bodyAt, eq-eqb (getD s q 0) DO (sym e ∙ h)))
 
 -- behind the head: no keyword, or the keyword kw
 module _ (s : List ℕ) (p f kw : ℕ) {o : Bool} (k : kw ≡ getD s (p + 3) 0) (i : o ≡ isKeyword kw) where

@@ -2,6 +2,7 @@
 mod SightNumberLaws
 mod BracketCountLaws
 mod LevelLaws
+mod MoveLaws
 mod SumLaws
 mod FaultLaws
 mod DefinitionLaws

@@ -1,12 +1,12 @@
--- Faults 4 to 10 of a line, from its tokens, and where its parts lie (document 01, "Lines of text" and "Codes"; document 02, Req 03). Definitions only.
+-- Faults 4 to 10 and 14 of a line, from its tokens, and where its parts lie (document 01, "Lines of text" and "Codes"; document 02, Req 03 and Req 08). Definitions only.
 use mathlib.Core.Bool.{Bool, true, false, cond, not, _&&_, _||_}
-use mathlib.Core.List.{List}
+use mathlib.Core.List.{List, [], _∷_, _++_}
 use Prim.Native.Nat.{ℕ, zero, suc, _+_}
 use lib.Dec.{eqb, leb}
 use lib.ListN.{drop}
-use Rattle.values.specs.Codes.{tooDeep, notInGrammar, tooManyActions}
+use Rattle.values.specs.Codes.{tooDeep, notInGrammar, tooManyActions, twoMoves}
 use Rattle.checking.specs.declared.line.Line.{Line}
-use Rattle.tokens.specs.Token.{setSize, END, EQUALS, OPEN, CLOSE, COMMA, IDS, DO, M, SYNFCT, isVariable, isFifo, isDrive, isCall, isNaming, isKeyword, isId, isArithmetic, isLogic, isWhole, whole, maxActions}
+use Rattle.tokens.specs.Token.{setSize, END, EQUALS, OPEN, CLOSE, COMMA, IDS, DO, M, SYNFCT, isVariable, isFifo, isDrive, isMove, isCall, isNaming, isKeyword, isId, isArithmetic, isLogic, isWhole, whole, maxActions}
 use Rattle.tokens.specs.Descent.{token, good, Read, read, ends, then, Meaning, isIndexed, indexAt, sumAt, expressionAt}
 use Rattle.tokens.specs.SingleFault.{callFault, codeFault, curveFault, idFault, lower, numberFault, opensTooMany, readFault, unless, wantingFault, writeFault}
 
@@ -47,11 +47,24 @@ abbrev pub faultFor : Bool → Read Sight → Read ℕ
 faultFor t (read a q) = read (signed t a .fault) q
 faultFor t (ends k) = ends k
 
--- ---- 10, a line's number, a line with a fault
+-- ---- 10, 14, a line's number, a line with a fault
 
 -- 10: at most eight actions
 unfoldable pub countFault : ℕ → ℕ
 countFault n = unless (leb n maxActions) tooManyActions
+
+unfoldable pub isAmong : ℕ → List ℕ → Bool
+isAmong x [] = false
+isAmong x (y ∷ ys) = eqb x y || isAmong x ys
+
+-- no axis stands twice among these
+unfoldable pub areApart : List ℕ → Bool
+areApart [] = true
+areApart (x ∷ xs) = not (isAmong x xs) && areApart xs
+
+-- 14: of the axes that a line moves none is moved twice
+unfoldable pub movesFault : List ℕ → ℕ
+movesFault xs = unless (areApart xs) twoMoves
 
 -- a line's number as a byte; 0 for one above 255
 unfoldable pub numberOf : ℕ → ℕ
@@ -128,14 +141,18 @@ module _ (s : List ℕ) where
         | false ↦ unindexedAt kw (token s p) p
       ]
 
-  -- one or more actions up to the line's end, where n stand before them and f is the lowest fault so far: the lowest fault of 6 to 10
-  unfoldable pub actionsAt : ℕ → ℕ → ℕ → ℕ → ℕ → ℕ → Read ℕ
-  actionsAt kw k zero n f p = ends notInGrammar
-  actionsAt kw k (suc j) n f p =
+  -- the axis that the action at p moves, if it is a move
+  unfoldable pub movesAt : ℕ → List ℕ
+  movesAt p = cond (isMove (token s p)) (indexAt s (token s p) p ∷ []) []
+
+  -- one or more actions up to the line's end, where n stand before them, these move the axes m, and f is the lowest fault so far: the lowest fault of 6 to 10, or 14
+  unfoldable pub actionsAt : ℕ → ℕ → ℕ → ℕ → List ℕ → ℕ → ℕ → Read ℕ
+  actionsAt kw k zero n m f p = ends notInGrammar
+  actionsAt kw k (suc j) n m f p =
       then (actionAt kw k p) (λ g q.
       elim (eqb (token s q) END) [
-        | true ↦ read (lower (lower f g) (countFault (n + 1))) q
-        | false ↦ actionsAt kw k j (n + 1) (lower f g) q
+        | true ↦ read (lower (lower f g) (lower (countFault (n + 1)) (movesFault (m ++ movesAt p)))) q
+        | false ↦ actionsAt kw k j (n + 1) (m ++ movesAt p) (lower f g) q
       ])
 
   -- whether one of these actions names a line or a curve: LOCK, UNLOCK or SYNFCT
@@ -171,7 +188,7 @@ module _ (s : List ℕ) where
   unfoldable pub bodyAt : ℕ → ℕ → ℕ → ℕ → ℕ → Line
   bodyAt p kw cp f q =
       elim (eqb (token s q) DO) [
-        | true ↦ lineParts p kw cp (q + 1) (actionsAt kw setSize setSize 0 f (q + 1))
+        | true ↦ lineParts p kw cp (q + 1) (actionsAt kw setSize setSize 0 [] f (q + 1))
         | false ↦ faultyLine notInGrammar
       ]
 
@@ -187,11 +204,11 @@ module _ (s : List ℕ) where
         | false ↦ bodyAt p 0 0 f (p + 3)
       ]
 
-  -- the line that begins at p, of which 5 to 10 tell l: 4 comes first
+  -- the line that begins at p, of which 5 to 10 and 14 tell l: 4 comes first
   abbrev pub judged : ℕ → Line → Line
   judged p l = elim (opensTooMany (drop p s) 0) [ true ↦ faultyLine tooDeep | false ↦ l ]
 
-  -- the line that begins at p: its lowest fault of 4 to 10, or its parts
+  -- the line that begins at p: its lowest fault of 4 to 10, or 14, or its parts
   unfoldable pub lineAt : ℕ → Line
   lineAt p =
       judged p (elim (isId (token s p) && (eqb (token s (p + 1)) EQUALS && isWhole (token s (p + 2)))) [

@@ -2,14 +2,15 @@
 use mathlib.Core.Path.{_≡_}
 use mathlib.Core.Bool.{Bool, true, false, cond}
 use mathlib.Core.List.{List}
-use Prim.Native.Nat.{ℕ, zero, suc, _+_, _*_, _/_, _%_, max}
+use Prim.Native.Nat.{ℕ, zero, suc, _+_, _*_, _/_, _%_, _^_, max}
 use lib.Dec.{eqb}
 use lib.ListN.{getD}
-use Rattle.values.specs.Codes.{notInGrammar}
-use Rattle.tokens.specs.Token.{room, setSize, MINUS}
+use Rattle.values.specs.Codes.{notInGrammar, twoMoves}
+use Rattle.tokens.specs.Token.{room, setSize, MINUS, isMove}
 use Rattle.tokens.specs.Descent.{Read, read, ends}
 use Rattle.checking.specs.declared.line.Line.{Line}
-use Rattle.checking.specs.Fault.{Sight, signed, namesFrom, bodyAt, faultyLine}
+use Rattle.tokens.specs.SingleFault.{lower, unless}
+use Rattle.checking.specs.Fault.{Sight, signed, countFault, namesFrom, bodyAt, faultyLine}
 
 abbrev pub numberSeen : ℕ → ℕ → ℕ → ℕ
 numberSeen f d p = (d * 256 + f) * 2 * room + p % room
@@ -55,6 +56,21 @@ signedSight t a q = read (signed t a) q
 -- x, which tells of the actions from p on under the keyword kw, tells too whether one of them names a line or a curve
 abbrev pub Noted : List ℕ → ℕ → ℕ → ℕ → Type 0
 Noted s kw p x = (nextOf x ≡ 0 → ⊥) → truthOf x ≡ namesFrom s kw setSize setSize p
+
+-- the axes that actions move, as one word: axis x has the bit 2^x; once an axis is moved twice, all bits are set, the lowest too
+abbrev pub allMoved : ℕ
+allMoved = 127
+
+unfoldable pub isMoved : ℕ → ℕ → Bool
+isMoved m x = eqb (m / 2 ^ x % 2) 1
+
+-- and the axis x, if the word w that begins the action is a move
+unfoldable pub withMove : ℕ → ℕ → ℕ → ℕ
+withMove m w x = elim (isMove w) [ true ↦ elim (isMoved m x) [ true ↦ allMoved | false ↦ m + 2 ^ x ] | false ↦ m ]
+
+-- 10, or else 14, of n actions that move such axes
+unfoldable pub endFault : ℕ → ℕ → ℕ
+endFault n m = lower (countFault n) (unless (eqb (m % 2) 0) twoMoves)
 
 -- how many more - stand directly behind the one at p, at most k
 unfoldable pub signsBehind : List ℕ → ℕ → ℕ → ℕ

@@ -1,11 +1,13 @@
-// The check of actions: the faults 5 to 10 in them.
+// The check of actions: the faults 5 to 10 and 14 in them.
 ghost use mathlib.Core.Path.{_≡_};
-ghost use mathlib.Core.Bool.{_||_};
-ghost use Prim.Native.Nat.{_+_, _<_};
-ghost use Rattle.tokens.specs.Token.{setSize, isNaming};
-ghost use Rattle.checking.specs.SightNumber.{nextOf, truthOf, faultOf, faulted, Noted};
+ghost use mathlib.Core.Bool.{true, _||_};
+ghost use mathlib.Core.List.{[]};
+ghost use Prim.Native.Nat.{_+_, _<_, _≤_};
+ghost use Rattle.tokens.specs.Token.{setSize, isMove, isNaming};
+ghost use Rattle.tokens.specs.Descent.{indexAt};
+ghost use Rattle.checking.specs.SightNumber.{nextOf, truthOf, faultOf, faulted, Noted, allMoved, withMove, endFault};
 ghost use Rattle.checking.specs.Brackets.{NoBracket, InGrammar, Counted, Onward, SameEnd};
-ghost use Rattle.checking.specs.Fault.{isRemoval, assignedAt, assignmentAt, commandAt, isGiven, isSynfct, synfctFault, synfctAt, unindexedAt, actionAt, countFault, actionsAt};
+ghost use Rattle.checking.specs.Fault.{isRemoval, assignedAt, assignmentAt, commandAt, isGiven, isSynfct, synfctFault, synfctAt, unindexedAt, actionAt, actionsAt};
 use crate::expression::sum;
 use crate::sight::as_wanted;
 use crate::sight::join_faults;
@@ -36,12 +38,17 @@ use tokens::token::is_call;
 use tokens::token::is_drive;
 use tokens::token::is_fifo;
 use tokens::token::is_indexed;
+use tokens::token::is_move;
 use tokens::token::is_naming;
 use tokens::token::is_variable;
 use tokens::token::is_whole;
 use tokens::token::token_at;
 use tokens::token::whole_of;
 use values::codes::TOO_MANY_ACTIONS;
+use values::codes::TWO_MOVES;
+
+// The axes moved are a word: bit x for axis x, 1 to 6, and bit 0 once an axis is moved twice. This is all of them.
+const ALL_MOVED: u64 = 127;
 
 // FIFO [0] as a whole, unbracketed right side.
 pub fn is_removal(set: &[u32; SIZE], at: usize) -> bool
@@ -199,13 +206,6 @@ fn action(set: &[u32; SIZE], keyword: u32, at: usize) -> u64
     assignment(set, w, at)
 }
 
-// 10 for more actions than a line may have.
-fn count_fault(n: usize) -> u8
-    ensures { λ x. ⌜ x ≡ countFault n ⌝ }
-{
-    if n <= ACTIONS { 0 } else { TOO_MANY_ACTIONS }
-}
-
 // Whether a line or a curve was named before, or the action that begins with a word names one.
 fn or_naming(names: bool, t: u32) -> bool
     ensures { λ x. ⌜ x ≡ names || isNaming t ⌝ }
@@ -229,26 +229,57 @@ fn noted(names: bool, w: u64) -> u64
     number_seen(fault, depth, i)
 }
 
+// The axes moved so far, and the one that the action at `at` moves, if its word is a move.
+fn with_move(set: &[u32; SIZE], moved: u64, w: u32, at: usize) -> u64
+    requires { ⌜ (moved ≤ allMoved) × (isMove w ≡ true → indexAt (now set) w at ≤ 6) ⌝ }
+    ensures { λ x. ⌜ x ≡ withMove moved w (indexAt (now (set .entry)) w at) ⌝ }
+{
+    if !is_move(w) {
+        return moved;
+    }
+    let axis = index_at(set, w, at);
+    if (moved >> axis) % 2 == 1 {
+        return ALL_MOVED;
+    }
+    moved + (1 << axis)
+}
+
+// 10 for more actions than a line may have, or else 14 for an axis that was moved twice, which bit 0 tells.
+fn end_fault(n: usize, moved: u64) -> u8
+    ensures { λ x. ⌜ x ≡ endFault n moved ⌝ }
+{
+    if ACTIONS < n {
+        return TOO_MANY_ACTIONS;
+    }
+    if moved % 2 == 0 { 0 } else { TWO_MOVES }
+}
+
 // What was seen, and one or more actions behind it up to the line's end: the lowest fault of all, and whether one of them names a line or a curve.
 pub fn actions(set: &[u32; SIZE], keyword: u32, w: u64) -> u64
     requires { ⌜ InGrammar w ⌝ }
-    ensures { λ x. ⌜ (faulted x ≡ actionsAt (now (set .entry)) keyword setSize setSize 0 (faultOf w) (nextOf w)) × (Onward (now (set .entry)) w x × Noted (now (set .entry)) keyword (nextOf w) x) ⌝ }
+    ensures { λ x. ⌜ (faulted x ≡ actionsAt (now (set .entry)) keyword setSize setSize 0 [] (faultOf w) (nextOf w)) × (Onward (now (set .entry)) w x × Noted (now (set .entry)) keyword (nextOf w) x) ⌝ }
 {
     let mut low = w;
     let mut n: usize = 0;
     let mut names = false;
+    let mut moved: u64 = 0;
     let mut rounds: usize = SIZE;
     while 0 < rounds {
         let at = next_of(low);
-        names = or_naming(names, token_at(set, at));
+        let first = token_at(set, at);
+        names = or_naming(names, first);
         low = join_faults(low, action(set, keyword, at));
         let i = next_of(low);
         if i == 0 {
             return NOTHING;
         }
         n += 1;
+        moved = with_move(set, moved, first, at);
         if token_at(set, i) == END {
-            return noted(names, join_faults(low, number_seen(count_fault(n), 0, i)));
+            return noted(
+                names,
+                join_faults(low, number_seen(end_fault(n, moved), 0, i)),
+            );
         }
         rounds -= 1;
     }

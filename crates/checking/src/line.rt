@@ -1,4 +1,4 @@
-// The check of a line: its lowest fault of 4 to 10, from its tokens, and where its parts lie. A fault is document 01's code, 0 for none.
+// The check of a line: its lowest fault of 4 to 10, or 14, from its tokens, and where its parts lie. A fault is the documents' code, 0 for none.
 ghost use mathlib.Core.Path.{_≡_};
 ghost use Prim.Native.Nat.{_+_, _<_};
 ghost use lib.ListN.{drop};
@@ -180,7 +180,7 @@ fn again(l: Line) -> Line
     }
 }
 
-// The line that begins at place `at`: its lowest fault of 4 to 10, or its parts.
+// The line that begins at place `at`: its lowest fault of 4 to 10, or 14, or its parts.
 pub fn line_at(set: &[u32; SIZE], at: usize) -> Line
     ensures { λ x. ⌜ x ≡ lineAt (now (set .entry)) at ⌝ }
 {

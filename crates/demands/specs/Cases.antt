@@ -13,7 +13,7 @@ use Rattle.tokens.specs.Descent.{isIndex, indexOf, isIndexed, indexAt, joined, 
 use Rattle.tokens.specs.Index.{isInside}
 use Rattle.working.specs.Variables.{numberCount, cellOf, variableValue}
 use Rattle.tokens.specs.SingleFault.{lower, opensTooMany, wantingFault, numberFault, readFault, isWritable, writeFault, codeFault, idFault, callFault}
-use Rattle.checking.specs.Fault.{joinSights, sight, countFault, numberOf, isRemoval, assignedAt, assignmentAt, commandAt, unindexedAt, actionAt, actionsAt, lineParts, bodyAt, restAt, lineAt}
+use Rattle.checking.specs.Fault.{joinSights, sight, countFault, isAmong, areApart, movesFault, numberOf, isRemoval, assignedAt, assignmentAt, commandAt, unindexedAt, actionAt, movesAt, actionsAt, lineParts, bodyAt, restAt, lineAt}
 use Rattle.working.specs.Operators.{joinTruths, joinValues}
 use Rattle.working.specs.Working.{valueOver, conditionValue, rightValue}
 use Rattle.engine.specs.Set.{linesFrom, linesRead, rankIn, namesKnown, curvesSound, allKnown, namedLines, soundLines, emptySet, withoutMark, withLine}
@@ -38,7 +38,7 @@ use Rattle.text.specs.Lines.{split, withoutReturn, withoutComment, bodies, isBl
 use Rattle.reader.specs.Row.{numbersOf, leastFrom, leastAbove, rising, placed, curveSlots, setOf}
 use Rattle.grammar.specs.Tree.{operandTokens, actionTokens, actionsTokens, conditionTokens, lineTokens}
 use Rattle.grammar.specs.Meaning.{operandMeaning}
-use Rattle.grammar.specs.TreeFault.{rightFault, isRemovalTree, assignedFault, actionFault, actionsFault, lineFault}
+use Rattle.grammar.specs.TreeFault.{rightFault, isRemovalTree, assignedFault, actionFault, actionsFault, movesOf, partsFault, lineFault}
 use Rattle.grammar.specs.TreeNames.{actionsNames, namesIn, eachKnown}
 use Rattle.grammar.specs.TreeOf.{factorsGuess, productGuess, termsGuess, sumGuess, sumsGuess, expressionGuess, operandFirst, operandGuess, actionGuess, actionsGuess, conditionGuess, lineGuess, sameTokens, ifWritten, treeOf}
 use Rattle.reader.specs.Load.{faultOf, lineBelow, tokensFault, faultBelow, keptWith, rowsFrom, firstNot, named, outcome, loadSet}
@@ -72,5 +72,5 @@ pub runs :
     × (words (beat 1 ∷ beat 0 ∷ doReset ∷ beat 0 ∷ beat 1 ∷ doLock 1 ∷ doCancel 3 ∷ beat 1 ∷ doReset ∷ beat 1 ∷ []) ≡ (0, 0) ∷ (0, 0) ∷ (0, 0) ∷ (0, 0) ∷ (unknownLine, 0) ∷ (0, 4) ∷ (0, 0) ∷ (0, 0) ∷ (0, 4) ∷ (0, 7) ∷ [])
     × (words (beat 3 ∷ beat 0 ∷ doUnlock 1 ∷ beat 1 ∷ beat 0 ∷ beat 1 ∷ []) ≡ (0, 5) ∷ (0, 4) ∷ (0, 4) ∷ (0, 0) ∷ (0, 4) ∷ (0, 15) ∷ [])
     × (words (beatWith false 1 (replicate bufferSize 0) ∷ beatWith true 1 [] ∷ beat 1 ∷ []) ≡ (0, 7) ∷ (shortBuffer, 0) ∷ (0, 4) ∷ [])
-unfolding inRange valued lessThan equalTo wholeUnits outputOf grownTimer isIndex indexOf isIndexed indexAt joined more readProduct readSum readRest readExpression readVariable operandFrom readOperand sumAt expressionAt isInside cellOf variableValue lower opensTooMany wantingFault numberFault readFault joinSights sight isWritable writeFault codeFault idFault callFault countFault numberOf isRemoval assignedAt assignmentAt commandAt unindexedAt actionAt actionsAt lineParts bodyAt restAt lineAt joinTruths joinValues valueOver conditionValue rightValue linesFrom linesRead rankIn namesKnown curvesSound allKnown namedLines soundLines powerOn grownCells inputCells beatCells allRanged isCell areCells allZero isFifoSound areFifos isFlag areFlags stateSound isSound writeCell writeInside writeTo lockOf takenAt assignmentOf commandOf actionOf actionsOf tries acts remembers takesTurn doTurn tryTurn turnOf turnsFrom areInputs beatBegun beatEnded wholeBeat beatAnswer beatBuffer foundAt found called lockedCall lockCall unlockCall cancelCall resetCancelled zeroed resetState resetCall step runFrom run wordToken written isFit numberToken wordFirst behindPoint numberWith numberFirst signFirst firstToken tokensFrom tokensOf split withoutReturn withoutComment bodies isBlank numbered tokenLines numbersOf leastFrom leastAbove rising placed curveSlots setOf factorsGuess productGuess termsGuess sumGuess sumsGuess expressionGuess operandFirst operandGuess actionGuess actionsGuess conditionGuess lineGuess sameTokens ifWritten treeOf operandTokens actionTokens actionsTokens conditionTokens lineTokens rightFault isRemovalTree assignedFault actionFault actionsFault lineFault actionsNames namesIn eachKnown faultOf tokensFault faultBelow lineBelow keptWith rowsFrom firstNot named outcome loadSet emptySet withoutMark withLine operandMeaning
+unfolding inRange valued lessThan equalTo wholeUnits outputOf grownTimer isIndex indexOf isIndexed indexAt joined more readProduct readSum readRest readExpression readVariable operandFrom readOperand sumAt expressionAt isInside cellOf variableValue lower opensTooMany wantingFault numberFault readFault joinSights sight isWritable writeFault codeFault idFault callFault countFault numberOf isRemoval assignedAt assignmentAt commandAt unindexedAt actionAt movesAt actionsAt lineParts bodyAt restAt lineAt joinTruths joinValues valueOver conditionValue rightValue linesFrom linesRead rankIn namesKnown curvesSound allKnown namedLines soundLines powerOn grownCells inputCells beatCells allRanged isCell areCells allZero isFifoSound areFifos isFlag areFlags stateSound isSound writeCell writeInside writeTo lockOf takenAt assignmentOf commandOf actionOf actionsOf tries acts remembers takesTurn doTurn tryTurn turnOf turnsFrom areInputs beatBegun beatEnded wholeBeat beatAnswer beatBuffer foundAt found called lockedCall lockCall unlockCall cancelCall resetCancelled zeroed resetState resetCall step runFrom run wordToken written isFit numberToken wordFirst behindPoint numberWith numberFirst signFirst firstToken tokensFrom tokensOf split withoutReturn withoutComment bodies isBlank numbered tokenLines numbersOf leastFrom leastAbove rising placed curveSlots setOf factorsGuess productGuess termsGuess sumGuess sumsGuess expressionGuess operandFirst operandGuess actionGuess actionsGuess conditionGuess lineGuess sameTokens ifWritten treeOf operandTokens actionTokens actionsTokens conditionTokens lineTokens rightFault isRemovalTree assignedFault actionFault actionsFault movesOf partsFault lineFault isAmong areApart movesFault actionsNames namesIn eachKnown faultOf tokensFault faultBelow lineBelow keptWith rowsFrom firstNot named outcome loadSet emptySet withoutMark withLine operandMeaning
 runs = (refl, refl, refl, refl, refl)

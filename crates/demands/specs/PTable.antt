@@ -17,7 +17,7 @@ use Rattle.tokens.specs.Descent.{isIndex, indexOf, isIndexed, indexAt, joined, 
 use Rattle.tokens.specs.Index.{isInside}
 use Rattle.working.specs.Variables.{numberCount, cellOf, beatCount, fifoValue, fifoAt, variableValue}
 use Rattle.tokens.specs.SingleFault.{lower, opensTooMany, wantingFault, numberFault, readFault, isWritable, writeFault, codeFault, idFault, callFault}
-use Rattle.checking.specs.Fault.{joinSights, sight, countFault, numberOf, isRemoval, assignedAt, assignmentAt, commandAt, unindexedAt, actionAt, actionsAt, lineParts, bodyAt, restAt, lineAt}
+use Rattle.checking.specs.Fault.{joinSights, sight, countFault, isAmong, areApart, movesFault, numberOf, isRemoval, assignedAt, assignmentAt, commandAt, unindexedAt, actionAt, movesAt, actionsAt, lineParts, bodyAt, restAt, lineAt}
 use Rattle.working.specs.Operators.{joinLogic, joinTruths, joinValues}
 use Rattle.working.specs.Working.{valueOver, conditionValue, rightValue}
 use Rattle.engine.specs.Set.{linesFrom, linesRead, rankIn, namesKnown, curvesSound, allKnown, namedLines, soundLines, emptySet, withoutMark, withLine}
@@ -45,7 +45,7 @@ use Rattle.reader.specs.declared.load_text.Loaded.{Loaded}
 use Rattle.reader.specs.Row.{numbersOf, leastFrom, leastAbove, rising, placed, curveSlots, setOf}
 use Rattle.grammar.specs.Tree.{operandTokens, actionTokens, actionsTokens, conditionTokens, lineTokens}
 use Rattle.grammar.specs.Meaning.{operandMeaning}
-use Rattle.grammar.specs.TreeFault.{rightFault, isRemovalTree, assignedFault, actionFault, actionsFault, lineFault}
+use Rattle.grammar.specs.TreeFault.{rightFault, isRemovalTree, assignedFault, actionFault, actionsFault, movesOf, partsFault, lineFault}
 use Rattle.grammar.specs.TreeNames.{actionsNames, namesIn, eachKnown}
 use Rattle.grammar.specs.TreeOf.{factorsGuess, productGuess, termsGuess, sumGuess, sumsGuess, expressionGuess, operandFirst, operandGuess, actionGuess, actionsGuess, conditionGuess, lineGuess, sameTokens, ifWritten, treeOf}
 use Rattle.reader.specs.Load.{faultOf, lineBelow, tokensFault, faultBelow, keptWith, rowsFrom, firstNot, named, outcome, loadAnswer, loadSet}
@@ -166,5 +166,5 @@ cases =
 
 -- THE TABLE: each case gives what document 01 says, markers by document 02
 pub table : map outcomeOf cases ≡ map expected cases
-unfolding joinLogic beatCount fifoValue fifoAt fits appendAnswer appended shifted removeAnswer removed oldestOf newestOf sumFirst sumAll totalOf countOf cleared emptyAnswer emptied millisOf writtenTimer sumOf differenceOf productOf quotientOf negationOf feedOf signOf inRange valued lessThan equalTo wholeUnits nearestUnits markerOf outputOf grownTimer twosComplement fourBytes orderBytes isIndex indexOf isIndexed indexAt joined more readProduct readSum readRest readExpression readVariable operandFrom readOperand readClose readTruth sumAt expressionAt isInside cellOf variableValue lower opensTooMany wantingFault numberFault readFault joinSights sight isWritable writeFault codeFault idFault callFault countFault numberOf isRemoval assignedAt assignmentAt commandAt unindexedAt actionAt actionsAt lineParts bodyAt restAt lineAt joinTruths joinValues valueOver conditionValue rightValue linesFrom linesRead rankIn namesKnown curvesSound allKnown namedLines soundLines emptySet powerOn grownCells inputCells beatCells allRanged isCell areCells allZero isFifoSound isFlag areFlags stateSound isSound changeAnswer changed changeFifo writeFifo writeCell writeInside writeTo alarmOf driveOrder driveOf lockOf takenAt assignmentOf commandOf actionOf actionsOf tries acts remembers takesTurn doTurn tryTurn turnOf turnsFrom areInputs beatBegun beatEnded wholeBeat beatAnswer beatBuffer foundAt found called lockedCall lockCall unlockCall cancelCall resetCancelled zeroed resetState resetCall run wordToken written isFit numberToken wordFirst behindPoint numberWith numberFirst signFirst firstToken tokensFrom tokensOf split withoutReturn withoutComment bodies isBlank numbered tokenLines numbersOf leastFrom leastAbove rising withoutMark placed curveSlots setOf factorsGuess productGuess termsGuess sumGuess sumsGuess expressionGuess operandFirst operandGuess actionGuess actionsGuess conditionGuess lineGuess sameTokens ifWritten treeOf operandTokens actionTokens actionsTokens conditionTokens lineTokens operandMeaning rightFault isRemovalTree assignedFault actionFault actionsFault lineFault actionsNames namesIn eachKnown faultOf tokensFault faultBelow lineBelow keptWith rowsFrom firstNot named outcome loadAnswer loadSet step runFrom cases areFifos withLine
+unfolding joinLogic beatCount fifoValue fifoAt fits appendAnswer appended shifted removeAnswer removed oldestOf newestOf sumFirst sumAll totalOf countOf cleared emptyAnswer emptied millisOf writtenTimer sumOf differenceOf productOf quotientOf negationOf feedOf signOf inRange valued lessThan equalTo wholeUnits nearestUnits markerOf outputOf grownTimer twosComplement fourBytes orderBytes isIndex indexOf isIndexed indexAt joined more readProduct readSum readRest readExpression readVariable operandFrom readOperand readClose readTruth sumAt expressionAt isInside cellOf variableValue lower opensTooMany wantingFault numberFault readFault joinSights sight isWritable writeFault codeFault idFault callFault countFault numberOf isRemoval assignedAt assignmentAt commandAt unindexedAt actionAt movesAt actionsAt lineParts bodyAt restAt lineAt joinTruths joinValues valueOver conditionValue rightValue linesFrom linesRead rankIn namesKnown curvesSound allKnown namedLines soundLines emptySet powerOn grownCells inputCells beatCells allRanged isCell areCells allZero isFifoSound isFlag areFlags stateSound isSound changeAnswer changed changeFifo writeFifo writeCell writeInside writeTo alarmOf driveOrder driveOf lockOf takenAt assignmentOf commandOf actionOf actionsOf tries acts remembers takesTurn doTurn tryTurn turnOf turnsFrom areInputs beatBegun beatEnded wholeBeat beatAnswer beatBuffer foundAt found called lockedCall lockCall unlockCall cancelCall resetCancelled zeroed resetState resetCall run wordToken written isFit numberToken wordFirst behindPoint numberWith numberFirst signFirst firstToken tokensFrom tokensOf split withoutReturn withoutComment bodies isBlank numbered tokenLines numbersOf leastFrom leastAbove rising withoutMark placed curveSlots setOf factorsGuess productGuess termsGuess sumGuess sumsGuess expressionGuess operandFirst operandGuess actionGuess actionsGuess conditionGuess lineGuess sameTokens ifWritten treeOf operandTokens actionTokens actionsTokens conditionTokens lineTokens operandMeaning rightFault isRemovalTree assignedFault actionFault actionsFault movesOf partsFault lineFault isAmong areApart movesFault actionsNames namesIn eachKnown faultOf tokensFault faultBelow lineBelow keptWith rowsFrom firstNot named outcome loadAnswer loadSet step runFrom cases areFifos withLine
 table = refl

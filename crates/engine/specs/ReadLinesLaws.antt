@@ -48,7 +48,7 @@ module _ (s : List ℕ) (p : ℕ) where
 
     body-fits : (f q : ℕ) → Fits (bodyAt s p kw cp f q)
     unfolding bodyAt
-    body-fits f q = either Fits (eqb (token s q) DO) (λ z. parts-fit (q + 1) (actionsAt s kw setSize setSize 0 f (q + 1))) (λ z. faulty-fits notInGrammar)
+    body-fits f q = either Fits (eqb (token s q) DO) (λ z. parts-fit (q + 1) (actionsAt s kw setSize setSize 0 [] f (q + 1))) (λ z. faulty-fits notInGrammar)
 
   rest-fits : (f : ℕ) → Fits (restAt s p f)
   unfolding restAt

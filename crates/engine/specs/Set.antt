@@ -86,7 +86,7 @@ noLine = faultyLine 0
 abbrev pub noLines : Lines
 noLines = record { sound = false; count = 0; numbers = replicate maxLines 0; items = replicate maxLines noLine }
 
--- at most 32 lines, each without a fault of 4 to 10, numbers distinct and rising: m lines from rank k on, where `last` is the number before them
+-- at most 32 lines, each without a fault of 4 to 10 or 14, numbers distinct and rising: m lines from rank k on, where `last` is the number before them
 unfoldable pub linesFrom : List ℕ → ℕ → ℕ → ℕ → List ℕ → List Line → Lines
 linesFrom s zero k last ns ls = record { sound = true; count = k; numbers = ns; items = ls }
 linesFrom s (suc m) k last ns ls =

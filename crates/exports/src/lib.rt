@@ -54,7 +54,7 @@ pub extern "C" fn set_right_side(
     packed_value(right_side(set, r, cells, at))
 }
 
-// The lowest fault of 4 to 10 of the line at place `at`, 0 for none.
+// The lowest fault of 4 to 10, or 14, of the line at place `at`, 0 for none.
 #[no_mangle]
 pub extern "C" fn set_line_fault(set: &[u32; SIZE], at: usize) -> u32
     ensures { λ x. ⌜ x ≡ lineAt (now (set .entry)) at .fault ⌝ }

@@ -1,14 +1,14 @@
 -- Where the check's reading of a line ends without a result, its code is 5, not in the grammar. Assumes nothing.
 use mathlib.Core.Path.{_≡_, refl}
 use mathlib.Core.Bool.{Bool, true, false, _&&_}
-use mathlib.Core.List.{List}
+use mathlib.Core.List.{List, _++_}
 use Prim.Native.Nat.{ℕ, zero, suc, _+_}
 use lib.Dec.{eqb}
 use Rattle.values.specs.Codes.{notInGrammar}
 use Rattle.tokens.specs.Token.{isNumber, isVariable, isDrive, isCall, isFactor, isTerm, isCompare, isWhole, CLOSE, END, EQUALS, FALSE, M, MINUS, NOT, OPEN, SYNFCT, TRUE}
 use Rattle.tokens.specs.Descent.{token, Read, read, ends, then, isRow, isIndexed, joined, more, readProduct, readSum, readRest, readExpression, readClose, readVariable, readTruth, operandFrom, readOperand, sumAt, expressionAt}
 use Rattle.tokens.specs.SingleFault.{lower}
-use Rattle.checking.specs.Fault.{Sight, sight, faultFor, isRemoval, assignedAt, assignmentAt, commandAt, isSynfct, synfctAt, unindexedAt, actionAt, actionsAt}
+use Rattle.checking.specs.Fault.{Sight, sight, faultFor, isRemoval, assignedAt, assignmentAt, commandAt, isSynfct, synfctAt, unindexedAt, actionAt, movesAt, actionsAt}
 
 -- a reading has a result, or ends with 5
 abbrev pub Five : {A : Type 0} → Read A → Type 0
@@ -92,7 +92,7 @@ module _ (s : List ℕ) where
       refl))
 
   -- and the actions'
-  pub actions-five : (kw k j n f p : ℕ) → Five (actionsAt s kw k j n f p)
+  pub actions-five : (kw k j n : ℕ) (m : List ℕ) (f p : ℕ) → Five (actionsAt s kw k j n m f p)
   unfolding actionsAt
-  actions-five kw k zero n f p = refl
-  actions-five kw k (suc j) n f p = then-five (actionAt s kw k p) _ (action-five kw k p) (λ g q. choice-five (eqb (token s q) END) _ _ tt (actions-five kw k j (n + 1) (lower f g) q))
+  actions-five kw k zero n m f p = refl
+  actions-five kw k (suc j) n m f p = then-five (actionAt s kw k p) _ (action-five kw k p) (λ g q. choice-five (eqb (token s q) END) _ _ tt (actions-five kw k j (n + 1) (m ++ movesAt s p) (lower f g) q))

@@ -1,7 +1,8 @@
 -- The check of what was written: where a line's tokens stand, the check tells the faults of its tree, or its parts. Assumes nothing.
 use mathlib.Core.Path.{_≡_, refl, sym, ap, _∙_}
-use mathlib.Core.Bool.{true, false, not as no?, _&&_, _||_, and-assoc, or-true, or-false, false≢true}
-use mathlib.Core.List.{List, [], _∷_, _++_}
+use mathlib.Core.Bool.{true, false, cond, not as no?, _&&_, _||_, and-assoc, or-true, or-false, false≢true}
+use mathlib.Core.List.{List, [], _∷_, _++_, append-assoc}
+use mathlib.Core.Logic.{_⊎_, inl, inr}
 use Prim.Native.Nat.{ℕ, zero, suc, pred, _+_, _-_, _<_, _≤_}
 use native.Mathlib.Nat.{not-suc-le-zero, le-trans}
 use native.Mathlib.Omega.{arith}
@@ -9,13 +10,13 @@ use lib.Dec.{T, eqb}
 use lib.ListN.{length, drop, length-append}
 use borrow.Author.Tests.{le-leb, eq-eqb, ne-eqb, eqb-true}
 use Rattle.values.specs.Choice.{holds, both, decide, chosen, refused, same-choice}
-use Rattle.tokens.specs.Token.{setSize, END, EQUALS, OPEN, CLOSE, COMMA, DO, LEFT, RIGHT, IM, M, SYNFCT, isVariable, isDrive, isCall, isWhole, isFifo, isNaming, isKeyword, isId, isFactor, isTerm, NUMBER, whole, wholeToken, axisOf, FALSE, FIFO1, FIFO4, IN, LOCK, MINUS, MOV, NOT, OVER, PLUS, POS, SETAL, TIMES, TRUE, UNLOCK}
+use Rattle.tokens.specs.Token.{setSize, END, EQUALS, OPEN, CLOSE, COMMA, DO, LEFT, RIGHT, IM, M, SYNFCT, isVariable, isDrive, isMove, isCall, isWhole, isFifo, isNaming, isKeyword, isId, isFactor, isTerm, NUMBER, whole, wholeToken, axisOf, FALSE, FIFO1, FIFO4, IN, LOCK, MINUS, MOV, NOT, OVER, PLUS, POS, SETAL, TIMES, TRUE, UNLOCK}
 use Rattle.grammar.specs.Tree.{Operand, number, variable, position, truth, bracket, minus, not, product, Factors, noFactor, factor, Sum, sum, Terms, noTerm, term, compare, Action, assign, assignPosition, drive, code, call, synfct, Place, placeWord, placeIndex, placeToken, placeTokens, Condition, always, under, Line, line, operandTokens, factorsTokens, sumTokens, termsTokens, actionTokens, actionsTokens, conditionTokens, lineTokens}
 use Rattle.tokens.specs.Descent.{token, read, isIndex, indexOf, isIndexed, indexAt, sumAt}
 use Rattle.grammar.specs.Meaning.{sumMeaning, expressionMeaning, Stands, EndsSum, EndsExpression}
 use Rattle.tokens.specs.SingleFault.{lower, opensTooMany, readFault, writeFault, idFault, curveFault}
-use Rattle.checking.specs.Fault.{sight, faultFor, countFault, numberOf, isRemoval, assignedAt, assignmentAt, commandAt, isGiven, isSynfct, synfctFault, synfctAt, unindexedAt, actionAt, actionsAt, namesFrom, lineParts, bodyAt, restAt, lineAt}
-use Rattle.grammar.specs.TreeFault.{rightFault, isFifoZero, isAlone, isRemovalTree, assignedFault, actionFault, actionsFault, keywordOf, conditionFault, lineFault, conditionPlace, partsFrom, toldFrom}
+use Rattle.checking.specs.Fault.{sight, faultFor, countFault, movesFault, numberOf, isRemoval, assignedAt, assignmentAt, commandAt, isGiven, isSynfct, synfctFault, synfctAt, unindexedAt, actionAt, movesAt, actionsAt, namesFrom, lineParts, bodyAt, restAt, lineAt}
+use Rattle.grammar.specs.TreeFault.{rightFault, isFifoZero, isAlone, isRemovalTree, assignedFault, actionFault, actionsFault, keywordOf, conditionFault, moveOf, movesOf, partsFault, lineFault, conditionPlace, partsFrom, toldFrom}
 use Rattle.grammar.specs.TreeNames.{Name, actionNames, actionsNames, namesIn, hasNames}
 use Rattle.grammar.specs.Agreement.{sum-agrees, expression-agrees}
 use Rattle.grammar.specs.AgreementLaws.{bounds, before, beyond, stands-split, stands-place, parts-fit, numbered, whole-token, number-index, axis-index, index-stands, place-index}
@@ -218,34 +219,54 @@ module _ (s : List ℕ) where
   actions-word a [] p q h = action-word a p q h
   actions-word a (b ∷ r) p q h = let (i, f, g) = stands-split s (actionTokens a) (actionsTokens b r) p q h in action-word a p i f
 
-  actions-end : (kw k j n f g p q : ℕ) → 1 ≤ j → actionAt s kw k p ≡ read g q → token s q ≡ END → actionsAt s kw k j n f p ≡ read (lower (lower f g) (countFault (n + 1))) q
-  unfolding actionsAt
-  actions-end kw k zero n f g p q l h e = absurd (not-suc-le-zero l)
-  actions-end kw k (suc j) n f g p q l h e = rw h (chosen _ _ _ (eq-eqb (token s q) END e))
+  -- what an action moves
+  no-move : (w : ℕ) (l : List ℕ) → (w < POS) ⊎ (MOV < w) → cond (isMove w) l [] ≡ []
+  no-move w l (inl h) = rw (ne-eqb w POS (λ z. omega arith), ne-eqb w MOV (λ z. omega arith))
+  no-move w l (inr h) = rw (ne-eqb w POS (λ z. omega arith), ne-eqb w MOV (λ z. omega arith))
 
-  actions-next : (kw k j n f g p i : ℕ) → 1 ≤ j → actionAt s kw k p ≡ read g i → IN ≤ token s i → actionsAt s kw k j n f p ≡ actionsAt s kw k (pred j) (n + 1) (lower f g) i
-  unfolding actionsAt
-  actions-next kw k zero n f g p i l h e = absurd (not-suc-le-zero l)
-  actions-next kw k (suc j) n f g p i l h e = rw h (refused _ _ _ (ne-eqb (token s i) END (λ z. omega arith)))
+  action-moves : (a : Action) (p q : ℕ) → Stands s p (actionTokens a) q → movesAt s p ≡ moveOf a
+  unfolding actionTokens movesAt
+  action-moves (assign w v i a) p q h = let b = bounds IN FIFO4 w v in rw (h .0) (no-move w _ (inl (omega arith)))
+  action-moves (assignPosition x v a) p q h = rw (h .0)
+  action-moves (drive w v x u a) p q h =
+      let b = bounds POS MOV w v in
+      let y = axis-index w x (le-leb IM w (omega arith)) u in
+      let (c, d, g) = target-stands w x (sumTokens a) 0 0 p q (y .0) h in
+      rw (h .0, d, y .1)
+  action-moves (code n) p q h = rw (h .0)
+  action-moves (call w v n) p q h = let b = bounds SETAL UNLOCK w v in rw (h .0) (no-move w _ (inr (omega arith)))
+  action-moves (synfct n y z) p q h = rw (h .0)
 
-  actions-agree : (kw k : ℕ) (r : List Action) (a : Action) (j n f p q : ℕ) → length (actionsTokens a r) ≤ k → length (actionsTokens a r) ≤ j → Stands s p (actionsTokens a r) q → token s q ≡ END → actionsAt s kw k j n f p ≡ read (lower f (lower (actionsFault kw a r) (countFault (suc (n + length r))))) q
-  unfolding actionsTokens actionsFault
-  actions-agree kw k [] a j n f p q l m h e =
+  actions-end : (kw k j n : ℕ) (m : List ℕ) (f g p q : ℕ) → 1 ≤ j → actionAt s kw k p ≡ read g q → token s q ≡ END →
+      actionsAt s kw k j n m f p ≡ read (lower (lower f g) (lower (countFault (n + 1)) (movesFault (m ++ movesAt s p)))) q
+  unfolding actionsAt
+  actions-end kw k zero n m f g p q l h e = absurd (not-suc-le-zero l)
+  actions-end kw k (suc j) n m f g p q l h e = rw h (chosen _ _ _ (eq-eqb (token s q) END e))
+
+  actions-next : (kw k j n : ℕ) (m : List ℕ) (f g p i : ℕ) → 1 ≤ j → actionAt s kw k p ≡ read g i → IN ≤ token s i → actionsAt s kw k j n m f p ≡ actionsAt s kw k (pred j) (n + 1) (m ++ movesAt s p) (lower f g) i
+  unfolding actionsAt
+  actions-next kw k zero n m f g p i l h e = absurd (not-suc-le-zero l)
+  actions-next kw k (suc j) n m f g p i l h e = rw h (refused _ _ _ (ne-eqb (token s i) END (λ z. omega arith)))
+
+  actions-agree : (kw k : ℕ) (r : List Action) (a : Action) (j n : ℕ) (z : List ℕ) (f p q : ℕ) → length (actionsTokens a r) ≤ k → length (actionsTokens a r) ≤ j → Stands s p (actionsTokens a r) q → token s q ≡ END →
+      actionsAt s kw k j n z f p ≡ read (lower f (lower (actionsFault kw a r) (lower (countFault (suc (n + length r))) (movesFault (z ++ movesOf a r))))) q
+  unfolding actionsTokens actionsFault movesOf
+  actions-agree kw k [] a j n z f p q l m h e =
       let one : suc (n + 0) ≡ n + 1 = omega arith in
-      actions-end kw k j n f (actionFault kw a) p q (le-trans (action-long a) m) (action-agrees kw a k p q l h (end-ends (token s q) e)) e ∙ rw (one, lower-assoc f (actionFault kw a) _)
-  actions-agree kw k (b ∷ r) a j n f p q l m h e =
+      actions-end kw k j n z f (actionFault kw a) p q (le-trans (action-long a) m) (action-agrees kw a k p q l h (end-ends (token s q) e)) e ∙ rw (one, action-moves a p q h, lower-assoc f (actionFault kw a) _)
+  actions-agree kw k (b ∷ r) a j n z f p q l m h e =
       let (i, x, y) = stands-split s (actionTokens a) (actionsTokens b r) p q h in
       let L = parts-fit (actionTokens a) (actionsTokens b r) k l in
       let w = actions-word b r i q y in
       let g = actionFault kw a in
       let c = suc (n + length (b ∷ r)) in
       let one : suc (n + 1 + length r) ≡ c = omega arith in
-      let t = countFault c in
+      let t = lower (countFault c) (movesFault (z ++ (moveOf a ++ movesOf b r))) in
       let J = simp length-append at m in
       let A = action-long a in
-      actions-next kw k j n f g p i (omega arith) (action-agrees kw a k p i (L .0) x (word-ends (token s i) w)) w
-      ∙ actions-agree kw k r b (pred j) (n + 1) (lower f g) i q (L .1) (omega arith) y e
-      ∙ rw (one, lower-assoc f g _, lower-assoc g (actionsFault kw b r) t)
+      actions-next kw k j n z f g p i (omega arith) (action-agrees kw a k p i (L .0) x (word-ends (token s i) w)) w
+      ∙ actions-agree kw k r b (pred j) (n + 1) (z ++ movesAt s p) (lower f g) i q (L .1) (omega arith) y e
+      ∙ rw (one, action-moves a p i x, append-assoc z (moveOf a) (movesOf b r), lower-assoc f g _, lower-assoc g (actionsFault kw b r) t)
 
   -- ---- what actions name
 
@@ -288,13 +309,13 @@ module _ (s : List ℕ) where
 
   -- the lowest fault of a body, behind what stands before it
   abbrev bodyFault : ℕ → ℕ → Action → List Action → ℕ
-  bodyFault kw f a r = lower f (lower (actionsFault kw a r) (countFault (suc (length r))))
+  bodyFault kw f a r = lower f (lower (actionsFault kw a r) (lower (countFault (suc (length r))) (movesFault (movesOf a r))))
 
   body-agrees : (a : Action) (r : List Action) (p kw cp f i e : ℕ) → length (actionsTokens a r) ≤ setSize → token s i ≡ DO → Stands s (i + 1) (actionsTokens a r) e → token s e ≡ END → bodyAt s p kw cp f i ≡ lineParts s p kw cp (i + 1) (read (bodyFault kw f a r) e)
   unfolding bodyAt
   body-agrees a r p kw cp f i e l d h t =
       let n : 0 + length r ≡ length r = omega arith in
-      chosen _ _ _ (eq-eqb (token s i) DO d) ∙ rw (actions-agree kw setSize r a setSize 0 f (i + 1) e l l h t, n)
+      chosen _ _ _ (eq-eqb (token s i) DO d) ∙ rw (actions-agree kw setSize r a setSize 0 [] f (i + 1) e l l h t, n)
 
   -- what stands behind the head
   rest-agrees : (c : Condition) (a : Action) (r : List Action) (p f e : ℕ) → length (conditionTokens c) ≤ setSize → length (actionsTokens a r) ≤ setSize → (i : ℕ) → Stands s (p + 3) (conditionTokens c) i → token s i ≡ DO → Stands s (i + 1) (actionsTokens a r) e → token s e ≡ END → restAt s p f ≡ lineParts s p (keywordOf c) (conditionPlace p c) (i + 1) (read (bodyFault (keywordOf c) (lower f (conditionFault c)) a r) e)
@@ -332,25 +353,36 @@ module _ (s : List ℕ) where
       record { doing = i; end = e; word = h .0; equals = h .1 .0; number = t; condition = x; begins = y .0; actions = z; stops = u .0; behind = u .1 }
 
   parts-agree : (w : ℕ) (v : T (isId w)) (n : ℕ) (c : Condition) (a : Action) (r : List Action) (p q : ℕ) → length (actionsTokens a r) ≤ setSize → Stands s p (lineTokens (line w v n c a r)) q → (x : LineStands w n c a r p q) → lineParts s p (keywordOf c) (conditionPlace p c) (x .doing + 1) (read (lineFault (line w v n c a r)) (x .end)) ≡ toldFrom p (line w v n c a r)
-  unfolding lineTokens lineParts toldFrom partsFrom lineFault namesIn
+  unfolding lineTokens lineParts toldFrom partsFrom lineFault partsFault namesIn
   parts-agree w v n c a r p q m h x =
       let l = line w v n c a r in
       let d = stands-place s (conditionTokens c) (p + 3) (x .doing) (x .condition) in
       let e = stands-place s (lineTokens l) p q h in
       let actions : x .doing + 1 ≡ p + (length (conditionTokens c) + 4) = omega arith in
       let end : x .end ≡ p + (length (lineTokens l) - 1) = omega arith in
-      let kept : lineFault l ≡ 0 → numberOf n ≡ n = λ f. number-kept n (lower-first _ _ (lower-first _ _ f)) in
+      let kept : lineFault l ≡ 0 → numberOf n ≡ n = λ f. number-kept n (lower-first _ _ (lower-first _ _ (lower-first _ _ f))) in
       let names = names-agree (keywordOf c) setSize r a setSize (x .doing + 1) (x .end) m m (x .actions) (x .stops) in
       same-choice _ _ _ _ (λ f. rw (names, x .number, whole-token n .1, kept (eqb-true (lineFault l) 0 f), x .word, actions, end))
 
+  -- 14 stands behind the others
+  whole-fault : (w : ℕ) (v : T (isId w)) (n : ℕ) (c : Condition) (a : Action) (r : List Action) → bodyFault (keywordOf c) (lower (idFault n) (conditionFault c)) a r ≡ lineFault (line w v n c a r)
+  unfolding lineFault partsFault
+  whole-fault w v n c a r =
+      let x = lower (idFault n) (conditionFault c) in
+      let y = actionsFault (keywordOf c) a r in
+      let z = countFault (suc (length r)) in
+      let m = movesFault (movesOf a r) in
+      sym (lower-assoc x (lower y z) m ∙ ap (lower x) (lower-assoc y z m))
+
   told-agrees : (w : ℕ) (v : T (isId w)) (n : ℕ) (c : Condition) (a : Action) (r : List Action) (p q : ℕ) → length (lineTokens (line w v n c a r)) ≤ suc setSize → opensTooMany (drop p s) 0 ≡ false → Stands s p (lineTokens (line w v n c a r)) q → LineStands w n c a r p q → lineAt s p ≡ toldFrom p (line w v n c a r)
-  unfolding lineTokens lineAt lineFault
+  unfolding lineTokens lineAt
   told-agrees w v n c a r p q l b h x =
       let m = simp length-append at l in
       let head : (isId (token s p) && (eqb (token s (p + 1)) EQUALS && isWhole (token s (p + 2)))) ≡ true = rw (x .word, holds (isId w) v, x .equals, x .number) (whole-token n .0) in
       let id : idFault (whole (token s (p + 2))) ≡ idFault n = rw (x .number, whole-token n .1) in
       refused _ _ _ b ∙ chosen _ _ _ head ∙ ap (restAt s p) id
       ∙ rest-agrees c a r p (idFault n) (x .end) (omega arith) (omega arith) (x .doing) (x .condition) (x .begins) (x .actions) (x .stops)
+      ∙ ap (λ (f : ℕ). lineParts s p (keywordOf c) (conditionPlace p c) (x .doing + 1) (read f (x .end))) (whole-fault w v n c a r)
       ∙ parts-agree w v n c a r p q (omega arith) h x
 
   -- what the check tells of a line that stands at p; its tokens, the last not counted, are at most those of a set

@@ -16,7 +16,7 @@ use Rattle.grammar.specs.Tree.{variable, product, noFactor, Sum, sum, no
 use Rattle.tokens.specs.Descent.{token, Read, read, ends, isIndexed, indexAt, sumAt, expressionAt}
 use Rattle.grammar.specs.Meaning.{Stands}
 use Rattle.tokens.specs.SingleFault.{lower, opensTooMany}
-use Rattle.checking.specs.Fault.{Sight, sight, faultFor, isRemoval, assignedAt, assignmentAt, commandAt, isGiven, isSynfct, synfctAt, unindexedAt, actionAt, actionsAt, lineParts, bodyAt, restAt, lineAt}
+use Rattle.checking.specs.Fault.{Sight, sight, faultFor, isRemoval, assignedAt, assignmentAt, commandAt, isGiven, isSynfct, synfctAt, unindexedAt, actionAt, movesAt, actionsAt, lineParts, bodyAt, restAt, lineAt}
 use Rattle.grammar.specs.TreeFault.{lineFault, Proper, partsFrom, toldFrom}
 use Rattle.grammar.specs.AgreementLaws.{bounds, within, ends-read, then-read, stands-join, whole-written, number-written, axis-written, variable-kind}
 use Rattle.grammar.specs.AgreementRead.{sum-found, expression-found}
@@ -25,13 +25,15 @@ use Rattle.grammar.specs.ClosedTokens.{line-fits}
 use Rattle.grammar.specs.TreeFaultLaws.{line-proper}
 use Rattle.grammar.specs.AgreementEnds.{Five, actions-five, condition-five}
 
--- a fault of 6 to 10, or none, is neither 4 nor 5
+-- a fault of 6 to 10, or 14, or none, is neither 4 nor 5
 pub proper-4 : (n : ℕ) → Proper n → n ≡ tooDeep → ⊥
-proper-4 n (inl h) e = omega arith
+proper-4 n (inl (inl h)) e = omega arith
+proper-4 n (inl (inr h)) e = omega arith
 proper-4 n (inr h) e = omega arith
 
 pub proper-5 : (n : ℕ) → Proper n → n ≡ notInGrammar → ⊥
-proper-5 n (inl h) e = omega arith
+proper-5 n (inl (inl h)) e = omega arith
+proper-5 n (inl (inr h)) e = omega arith
 proper-5 n (inr h) e = omega arith
 
 module _ (s : List ℕ) where
@@ -166,15 +168,15 @@ module _ (s : List ℕ) where
       (λ x h. choice _ (eqb (token s (p + 4)) EQUALS) _ _ _ h (λ y e. assignment-found k p f q x (eqb-true (token s (p + 4)) EQUALS y) e) (λ _ e. ends-read _ notInGrammar q f e))
       (λ _ e. unindexed-found kw p f q e)
 
-  actions-found : (kw k j n f p g q : ℕ) → actionsAt s kw k j n f p ≡ read g q → (a : Action) × (r : List Action) × Stands s p (actionsTokens a r) q × (token s q ≡ END)
+  actions-found : (kw k j n : ℕ) (m : List ℕ) (f p g q : ℕ) → actionsAt s kw k j n m f p ≡ read g q → (a : Action) × (r : List Action) × Stands s p (actionsTokens a r) q × (token s q ≡ END)
   unfolding actionsAt actionsTokens
-  actions-found kw k zero n f p g q h = ends-read _ notInGrammar q g h
-  actions-found kw k (suc j) n f p g q h =
-      let (d, i, e, m) = then-read (actionAt s kw k p) _ g q h in
+  actions-found kw k zero n m f p g q h = ends-read _ notInGrammar q g h
+  actions-found kw k (suc j) n m f p g q h =
+      let (d, i, e, u) = then-read (actionAt s kw k p) _ g q h in
       let (a, z) = action-found kw k p d i e in
-      choice _ (eqb (token s i) END) _ _ _ m
+      choice _ (eqb (token s i) END) _ _ _ u
       (λ t e. let x : i ≡ q = cc in (a, [], subst (λ (n : ℕ). Stands s p (actionTokens a) n) x z, rw x at (eqb-true (token s i) END t)))
-      (λ _ e. let (b, r, y, t) = actions-found kw k j (n + 1) (lower f d) i g q e in (a, b ∷ r, stands-join s (actionTokens a) (actionsTokens b r) p i q z y, t))
+      (λ _ e. let (b, r, y, t) = actions-found kw k j (n + 1) (m ++ movesAt s p) (lower f d) i g q e in (a, b ∷ r, stands-join s (actionTokens a) (actionsTokens b r) p i q z y, t))
 
   -- ---- a line that is found is written
 
@@ -197,8 +199,8 @@ module _ (s : List ℕ) where
   body-found p kw cp f i z no5 h =
       choice _ (eqb (token s i) DO) _ _ z h
       (λ t e.
-      let (g, n, m) = parts-found p kw cp (i + 1) (actionsAt s kw setSize setSize 0 f (i + 1)) z no5 (actions-five s kw setSize setSize 0 f (i + 1)) e in
-      let (a, r, y, u) = actions-found kw setSize setSize 0 f (i + 1) g n m in
+      let (g, n, m) = parts-found p kw cp (i + 1) (actionsAt s kw setSize setSize 0 [] f (i + 1)) z no5 (actions-five s kw setSize setSize 0 [] f (i + 1)) e in
+      let (a, r, y, u) = actions-found kw setSize setSize 0 [] f (i + 1) g n m in
       record { first = a; rest = r; end = n; begins = eqb-true (token s i) DO t; stands = y; stops = u })
       (λ _ e. absurd (no5 (ap (λ (l : Told). l .fault) (sym e))))
 

@@ -6,7 +6,7 @@ use lib.IntN.{pos, negℤ}
 use Rattle.values.specs.Codes.{tooDeep, notInGrammar, outside, readOnly, wrongCurve}
 use Rattle.values.specs.Value.{lessThan}
 use Rattle.checking.specs.CurveDefinition.{limitsFault, judgedCurve, numberPlace, parameterAt, partAt, partBehind, curveFrom, endedBy, definedBy, isDefining, definitionAt}
-use Rattle.checking.specs.Fault.{lineAt, restAt, bodyAt, lineParts, actionsAt, actionAt, unindexedAt, isGiven, isSynfct, synfctFault, synfctAt, countFault, numberOf, namesFrom}
+use Rattle.checking.specs.Fault.{lineAt, restAt, bodyAt, lineParts, movesAt, actionsAt, actionAt, unindexedAt, isGiven, isSynfct, synfctFault, synfctAt, countFault, isAmong, areApart, movesFault, numberOf, namesFrom}
 use Rattle.tokens.specs.Token.{END, EQUALS, MINUS, OPEN, CLOSE, LEFT, RIGHT, ID, DO, COMMA, FCTDEF, IN, OUT, MARKER, R, FIFO1, IM, SYNFCT, X}
 use Rattle.tokens.specs.Descent.{isIndex, indexOf, isIndexed, indexAt}
 use Rattle.tokens.specs.Index.{isInside}
@@ -87,5 +87,5 @@ synfctCases =
 
 -- the worked lines have those faults
 pub synfct-table : Holds synfctCases
-unfolding Holds synfctCases lineAt restAt bodyAt lineParts idFault opensTooMany actionsAt actionAt unindexedAt isGiven isSynfct synfctFault synfctAt countFault numberOf namesFrom writeFault isWritable readFault curveFault lower isInside isIndex indexOf isIndexed indexAt
+unfolding Holds synfctCases lineAt restAt bodyAt lineParts idFault opensTooMany movesAt actionsAt actionAt unindexedAt isGiven isSynfct synfctFault synfctAt countFault isAmong areApart movesFault numberOf namesFrom writeFault isWritable readFault curveFault lower isInside isIndex indexOf isIndexed indexAt
 synfct-table = (refl, (refl, (refl, (refl, (refl, (refl, tt))))))

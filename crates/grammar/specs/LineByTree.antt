@@ -1,12 +1,12 @@
 -- A LINE'S FAULT BY ITS TREE, both ways: of the tokens of a line, wherever they stand, the check tells 4, 5, or the fault of a line of the grammar that is written as them. Theorems; nothing is assumed.
-use mathlib.Core.Path.{_≡_, sym, ap, _∙_}
+use mathlib.Core.Path.{_≡_, refl, sym, ap, _∙_}
 use mathlib.Core.Bool.{true, false}
 use mathlib.Core.List.{List, [], _∷_, _++_}
-use mathlib.Core.Logic.{_↔_}
+use mathlib.Core.Logic.{_↔_, inr}
 use Prim.Native.Nat.{ℕ, _≤_}
 use native.Mathlib.Omega.{arith}
 use lib.ListN.{length, drop}
-use Rattle.values.specs.Codes.{tooDeep, notInGrammar}
+use Rattle.values.specs.Codes.{tooDeep, notInGrammar, twoMoves}
 use Rattle.values.specs.Choice.{decide, chosen}
 use Rattle.checking.specs.declared.line.Line.{Line as Told}
 use Rattle.tokens.specs.Token.{END, setSize, AllReal}
@@ -14,8 +14,9 @@ use Rattle.tokens.specs.SingleFault.{opensTooMany}
 use Rattle.checking.specs.Fault.{lineAt}
 use Rattle.grammar.specs.Tree.{Line, treeNumber, WrittenAs}
 use Rattle.grammar.specs.Meaning.{Stands}
-use Rattle.grammar.specs.TreeFault.{lineFault, Proper}
+use Rattle.grammar.specs.TreeFault.{movesIn, partsFault, lineFault, AxesApart, Proper}
 use Rattle.grammar.specs.TreeFaultLaws.{line-proper}
+use Rattle.grammar.specs.OneMove.{line-14}
 use Rattle.grammar.specs.AgreementLine.{line-written, line-fault, line-parts, fault-five, parts-number, not-deep, proper-4, proper-5}
 use Rattle.grammar.specs.StandsLaws.{opens-stands, line-stood, line-standing}
 
@@ -57,7 +58,7 @@ module _ (s ts : List ℕ) (p q : ℕ) (size : length s ≤ setSize) (real : All
     (λ x. fault-five s size p (opens ∙ x .0) .1 (λ l r g. x .1 l (line-stood s ts p q r l real h g))),
   )
 
-  -- 0, OR 6 TO 10: they are not, a line is written as these tokens, and that is its lowest fault
+  -- 0, OR 6 TO 10, OR 14: they are not, a line is written as these tokens, and that is its lowest fault
   pub fault-by-tree : (f : ℕ) → Proper f → (lineAt s p .fault ≡ f) ↔ ((opensTooMany ts 0 ≡ false) × ((l : Line) × WrittenAs l ts × (lineFault l ≡ f)))
   fault-by-tree f proper = (
     (λ e. decide _ (opensTooMany ts 0)
@@ -68,3 +69,11 @@ module _ (s ts : List ℕ) (p q : ℕ) (size : length s ≤ setSize) (real : All
         (o, (l, w, sym (of-tree l o w) ∙ e)))),
     (λ x. let (o, (l, w, e)) = x in of-tree l o w ∙ e),
   )
+
+  -- 14: they are not, and of the line that is written as these tokens nothing else is wrong, but it moves an axis twice
+  pub fault-14 : (lineAt s p .fault ≡ twoMoves) ↔ ((opensTooMany ts 0 ≡ false) × ((l : Line) × WrittenAs l ts × (partsFault l ≡ 0) × (AxesApart (movesIn l) → ⊥)))
+  fault-14 =
+      let f = fault-by-tree twoMoves (inr refl) in (
+        (λ e. let (o, (l, w, z)) = f .0 e in let (a, b) = line-14 l .0 z in (o, (l, w, a, b))),
+        (λ x. let (o, (l, w, a, b)) = x in f .1 (o, (l, w, line-14 l .1 (a, b)))),
+      )

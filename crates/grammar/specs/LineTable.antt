@@ -6,7 +6,7 @@ use Rattle.values.specs.Codes.{tooDeep, notInGrammar, confused, outside, readOn
 use Rattle.tokens.specs.Token.{END, EQUALS, SAME, LESS, MORE, ATLEAST, PLUS, TIMES, OPEN, CLOSE, LEFT, RIGHT, ID, IDS, WHEN, WHENEVER, FROM, EVERY, DO, TRUE, FALSE, NOT, AND, OR, IN, OUT, MARKER, PARAM, R, FIFO1, IM, POS, FA, MOV, M, LOCK, X, NUMBER, wholeToken}
 use Rattle.tokens.specs.Descent.{isIndex, indexOf, isIndexed, indexAt, joined, more, readProduct, readSum, readRest, readExpression, readClose, readVariable, readTruth, operandFrom, readOperand, sumAt, expressionAt}
 use Rattle.tokens.specs.Index.{isInside}
-use Rattle.checking.specs.Fault.{lineAt, restAt, bodyAt, lineParts, actionsAt, actionAt, assignmentAt, unindexedAt, commandAt, countFault, numberOf, assignedAt, isRemoval, sight, joinSights}
+use Rattle.checking.specs.Fault.{lineAt, restAt, bodyAt, lineParts, movesAt, actionsAt, actionAt, assignmentAt, unindexedAt, commandAt, countFault, isAmong, areApart, movesFault, numberOf, assignedAt, isRemoval, sight, joinSights}
 use Rattle.tokens.specs.SingleFault.{idFault, opensTooMany, wantingFault, writeFault, isWritable, codeFault, callFault, readFault, numberFault, lower}
 
 -- the tokens of a number without and with a point, the second by its thousandths
@@ -102,5 +102,5 @@ Holds (c ∷ cs) = (lineAt (c .tokens) 0 .fault ≡ c .fault) × Holds cs
 
 -- the worked lines have those faults
 pub line-table : Holds lineCases
-unfolding Holds lineCases lineAt restAt bodyAt lineParts idFault opensTooMany actionsAt actionAt assignmentAt unindexedAt commandAt countFault numberOf wantingFault assignedAt isRemoval writeFault isWritable codeFault callFault sight joinSights readFault numberFault lower isInside isIndex indexOf isIndexed indexAt joined more readProduct readSum readRest readExpression readClose readVariable readTruth operandFrom readOperand sumAt expressionAt
+unfolding Holds lineCases lineAt restAt bodyAt lineParts idFault opensTooMany movesAt actionsAt actionAt assignmentAt unindexedAt commandAt countFault isAmong areApart movesFault numberOf wantingFault assignedAt isRemoval writeFault isWritable codeFault callFault sight joinSights readFault numberFault lower isInside isIndex indexOf isIndexed indexAt joined more readProduct readSum readRest readExpression readClose readVariable readTruth operandFrom readOperand sumAt expressionAt
 line-table = (refl, (refl, (refl, (refl, (refl, (refl, (refl, (refl, (refl, (refl, (refl, (refl, (refl, (refl, (refl, (refl, (refl, (refl, (refl, (refl, (refl, (refl, (refl, (refl, (refl, (refl, (refl, (refl, (refl, (refl, (refl, (refl, (refl, (refl, (refl, tt)))))))))))))))))))))))))))))))))))

@@ -1,5 +1,5 @@
--- Laws of lines with other numbers, for a change that keeps whole numbers and values: the tokens are those of the line, each changed; neither a value, nor a fault of 4 or
--- of 6 to 10, sees the change. Nothing is assumed.
+-- Laws of lines with other numbers, for a change that keeps whole numbers and values: the tokens are those of the line, each changed; neither a value, nor a fault of 4, of
+-- 6 to 10 or of 14, sees the change. Nothing is assumed.
 use mathlib.Core.Path.{_≡_, refl, sym, _∙_}
 use mathlib.Core.Bool.{Bool, true, false}
 use mathlib.Core.List.{List, [], _∷_, _++_, map, map-append}
@@ -17,7 +17,7 @@ use Rattle.checking.specs.Fault.{sight}
 use Rattle.working.specs.Working.{valueOver}
 use Rattle.grammar.specs.Tree.{Operand, number, variable, position, truth, bracket, minus, not, Product, product, Factors, noFactor, factor, Sum, sum, Terms, noTerm, term, Expression, single, compare, row, Sums, last, next, Action, assign, assignPosition, drive, code, call, synfct, Place, cell, axis, placeTokens, Condition, always, under, Line, line, treeNumber, operandTokens, productTokens, factorsTokens, sumTokens, termsTokens, expressionTokens, sumsTokens, actionTokens, actionsTokens, conditionTokens, lineTokens, Parameter, Definition, parameterTokens, definitionFront}
 use Rattle.grammar.specs.Meaning.{operandMeaning, productMeaning, factorsMeaning, sumMeaning, termsMeaning, expressionMeaning, sumsMeaning}
-use Rattle.grammar.specs.TreeFault.{rightFault, isFifoZero, isAlone, isRemovalTree, assignedFault, actionFault, actionsFault, keywordOf, conditionFault, lineFault, parameterValue, curveIn, withParameter, numbersFault, definitionFault}
+use Rattle.grammar.specs.TreeFault.{rightFault, isFifoZero, isAlone, isRemovalTree, assignedFault, actionFault, actionsFault, keywordOf, conditionFault, moveOf, movesOf, partsFault, lineFault, parameterValue, curveIn, withParameter, numbersFault, definitionFault}
 use Rattle.grammar.specs.TreeNames.{actionNames, actionsNames, namesIn}
 use Rattle.grammar.specs.NumbersTo.{tokenTo, operandTo, productTo, factorsTo, sumTo, termsTo, expressionTo, sumsTo, actionTo, conditionTo, numbersTo, parameterTo, definitionTo}
 use Rattle.grammar.specs.AgreementLaws.{bounds}
@@ -309,12 +309,26 @@ module _ (f : ℕ → ℕ) (keeps : Keeps f) where
   condition-same always = (refl, refl)
   condition-same (under w v e) = (refl, rw (expression-same f sight sight-blind e))
 
+  move-same : (a : Action) → moveOf (actionTo f a) ≡ moveOf a
+  unfolding actionTo
+  move-same (assign w v i a) = refl
+  move-same (assignPosition x v a) = refl
+  move-same (drive w v x u a) = refl
+  move-same (code n) = refl
+  move-same (call w v n) = refl
+  move-same (synfct n y z) = refl
+
+  moves-same : (r : List Action) (a : Action) → movesOf (actionTo f a) (map (actionTo f) r) ≡ movesOf a r
+  unfolding movesOf
+  moves-same [] a = move-same a
+  moves-same (b ∷ r) a = rw (move-same a, moves-same r b)
+
   -- THE LINE has the same fault
   pub to-fault : (l : Line) → lineFault (numbersTo f l) ≡ lineFault l
-  unfolding lineFault numbersTo
+  unfolding lineFault partsFault numbersTo
   to-fault (line w v n c a r) =
       let (k, g) = condition-same c in
-      rw (k, g, actions-same (keywordOf c) r a, length-map r (actionTo f))
+      rw (k, g, actions-same (keywordOf c) r a, length-map r (actionTo f), moves-same r a)
 
   -- ---- a definition
 

@@ -1,25 +1,25 @@
--- Faults 6 to 10 of a line as a tree, 7 and 13 of a definition as a tree, and what the check tells of a line that is written as it (document 01, "Lines of text" and "Codes"; document 02, Req 03). Definitions only.
+-- Faults 6 to 10 and 14 of a line as a tree, 7 and 13 of a definition as a tree, and what the check tells of a line that is written as it (document 01, "Lines of text" and "Codes"; document 02, Req 03 and Req 08). Definitions only.
 use mathlib.Core.Path.{_≡_}
 use mathlib.Core.Logic.{_⊎_}
 use mathlib.Core.Bool.{Bool, true, false, cond, _&&_}
-use mathlib.Core.List.{List, [], _∷_}
-use Prim.Native.Nat.{ℕ, suc, _+_, _-_, _≤_}
+use mathlib.Core.List.{List, [], _∷_, _++_}
+use Prim.Native.Nat.{ℕ, suc, _+_, _-_, _≤_, _<_}
 use lib.Dec.{eqb}
 use lib.IntN.{ℤ}
-use lib.ListN.{length}
-use Rattle.values.specs.Codes.{confused, tooManyActions}
+use lib.ListN.{length, getD}
+use Rattle.values.specs.Codes.{confused, tooManyActions, twoMoves}
 use Rattle.values.specs.Size.{signedNumber}
 use Rattle.values.specs.declared.curve.Curve.{Curve}
 use Rattle.checking.specs.declared.line.Line.{Line as Told}
 use Rattle.checking.specs.declared.definition.Definition.{Definition as Defined}
 use Rattle.checking.specs.CurveDefinition.{limitsFault, judgedCurve}
-use Rattle.tokens.specs.Token.{IDS, IM, isFifo, thousandths, axisOf}
+use Rattle.tokens.specs.Token.{IDS, IM, isFifo, isMove, thousandths, axisOf}
 use Rattle.grammar.specs.Tree.{Operand, number, variable, position, truth, bracket, minus, not, product, Factors, noFactor, factor, Sum, sum, Terms, noTerm, term, Action, assign, assignPosition, drive, code, call, synfct, placeWord, placeIndex, Condition, always, under, Line, line, Parameter, Definition, conditionTokens, lineTokens, definitionFront}
 use Rattle.grammar.specs.TreeNames.{namesIn, hasNames}
 use Rattle.tokens.specs.Descent.{Answer, good, stop}
 use Rattle.grammar.specs.Meaning.{sumMeaning, expressionMeaning}
 use Rattle.tokens.specs.SingleFault.{lower, readFault, writeFault, codeFault, idFault, callFault, curveFault, numberFault}
-use Rattle.checking.specs.Fault.{Sight, wanting, sight, countFault, faultyLine}
+use Rattle.checking.specs.Fault.{Sight, wanting, sight, countFault, movesFault, faultyLine}
 
 -- ---- 6 to 8 in an expression
 
@@ -72,7 +72,7 @@ unfoldable pub actionsFault : ℕ → Action → List Action → ℕ
 actionsFault kw a [] = actionFault kw a
 actionsFault kw a (b ∷ r) = lower (actionFault kw a) (actionsFault kw b r)
 
--- ---- 6 to 10 in a line
+-- ---- 6 to 10 and 14 in a line
 
 -- the keyword's token, or 0
 abbrev pub keywordOf : Condition → ℕ
@@ -84,14 +84,43 @@ abbrev pub conditionFault : Condition → ℕ
 conditionFault always = 0
 conditionFault (under w v e) = wantedFault true (expressionMeaning sight e)
 
+-- the axis that an action moves, by POS or MOV
+abbrev pub moveOf : Action → List ℕ
+moveOf (assign w v i a) = []
+moveOf (assignPosition x v a) = []
+moveOf (drive w v x u a) = cond (isMove w) (axisOf x ∷ []) []
+moveOf (code n) = []
+moveOf (call w v n) = []
+moveOf (synfct n y z) = []
+
+-- the axes that one or more actions move, one behind the other, and those that a line moves
+unfoldable pub movesOf : Action → List Action → List ℕ
+movesOf a [] = moveOf a
+movesOf a (b ∷ r) = moveOf a ++ movesOf b r
+
+abbrev pub movesIn : Line → List ℕ
+movesIn (line w v n c a r) = movesOf a r
+
 -- the lowest fault of a line's number, condition and actions, and of more than eight actions
-unfoldable pub lineFault : Line → ℕ
-lineFault (line w v n c a r) =
+unfoldable pub partsFault : Line → ℕ
+partsFault (line w v n c a r) =
     lower (lower (idFault n) (conditionFault c)) (lower (actionsFault (keywordOf c) a r) (countFault (suc (length r))))
 
--- what such a fault is: 0 for none, or one of 6 to 10
+-- that fault, or else 14 for two moves of one axis
+unfoldable pub lineFault : Line → ℕ
+lineFault l = lower (partsFault l) (movesFault (movesIn l))
+
+-- no two of these axes are the same
+abbrev pub AxesApart : List ℕ → Type 0
+AxesApart xs = (i j : ℕ) → i < j → j < length xs → getD xs i 0 ≡ getD xs j 0 → ⊥
+
+-- what the fault of a line's parts is: 0 for none, or one of 6 to 10
+abbrev pub PartFault : ℕ → Type 0
+PartFault n = (n ≡ 0) ⊎ ((confused ≤ n) × (n ≤ tooManyActions))
+
+-- what a line's fault is: such a one, or 14
 abbrev pub Proper : ℕ → Type 0
-Proper n = (n ≡ 0) ⊎ ((confused ≤ n) × (n ≤ tooManyActions))
+Proper n = PartFault n ⊎ (n ≡ twoMoves)
 
 -- ---- what the check tells
 

@@ -8,7 +8,7 @@ use native.Mathlib.Omega.{arith}
 use lib.Dec.{T, eqb, leb, eqb·suc-zero}
 use lib.ListN.{length}
 use borrow.Author.Tests.{ne-eqb}
-use Rattle.values.specs.Codes.{confused, outside, readOnly, mAlone, tooManyActions, wrongCurve}
+use Rattle.values.specs.Codes.{confused, outside, readOnly, mAlone, tooManyActions, wrongCurve, twoMoves}
 use Rattle.values.specs.Choice.{both, decide, contrary}
 use Rattle.tokens.specs.Token.{between, IM, isFifo, thousandths, axisOf, EVERY, SETAL, WHEN, maxActions, maxCurves}
 use Rattle.values.specs.Value.{top, lessThan}
@@ -19,8 +19,8 @@ use Rattle.tokens.specs.Descent.{Answer, good, stop, read, _>>=_, upTo}
 use Rattle.grammar.specs.Meaning.{operandMeaning, productMeaning, factorsMeaning, sumMeaning, termsMeaning, expressionMeaning, sumsMeaning}
 use Rattle.tokens.specs.SingleFault.{lower, unless, wantingFault, numberFault, readFault, isWritable, writeFault, codeFault, idFault, callFault, curveFault}
 use Rattle.checking.specs.CurveDefinition.{limitsFault}
-use Rattle.checking.specs.Fault.{Sight, wanting, joinSights, sight, faultFor, countFault, numberOf}
-use Rattle.grammar.specs.TreeFault.{Proper, wantedFault, rightFault, isRemovalTree, assignedFault, actionFault, actionsFault, keywordOf, conditionFault, lineFault, curveIn, withParameter, numbersFault, definitionFault}
+use Rattle.checking.specs.Fault.{Sight, wanting, joinSights, sight, faultFor, countFault, areApart, movesFault, numberOf}
+use Rattle.grammar.specs.TreeFault.{PartFault, Proper, wantedFault, rightFault, isRemovalTree, assignedFault, actionFault, actionsFault, keywordOf, conditionFault, movesIn, partsFault, lineFault, curveIn, withParameter, numbersFault, definitionFault}
 use Rattle.grammar.specs.AgreementLaws.{bounds}
 
 -- ---- the lower of two faults
@@ -31,7 +31,7 @@ unfolding lower
 lower-none zero = refl
 lower-none (suc a) = rw (eqb·suc-zero a)
 
-lower-min : (a b : ℕ) → 0 < a → 0 < b → lower a b ≡ min a b
+pub lower-min : (a b : ℕ) → 0 < a → 0 < b → lower a b ≡ min a b
 unfolding lower
 lower-min a b h g = rw (ne-eqb a 0 (λ e. omega arith), ne-eqb b 0 (λ e. omega arith))
 
@@ -58,12 +58,12 @@ pub number-kept : (n : ℕ) → idFault n ≡ 0 → numberOf n ≡ n
 unfolding idFault numberOf
 number-kept n h = decide _ (between 1 255 n) (λ t. rw (both (leb 1 n) (leb n 255) t .1)) (λ t. let z : _≡_ {A = ℕ} 7 0 = rw t at h in absurd (omega arith))
 
-lower-proper : (a b : ℕ) → Proper a → Proper b → Proper (lower a b)
+lower-proper : (a b : ℕ) → PartFault a → PartFault b → PartFault (lower a b)
 lower-proper a b (inl e) g = rw (e, none-first b) g
 lower-proper a b (inr h) (inl e) = rw (e, lower-none a) (inr h)
 lower-proper a b (inr h) (inr g) = let m = lower-min a b (omega arith) (omega arith) in inr (omega arith, omega arith)
 
-unless-proper : (b : Bool) (k : ℕ) → T (between confused tooManyActions k) → Proper (unless b k)
+unless-proper : (b : Bool) (k : ℕ) → T (between confused tooManyActions k) → PartFault (unless b k)
 unless-proper true k h = inl refl
 unless-proper false k h = inr (bounds confused tooManyActions k h)
 
@@ -71,26 +71,26 @@ unless-proper false k h = inr (bounds confused tooManyActions k h)
 
 -- an answer of the check that is good, with a proper fault
 abbrev GoodSight : Answer Sight → Type 0
-GoodSight (good a) = Proper (a .fault)
+GoodSight (good a) = PartFault (a .fault)
 GoodSight (stop c) = ⊥
 
-wanting-proper : (t : Bool) (a : Sight) → Proper (wanting t a)
+wanting-proper : (t : Bool) (a : Sight) → PartFault (wanting t a)
 unfolding wantingFault
 wanting-proper t a = unless-proper (Bool·beq t (a .truth)) confused tt
 
-number-proper : (n : ℕ) → Proper (numberFault n)
+number-proper : (n : ℕ) → PartFault (numberFault n)
 unfolding numberFault
 number-proper n = unless-proper (leb (thousandths n) top) outside tt
 
-read-proper : (w i : ℕ) → Proper (readFault w i)
+read-proper : (w i : ℕ) → PartFault (readFault w i)
 unfolding readFault
 read-proper w i = lower-proper _ _ (unless-proper (isInside w i) outside tt) (unless-proper (no? (isFifo w && eqb i 0)) readOnly tt)
 
-seen-on : (m : Answer Sight) (f : Sight → Answer Sight) → GoodSight m → ((a : Sight) → Proper (a .fault) → GoodSight (f a)) → GoodSight (m >>= f)
+seen-on : (m : Answer Sight) (f : Sight → Answer Sight) → GoodSight m → ((a : Sight) → PartFault (a .fault) → GoodSight (f a)) → GoodSight (m >>= f)
 seen-on (good a) f h g = g a h
 seen-on (stop c) f h g = absurd h
 
-seen-join : (o : ℕ) (a b : Sight) → Proper (a .fault) → Proper (b .fault) → GoodSight (sight .join o a b)
+seen-join : (o : ℕ) (a b : Sight) → PartFault (a .fault) → PartFault (b .fault) → GoodSight (sight .join o a b)
 unfolding sight joinSights
 seen-join o a b h g = lower-proper _ _ (lower-proper _ _ (wanting-proper _ a) (wanting-proper _ b)) (lower-proper _ _ h g)
 
@@ -109,7 +109,7 @@ mutual
   seen-product : (x : Product) → GoodSight (productMeaning sight x)
   seen-product (product a r) = seen-on (operandMeaning sight a) _ (seen-operand a) (λ x h. seen-factors r x h)
 
-  seen-factors : (r : Factors) (x : Sight) → Proper (x .fault) → GoodSight (factorsMeaning sight r x)
+  seen-factors : (r : Factors) (x : Sight) → PartFault (x .fault) → GoodSight (factorsMeaning sight r x)
   seen-factors noFactor x h = h
   seen-factors (factor o v a r) x h = seen-on (operandMeaning sight a >>= sight .join o x) _ (seen-on (operandMeaning sight a) _ (seen-operand a) (λ y g. seen-join o x y h g)) (λ y g. seen-factors r y g)
 
@@ -117,7 +117,7 @@ mutual
   pub seen-sum : (x : Sum) → GoodSight (sumMeaning sight x)
   seen-sum (sum a r) = seen-on (productMeaning sight a) _ (seen-product a) (λ x h. seen-terms r x h)
 
-  seen-terms : (r : Terms) (x : Sight) → Proper (x .fault) → GoodSight (termsMeaning sight r x)
+  seen-terms : (r : Terms) (x : Sight) → PartFault (x .fault) → GoodSight (termsMeaning sight r x)
   seen-terms noTerm x h = h
   seen-terms (term o v a r) x h = seen-on (productMeaning sight a >>= sight .join o x) _ (seen-on (productMeaning sight a) _ (seen-product a) (λ y g. seen-join o x y h g)) (λ y g. seen-terms r y g)
 
@@ -127,7 +127,7 @@ mutual
   seen-expression (compare o v a b) = seen-on (sumMeaning sight a) _ (seen-sum a) (λ x h. seen-on (sumMeaning sight b) _ (seen-sum b) (λ y g. seen-join o x y h g))
   seen-expression (row o v a r) = seen-on (sumMeaning sight a) _ (seen-sum a) (λ x h. seen-sums r o x h)
 
-  seen-sums : (r : Sums) (o : ℕ) (x : Sight) → Proper (x .fault) → GoodSight (sumsMeaning sight o r x)
+  seen-sums : (r : Sums) (o : ℕ) (x : Sight) → PartFault (x .fault) → GoodSight (sumsMeaning sight o r x)
   seen-sums (last a) o x h = seen-on (sumMeaning sight a) _ (seen-sum a) (λ y g. seen-join o x y h g)
   seen-sums (next a r) o x h = seen-on (sumMeaning sight a >>= sight .join o x) _ (seen-on (sumMeaning sight a) _ (seen-sum a) (λ y g. seen-join o x y h g)) (λ y g. seen-sums r o y g)
 
@@ -136,33 +136,33 @@ pub wanted-read : (t : Bool) (m : Answer Sight) (q : ℕ) → GoodSight m → fa
 wanted-read t (good a) q h = refl
 wanted-read t (stop c) q h = absurd h
 
-wanted-proper : (t : Bool) (m : Answer Sight) → GoodSight m → Proper (wantedFault t m)
+wanted-proper : (t : Bool) (m : Answer Sight) → GoodSight m → PartFault (wantedFault t m)
 wanted-proper t (good a) h = lower-proper _ _ (wanting-proper t a) h
 wanted-proper t (stop c) h = absurd h
 
 -- ---- the faults of a line are proper
 
-cond-proper : (b : Bool) (x y : ℕ) → Proper x → Proper y → Proper (cond b x y)
+cond-proper : (b : Bool) (x y : ℕ) → PartFault x → PartFault y → PartFault (cond b x y)
 cond-proper true x y h g = h
 cond-proper false x y h g = g
 
-write-proper : (w i : ℕ) → Proper (writeFault w i)
+write-proper : (w i : ℕ) → PartFault (writeFault w i)
 unfolding writeFault
 write-proper w i = lower-proper _ _ (unless-proper (isInside w i) outside tt) (unless-proper (isWritable w i) readOnly tt)
 
-id-proper : (n : ℕ) → Proper (idFault n)
+id-proper : (n : ℕ) → PartFault (idFault n)
 unfolding idFault
 id-proper n = unless-proper (between 1 255 n) outside tt
 
-right-proper : (a : Sum) → Proper (rightFault a)
+right-proper : (a : Sum) → PartFault (rightFault a)
 unfolding rightFault
 right-proper a = wanted-proper false (sumMeaning sight a) (seen-sum a)
 
-assigned-proper : (a : Sum) → Proper (assignedFault a)
+assigned-proper : (a : Sum) → PartFault (assignedFault a)
 unfolding assignedFault
 assigned-proper a = cond-proper (isRemovalTree a) _ _ (inl refl) (right-proper a)
 
-action-proper : (kw : ℕ) (a : Action) → Proper (actionFault kw a)
+action-proper : (kw : ℕ) (a : Action) → PartFault (actionFault kw a)
 unfolding actionFault codeFault callFault curveFault
 action-proper kw (assign w v i a) = lower-proper _ _ (write-proper w i) (assigned-proper a)
 action-proper kw (assignPosition x v a) = lower-proper _ _ (write-proper IM (axisOf x)) (assigned-proper a)
@@ -171,40 +171,56 @@ action-proper kw (code n) = lower-proper _ _ (unless-proper (leb n 99) outside t
 action-proper kw (call w v n) = cond-proper (eqb w SETAL) _ _ (unless-proper (between 65000 69999 n) outside tt) (id-proper n)
 action-proper kw (synfct n y z) = lower-proper _ _ (unless-proper (between 1 maxCurves n) outside tt) (lower-proper _ _ (write-proper (placeWord y) (placeIndex y)) (read-proper (placeWord z) (placeIndex z)))
 
-actions-proper : (kw : ℕ) (r : List Action) (a : Action) → Proper (actionsFault kw a r)
+actions-proper : (kw : ℕ) (r : List Action) (a : Action) → PartFault (actionsFault kw a r)
 unfolding actionsFault
 actions-proper kw [] a = action-proper kw a
 actions-proper kw (b ∷ r) a = lower-proper _ _ (action-proper kw a) (actions-proper kw r b)
 
-condition-proper : (c : Condition) → Proper (conditionFault c)
+condition-proper : (c : Condition) → PartFault (conditionFault c)
 condition-proper always = inl refl
 condition-proper (under w v e) = wanted-proper true (expressionMeaning sight e) (seen-expression e)
 
--- the fault of a line as a tree is one of 6 to 10, or none
+-- the fault of a line's parts is one of 6 to 10, or none
+pub parts-proper : (l : Line) → PartFault (partsFault l)
+unfolding partsFault countFault
+parts-proper (line w v n c a r) = lower-proper _ _ (lower-proper _ _ (id-proper n) (condition-proper c)) (lower-proper _ _ (actions-proper (keywordOf c) r a) (unless-proper (leb (suc (length r)) maxActions) tooManyActions tt))
+
+-- 14 stands behind them
+behind-parts : (a : ℕ) (b : Bool) → PartFault a → Proper (lower a (unless b twoMoves))
+behind-parts a true h = rw (lower-none a) (inl h)
+behind-parts a false (inl e) = rw (e, none-first twoMoves) (inr refl)
+behind-parts a false (inr h) = let m = lower-min a twoMoves (omega arith) (omega arith) in inl (inr (omega arith, omega arith))
+
+-- the fault of a line as a tree is one of 6 to 10, or 14, or none
 pub line-proper : (l : Line) → Proper (lineFault l)
-unfolding lineFault countFault
-line-proper (line w v n c a r) = lower-proper _ _ (lower-proper _ _ (id-proper n) (condition-proper c)) (lower-proper _ _ (actions-proper (keywordOf c) r a) (unless-proper (leb (suc (length r)) maxActions) tooManyActions tt))
+unfolding lineFault movesFault
+line-proper l = behind-parts (partsFault l) (areApart (movesIn l)) (parts-proper l)
+
+-- a line without a fault has none in its parts
+pub parts-fine : (l : Line) → lineFault l ≡ 0 → partsFault l ≡ 0
+unfolding lineFault
+parts-fine l h = lower-first (partsFault l) _ h
 
 -- ---- a definition
 
-parameter-proper : (f : ℕ) (x : Parameter) → Proper f → Proper (withParameter f x)
+parameter-proper : (f : ℕ) (x : Parameter) → PartFault f → PartFault (withParameter f x)
 parameter-proper f x h = lower-proper _ _ h (number-proper (x .number))
 
-numbers-proper : (d : Definition) → Proper (numbersFault d)
+numbers-proper : (d : Definition) → PartFault (numbersFault d)
 unfolding numbersFault curveFault
 numbers-proper d =
     parameter-proper _ (d .a3) (parameter-proper _ (d .a2) (parameter-proper _ (d .a1) (parameter-proper _ (d .a0)
     (parameter-proper _ (d .upper) (parameter-proper _ (d .lower) (unless-proper (between 1 maxCurves (d .number)) outside tt))))))
 
 -- 13 stands behind the others
-limits-behind : (a : ℕ) (b : Bool) → Proper a → Proper (lower a (cond b wrongCurve 0)) ⊎ (lower a (cond b wrongCurve 0) ≡ wrongCurve)
+limits-behind : (a : ℕ) (b : Bool) → PartFault a → PartFault (lower a (cond b wrongCurve 0)) ⊎ (lower a (cond b wrongCurve 0) ≡ wrongCurve)
 limits-behind a true (inl e) = rw (e, none-first wrongCurve) (inr refl)
 limits-behind a false (inl e) = rw (e, none-first 0) (inl (inl refl))
 limits-behind a true (inr h) = let m = lower-min a wrongCurve (omega arith) (omega arith) in inl (inr (omega (arith, h)))
 limits-behind a false (inr h) = rw (lower-none a) (inl (inr h))
 
 -- the fault of a definition is none, one of 6 to 10, or 13,
-pub definition-range : (d : Definition) → Proper (definitionFault d) ⊎ (definitionFault d ≡ wrongCurve)
+pub definition-range : (d : Definition) → PartFault (definitionFault d) ⊎ (definitionFault d ≡ wrongCurve)
 unfolding definitionFault limitsFault
 definition-range d = limits-behind (numbersFault d) (lessThan (curveIn d .upper) (curveIn d .lower)) (numbers-proper d)
 
@@ -212,12 +228,12 @@ definition-range d = limits-behind (numbersFault d) (lessThan (curveIn d .upper)
 pub definition-proper : (d : Definition) → (definitionFault d ≡ 0) ⊎ (confused ≤ definitionFault d)
 definition-proper d = by-range (definition-range d)
   where
-    by-range : Proper (definitionFault d) ⊎ (definitionFault d ≡ wrongCurve) → (definitionFault d ≡ 0) ⊎ (confused ≤ definitionFault d)
+    by-range : PartFault (definitionFault d) ⊎ (definitionFault d ≡ wrongCurve) → (definitionFault d ≡ 0) ⊎ (confused ≤ definitionFault d)
     by-range (inl (inl e)) = inl e
     by-range (inl (inr h)) = inr (h .0)
     by-range (inr e) = inr (omega arith)
 
-first-13 : (a : ℕ) (b : Bool) → Proper a → (lower a (cond b wrongCurve 0) ≡ wrongCurve) ↔ ((a ≡ 0) × (b ≡ true))
+first-13 : (a : ℕ) (b : Bool) → PartFault a → (lower a (cond b wrongCurve 0) ≡ wrongCurve) ↔ ((a ≡ 0) × (b ≡ true))
 first-13 a true (inl e) = ((λ _. (e, refl)), (λ _. rw (e, none-first wrongCurve)))
 first-13 a false (inl e) = ((λ h. let z : _≡_ {A = ℕ} 0 wrongCurve = rw (e, none-first 0) at h in absurd (omega arith)), (λ h. contrary (h .1) refl))
 first-13 a true (inr h) = let m = lower-min a wrongCurve (omega arith) (omega arith) in ((λ e. absurd (omega arith)), (λ x. let z = x .0 in absurd (omega arith)))

@@ -1,4 +1,4 @@
--- What loading answers, and when: 1 exactly if the text is too long, 2 exactly if it has too many lines (0 and 3 to 13: TextByTrees); and that one answer alone is
+-- What loading answers, and when: 1 exactly if the text is too long, 2 exactly if it has too many lines (0 and 3 to 14: TextByTrees); and that one answer alone is
 -- allowed. (The state that every load leaves: `load-power-on` of demands.) Theorems; nothing is assumed.
 use mathlib.Core.Path.{_≡_, refl, subst, _∙_}
 use mathlib.Core.Bool.{true, false}
@@ -10,7 +10,7 @@ use native.Mathlib.Omega.{arith}
 use lib.Dec.{ltb}
 use lib.ListN.{length}
 use borrow.Author.Tests.{ltb-true, ltb-false}
-use Rattle.values.specs.Codes.{tooLong, tooManyLines, usedAbove, notInSet, wrongCurve}
+use Rattle.values.specs.Codes.{tooLong, tooManyLines, usedAbove, notInSet, wrongCurve, twoMoves}
 use Rattle.values.specs.Choice.{decide, either, chosen, refused as not-chosen}
 use Rattle.values.specs.Numbers.{clash}
 use Rattle.values.specs.Unique.{unique}
@@ -18,7 +18,7 @@ use Rattle.tokens.specs.Token.{maxLines, textSize}
 use Rattle.tokens.specs.SingleFault.{opensTooMany}
 use Rattle.grammar.specs.Tree.{Line, Definition}
 use Rattle.grammar.specs.TreeOf.{treeOf, definitionOf}
-use Rattle.grammar.specs.TreeFault.{lineFault, definitionFault, Proper}
+use Rattle.grammar.specs.TreeFault.{lineFault, definitionFault, PartFault, Proper}
 use Rattle.grammar.specs.TreeFaultLaws.{line-proper, definition-range}
 use Rattle.engine.specs.Set.{isKnown, isDefined, emptySet}
 use Rattle.text.specs.Byte.{run}
@@ -63,47 +63,49 @@ load-unique t x y s u p q r w = (unique p r, unique q w)
 
 -- ---- the codes of a refusal
 
--- 0, or one of the codes from low to high
-abbrev NoneOr : ℕ → ℕ → ℕ → Type 0
-NoneOr low high c = (c ≡ 0) ⊎ ((low ≤ c) × (c ≤ high))
-
--- a line's tokens have no fault, or one of 4 to 10
-fault-range : (ts : List ℕ) → NoneOr 4 10 (faultOf ts)
-unfolding faultOf
-fault-range ts = either (NoneOr 4 10) (opensTooMany ts 0) (λ _. inr (omega arith)) (λ _. of-tree (treeOf ts))
-  where
-    proper : (n : ℕ) → Proper n → NoneOr 4 10 n
-    proper n (inl z) = inl z
-    proper n (inr z) = inr (omega (arith, z))
-
-    of-tree : (t : Option Line) → NoneOr 4 10 (treeFault t)
-    of-tree none = inr (omega arith)
-    of-tree (some l) = proper (lineFault l) (line-proper l)
-
--- the codes that a line may have: 3 to 11, and behind them 13
+-- the codes that a line may have: 3 to 10, 14, 11 and 13
 abbrev pub OfLine : ℕ → Type 0
-OfLine c = (3 ≤ c) × ((c ≤ usedAbove) ⊎ (c ≡ wrongCurve))
+OfLine c = (3 ≤ c) × ((c ≤ usedAbove) ⊎ ((c ≡ wrongCurve) ⊎ (c ≡ twoMoves)))
 
 abbrev NoneOrLine : ℕ → Type 0
 NoneOrLine c = (c ≡ 0) ⊎ OfLine c
 
 pub no-12 : (c : ℕ) → OfLine c → c ≡ notInSet → ⊥
 no-12 c (a, inl b) e = omega arith
-no-12 c (a, inr b) e = omega arith
+no-12 c (a, inr (inl b)) e = omega arith
+no-12 c (a, inr (inr b)) e = omega arith
 
-line-last : (c : ℕ) → OfLine c → c ≤ wrongCurve
+line-last : (c : ℕ) → OfLine c → c ≤ twoMoves
 line-last c (a, inl b) = omega arith
-line-last c (a, inr b) = omega arith
+line-last c (a, inr (inl b)) = omega arith
+line-last c (a, inr (inr b)) = omega arith
+
+-- a fault of 6 to 10, or none
+part-range : (n : ℕ) → PartFault n → NoneOrLine n
+part-range n (inl z) = inl z
+part-range n (inr z) = inr (omega (arith, z), inl (omega (arith, z)))
+
+-- a line's tokens by themselves
+fault-range : (ts : List ℕ) → NoneOrLine (faultOf ts)
+unfolding faultOf
+fault-range ts = either NoneOrLine (opensTooMany ts 0) (λ _. inr (omega arith, inl (omega arith))) (λ _. of-tree (treeOf ts))
+  where
+    proper : (n : ℕ) → Proper n → NoneOrLine n
+    proper n (inl z) = part-range n z
+    proper n (inr z) = inr (omega arith, inr (inr z))
+
+    of-tree : (t : Option Line) → NoneOrLine (treeFault t)
+    of-tree none = inr (omega arith, inl (omega arith))
+    of-tree (some l) = proper (lineFault l) (line-proper l)
 
 -- a line FCTDEF by itself
 curve-range : (ts : List ℕ) → NoneOrLine (curveFaultOf ts)
 unfolding curveFaultOf
 curve-range ts = either NoneOrLine (opensTooMany ts 0) (λ _. inr (omega arith, inl (omega arith))) (λ _. of-definition (definitionOf ts))
   where
-    by-range : (n : ℕ) → Proper n ⊎ (n ≡ wrongCurve) → NoneOrLine n
-    by-range n (inl (inl z)) = inl z
-    by-range n (inl (inr z)) = inr (omega (arith, z), inl (omega (arith, z)))
-    by-range n (inr z) = inr (omega arith, inr z)
+    by-range : (n : ℕ) → PartFault n ⊎ (n ≡ wrongCurve) → NoneOrLine n
+    by-range n (inl z) = part-range n z
+    by-range n (inr z) = inr (omega arith, inr (inl z))
 
     of-definition : (o : Option Definition) → NoneOrLine (definedFault o)
     of-definition none = inr (omega arith, inl (omega arith))
@@ -118,19 +120,18 @@ below-range k ts =
     (λ _. inr (omega arith, inl (omega arith)))
   where
     wrong : NoneOrLine wrongCurve
-    wrong = inr (omega arith, inr refl)
+    wrong = inr (omega arith, inr (inl refl))
 
     by-curve : (f : ℕ) → NoneOrLine f → NoneOrLine (elim f as (λ _. ℕ) [ zero ↦ elim (isDefined (curvesThere (k .curves)) (curveNumberIn (ts .list))) as (λ _. ℕ) [ true ↦ wrongCurve | false ↦ 0 ] | suc j ↦ suc j ])
     by-curve zero r = either NoneOrLine (isDefined (curvesThere (k .curves)) (curveNumberIn (ts .list))) (λ _. wrong) (λ _. inl refl)
     by-curve (suc f) r = r
 
-    by-fault : (f : ℕ) → NoneOr 4 10 f →
+    by-fault : (f : ℕ) → NoneOrLine f →
         NoneOrLine (elim f as (λ _. ℕ) [ zero ↦ elim (isKnown (numbersOf (k .rows)) (numberIn (ts .list))) as (λ _. ℕ) [ true ↦ usedAbove | false ↦ elim (areKnown (curveTable (k .curves)) (ts .list)) as (λ _. ℕ) [ true ↦ 0 | false ↦ wrongCurve ] ] | suc j ↦ suc j ])
     by-fault zero r =
         either NoneOrLine (isKnown (numbersOf (k .rows)) (numberIn (ts .list))) (λ _. inr (omega arith, inl (omega arith)))
         (λ _. either NoneOrLine (areKnown (curveTable (k .curves)) (ts .list)) (λ _. inl refl) (λ _. wrong))
-    by-fault (suc f) (inl z) = absurd (omega arith)
-    by-fault (suc f) (inr z) = inr (omega (arith, z), inl (omega (arith, z)))
+    by-fault (suc f) r = r
 
 -- and so has the first faulty line of a text
 rows-code : (ls : List Numbered) (k : Kept) (c j : ℕ) → rowsFrom k ls ≡ refused c j → OfLine c
@@ -175,8 +176,8 @@ module _ (P : Type 0) (t : List ℕ) where
 -- ---- what each code says
 
 module _ (t : List ℕ) where
-  -- there is no code above 13
-  pub code-last : loadAnswer t .code ≤ 13
+  -- there is no code above 14
+  pub code-last : loadAnswer t .code ≤ 14
   code-last =
       by-load _ t
       (λ _ h. rw (refused-answer t tooLong 0 h .0) (omega arith))

@@ -29,7 +29,7 @@ use Rattle.loading.specs.LoadedLaws.{rows-apart, curves-three, curves-fi
 pub record HoldsLine (s : List ℕ) (k : ℕ) (r : Row) : Type 0 where
   -- it is a line of the grammar: this one,
   pub tree : Line
-  -- without a fault of 6 to 10,
+  -- without a fault of 6 to 10 or 14,
   pub faultless : lineFault tree ≡ 0
   -- with this number;
   pub number : treeNumber tree ≡ r .number

@@ -45,7 +45,7 @@ opens-unmarked l n = rw (without-marks l) (to-opens unmarked unmarked-keeps l n)
 
 -- ---- a line that is taken
 
--- the tree that some tokens are the line of, without a fault of 4 to 10
+-- the tree that some tokens are the line of, without a fault of 4 to 10 or 14
 pub record Written (ts : List ℕ) : Type 0 where
   pub tree : Line
   pub tokens : WrittenAs tree ts

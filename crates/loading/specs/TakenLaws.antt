@@ -139,7 +139,7 @@ taken-tokens t q h = rows-tokens (tokenLines t) nothing q (taking t q h .rows)
 
 -- ---- each row
 
--- a row without a fault of 3 to 10
+-- a row without a fault of 3 to 10 or 14
 pub record Fine (r : Row) : Type 0 where
   pub place : 1 ≤ r .place
   pub clean : faultOf (r .tokens) ≡ 0

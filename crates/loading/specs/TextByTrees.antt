@@ -1,12 +1,12 @@
--- WHAT LOADING ANSWERS, OVER TREES: a text is taken exactly if its lines with tokens are definitions and lines of the grammar without a fault of 3 to 13, and else refused with code and line as documents 01 and
+-- WHAT LOADING ANSWERS, OVER TREES: a text is taken exactly if its lines with tokens are definitions and lines of the grammar without a fault of 3 to 14, and else refused with code and line as documents 01 and
 -- 02 order it. Theorems; nothing is assumed.
 use mathlib.Core.Path.{_≡_, refl, sym, ap, subst, _∙_}
 use mathlib.Core.List.{List, map}
-use mathlib.Core.Logic.{_↔_, inr}
+use mathlib.Core.Logic.{_↔_, inl, inr}
 use Prim.Native.Nat.{ℕ, zero, suc, _≤_, _<_}
 use native.Mathlib.Omega.{arith}
 use lib.ListN.{length}
-use Rattle.values.specs.Codes.{tooLong, tooManyLines, notInSet, wrongCurve}
+use Rattle.values.specs.Codes.{tooLong, tooManyLines, notInSet, wrongCurve, twoMoves}
 use Rattle.values.specs.Numbers.{clash}
 use Rattle.grammar.specs.Tree.{Line, treeNumber, Definition}
 use Rattle.tokens.specs.Token.{maxLines}
@@ -16,10 +16,10 @@ use Rattle.reader.specs.Load.{taken, refused, rowsFrom, firstUnknown, keptTable
 use Rattle.reader.specs.KeptLaws.{taken-apart}
 use Rattle.loading.specs.LoadAnswers.{taken-answer, refused-answer, OfLine, no-12, by-load, code-1, code-2, code-line}
 use Rattle.loading.specs.TakenLaws.{taking, keptOf, taken-kept, text-placed, rows-placed}
-use Rattle.loading.specs.TextTrees.{curveNumber, noneAbove, WrongCurve, rowLines, FirstBad, FirstFaulty, AllNameOnly, FirstUnnamed, Small, IsLines, Takes, Refuses, long, many, faulty, unnamed}
+use Rattle.loading.specs.TextTrees.{curveNumber, noneAbove, WrongCurve, TwoMoves, AllMoveOnce, rowLines, FirstBad, FirstFaulty, AllNameOnly, FirstUnnamed, Small, IsLines, Takes, Refuses, long, many, faulty, unnamed}
 use Rattle.loading.specs.TextNamesLaws.{all-named, named-all, first-unnamed, unnamed-first, unnamed-place}
 use Rattle.loading.specs.TextTreesLaws.{StandsFor, none-stands}
-use Rattle.loading.specs.TextLinesLaws.{refused-rows, rows-refused, faulty-range, taken-trees, trees-taken, first-wrong, wrong-first, text-lines}
+use Rattle.loading.specs.TextLinesLaws.{refused-rows, rows-refused, faulty-range, taken-trees, trees-taken, first-wrong, wrong-first, first-moves, moves-first, lines-move, text-lines}
 
 module _ (t : List ℕ) where
   -- loading answers the code c and the line k
@@ -165,7 +165,11 @@ module _ (t : List ℕ) where
     (λ x. let (ds, xs, y) = x in taken-answer t (keptOf t) (takes-rows ds xs y) .0),
   )
 
-  -- CODES 3 TO 11 AND 13, c AND THE LINE k: the first line with a fault stands at k and has the lowest fault c
+  -- ONE MOVE: each line of a text that is taken moves no axis twice
+  pub taken-moves : (ds : List Definition) (xs : List Line) → Takes t ds xs → AllMoveOnce xs
+  taken-moves ds xs y = lines-move (rowLines (tokenLines t)) xs (text-lines (tokenLines t) ds xs (y .lines .good))
+
+  -- CODES 3 TO 11, 13 AND 14, c AND THE LINE k: the first line with a fault stands at k and has the fault c, the first of 3 to 10, 14, 11 and 13
   pub code-of-line : (c k : ℕ) → OfLine c → Answers c k ↔ (Small t × FirstFaulty noneAbove (tokenLines t) c k)
   code-of-line c k r = (
     (λ x. by-load _ t
@@ -190,7 +194,17 @@ module _ (t : List ℕ) where
   )
     where
       of-line : OfLine wrongCurve
-      of-line = (omega arith, inr refl)
+      of-line = (omega arith, inr (inl refl))
+
+  -- CODE 14 AND THE LINE k: the first line with a fault stands at k, and is a line without a fault of 3 to 10 that moves an axis twice
+  pub code-14 : (k : ℕ) → Answers twoMoves k ↔ (Small t × FirstBad TwoMoves noneAbove (tokenLines t) k)
+  code-14 k = (
+    (λ x. let (s, f) = code-of-line twoMoves k of-line .0 x in (s, first-moves noneAbove (tokenLines t) k f)),
+    (λ x. code-of-line twoMoves k of-line .1 (x .0, moves-first noneAbove (tokenLines t) k (x .1))),
+  )
+    where
+      of-line : OfLine twoMoves
+      of-line = (omega arith, inr (inr refl))
 
   -- CODE 12 AND THE LINE k: no line has such a fault, and the first with a LOCK or UNLOCK of a number that no line of the text has stands at k
   pub code-12 : (k : ℕ) → Answers notInSet k ↔ ((ds : List Definition) × (xs : List Line) × IsLines t ds xs × FirstUnnamed (map treeNumber xs) (rowLines (tokenLines t)) xs k)
@@ -221,7 +235,7 @@ module _ (t : List ℕ) where
           let (e, s) = trees-rows ds xs y in
           unknown-answers (keptOf t) k (y .small) e (unnamed-rows ds xs y s (rows-few (y .small) e) (suc k) u)
 
-  -- A TEXT IS REFUSED WITH THE CODE c AND THE LINE k exactly as documents 01 and 02 order it: 1, 2, the first line with a fault of 3 to 11 or 13, 12
+  -- A TEXT IS REFUSED WITH THE CODE c AND THE LINE k exactly as documents 01 and 02 order it: 1, 2, the first line with a fault of 3 to 11, 13 or 14, 12
   pub refused-iff : (c k : ℕ) → ((0 < c) × Answers c k) ↔ Refuses t c k
   refused-iff c k = (
     (λ x. by-load _ t

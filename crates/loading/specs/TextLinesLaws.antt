@@ -6,25 +6,26 @@ use mathlib.Core.Logic.{_⊎_, inl, inr, ⊎-elim}
 use Prim.Native.Nat.{ℕ, zero, suc, _+_, _≤_}
 use native.Mathlib.Omega.{arith}
 use lib.ListN.{length, length-append}
-use Rattle.values.specs.Codes.{wrongCurve}
+use Rattle.values.specs.Codes.{wrongCurve, twoMoves}
 use Rattle.values.specs.Numbers.{clash}
 use Rattle.tokens.specs.Token.{maxLines}
 use Rattle.grammar.specs.Tree.{Line, treeNumber, Definition}
-use Rattle.grammar.specs.TreeFault.{lineFault, definitionFault, Proper}
+use Rattle.grammar.specs.TreeFault.{lineFault, definitionFault, PartFault, Proper}
 use Rattle.grammar.specs.TreeFaultLaws.{line-proper, definition-range, definition-13}
+use Rattle.grammar.specs.OneMove.{one-move, line-14}
 use Rattle.text.specs.Tokens.{tokensOf}
 use Rattle.text.specs.Lines.{Numbered}
 use Rattle.reader.specs.Row.{Kept}
 use Rattle.reader.specs.Load.{faultBelow, taken, refused, rowOf, withRow, withCurve, keptWith, rowsFrom}
 use Rattle.reader.specs.KeptLaws.{next-row}
 use Rattle.loading.specs.LoadAnswers.{OfLine}
-use Rattle.loading.specs.TextTrees.{Distinct, curveNumber, GoodLine, GoodCurve, AllUseOnly, Above, belowCurve, belowLine, MayDefine, IsNewLine, Faulty, noToken, deep, noLine, lineFaulty, numberUsed, curveFaulty, curveUsed, curveUnknown, WrongCurve, limitsCrossed, definedTwice, notDefined, curveLines, rowLines, GoodLines, GoodCurves, GoodText, FirstBad, FirstFaulty}
+use Rattle.loading.specs.TextTrees.{Distinct, curveNumber, GoodLine, GoodCurve, AllUseOnly, Above, belowCurve, belowLine, MayDefine, IsNewLine, Faulty, noToken, deep, noLine, lineFaulty, numberUsed, curveFaulty, curveUsed, curveUnknown, WrongCurve, limitsCrossed, definedTwice, notDefined, TwoMoves, AllMoveOnce, curveLines, rowLines, GoodLines, GoodCurves, GoodText, FirstBad, FirstFaulty}
 use Rattle.loading.specs.TextNamesLaws.{distinct-last, distinct-behind}
 use Rattle.loading.specs.TextTreesLaws.{StandsFor, curve-begins, line-begins, faulty-below, line-below, curve-below, below-faulty, more-line, more-curve, below-good}
 
 -- ---- the first faulty line
 
--- a fault is one of 3 to 11, or 13
+-- a fault is one of 3 to 11, or 13, or 14
 line-range : (a : Above) (l : Numbered) (c : ℕ) → Faulty a l c → OfLine c
 line-range a l c (noToken e g) = (omega arith, inl (omega arith))
 line-range a l c (deep e g o) = (omega arith, inl (omega arith))
@@ -32,17 +33,18 @@ line-range a l c (noLine e g o h i) = (omega arith, inl (omega arith))
 line-range a l c (lineFaulty p g o x w e) = by-proper (line-proper x)
   where
     by-proper : Proper (lineFault x) → OfLine c
-    by-proper (inl z) = absurd (omega arith)
-    by-proper (inr z) = (omega (arith, z), inl (omega (arith, z)))
+    by-proper (inl (inl z)) = absurd (omega arith)
+    by-proper (inl (inr z)) = (omega (arith, z), inl (omega (arith, z)))
+    by-proper (inr z) = (omega arith, inr (inr (omega arith)))
 line-range a l c (numberUsed e x h u) = (omega arith, inl (omega arith))
 line-range a l c (curveFaulty p m g o d w e) = by-range (definition-range d)
   where
-    by-range : Proper (definitionFault d) ⊎ (definitionFault d ≡ wrongCurve) → OfLine c
+    by-range : PartFault (definitionFault d) ⊎ (definitionFault d ≡ wrongCurve) → OfLine c
     by-range (inl (inl z)) = absurd (omega arith)
     by-range (inl (inr z)) = (omega (arith, z), inl (omega (arith, z)))
-    by-range (inr z) = (omega arith, inr (omega arith))
-line-range a l c (curveUsed e m d h u) = (omega arith, inr e)
-line-range a l c (curveUnknown e x h u n o i) = (omega arith, inr e)
+    by-range (inr z) = (omega arith, inr (inl (omega arith)))
+line-range a l c (curveUsed e m d h u) = (omega arith, inr (inl e))
+line-range a l c (curveUnknown e x h u n o i) = (omega arith, inr (inl e))
 
 pub faulty-range : (a : Above) (ls : List Numbered) (c k : ℕ) → FirstFaulty a ls c k → OfLine c
 faulty-range a [] c k h = absurd h
@@ -235,8 +237,9 @@ faulty-wrong a l (noLine e g o h i) = absurd (omega arith)
 faulty-wrong a l (lineFaulty p g o x w e) = by-proper (line-proper x)
   where
     by-proper : Proper (lineFault x) → WrongCurve a l
-    by-proper (inl z) = absurd (omega arith)
-    by-proper (inr z) = absurd (omega (arith, z))
+    by-proper (inl (inl z)) = absurd (omega arith)
+    by-proper (inl (inr z)) = absurd (omega (arith, z))
+    by-proper (inr z) = absurd (omega arith)
 faulty-wrong a l (numberUsed e x h u) = absurd (omega arith)
 faulty-wrong a l (curveFaulty p m g o d w e) = let (f, b) = definition-13 d .0 e in limitsCrossed m g o d w f b
 faulty-wrong a l (curveUsed e m d h u) = definedTwice m d h u
@@ -247,18 +250,51 @@ wrong-faulty a l (limitsCrossed m g o d w f b) = curveFaulty (omega arith) m g o
 wrong-faulty a l (definedTwice m d h u) = curveUsed refl m d h u
 wrong-faulty a l (notDefined x h u n o i) = curveUnknown refl x h u n o i
 
--- and of the first faulty one
+-- what is said of a line is said of the first faulty one
+first-said : (P Q : Above → Numbered → Type 0) → ((a : Above) (l : Numbered) → P a l → Q a l) → (a : Above) (ls : List Numbered) (k : ℕ) → FirstBad P a ls k → FirstBad Q a ls k
+first-said P Q f a [] k h = h
+first-said P Q f a (l ∷ ls) k (inl (h, e)) = inl (f a l h, e)
+first-said P Q f a (l ∷ ls) k (inr (inl (d, y, u, h))) = inr (inl (d, y, u, first-said P Q f (belowCurve a d) ls k h))
+first-said P Q f a (l ∷ ls) k (inr (inr (x, y, u, h))) = inr (inr (x, y, u, first-said P Q f (belowLine a x) ls k h))
+
 pub first-wrong : (a : Above) (ls : List Numbered) (k : ℕ) → FirstFaulty a ls wrongCurve k → FirstBad WrongCurve a ls k
-first-wrong a [] k h = h
-first-wrong a (l ∷ ls) k (inl (f, e)) = inl (faulty-wrong a l f, e)
-first-wrong a (l ∷ ls) k (inr (inl (d, y, u, h))) = inr (inl (d, y, u, first-wrong (belowCurve a d) ls k h))
-first-wrong a (l ∷ ls) k (inr (inr (x, y, u, h))) = inr (inr (x, y, u, first-wrong (belowLine a x) ls k h))
+first-wrong = first-said (λ a l. Faulty a l wrongCurve) WrongCurve faulty-wrong
 
 pub wrong-first : (a : Above) (ls : List Numbered) (k : ℕ) → FirstBad WrongCurve a ls k → FirstFaulty a ls wrongCurve k
-wrong-first a [] k h = h
-wrong-first a (l ∷ ls) k (inl (f, e)) = inl (wrong-faulty a l f, e)
-wrong-first a (l ∷ ls) k (inr (inl (d, y, u, h))) = inr (inl (d, y, u, wrong-first (belowCurve a d) ls k h))
-wrong-first a (l ∷ ls) k (inr (inr (x, y, u, h))) = inr (inr (x, y, u, wrong-first (belowLine a x) ls k h))
+wrong-first = first-said WrongCurve (λ a l. Faulty a l wrongCurve) wrong-faulty
+
+-- ---- 14
+
+faulty-moves : (a : Above) (l : Numbered) → Faulty a l twoMoves → TwoMoves a l
+faulty-moves a l (noToken e g) = absurd (omega arith)
+faulty-moves a l (deep e g o) = absurd (omega arith)
+faulty-moves a l (noLine e g o h i) = absurd (omega arith)
+faulty-moves a l (lineFaulty p g o x w e) = let (f, t) = line-14 x .0 e in record { tokens = g; shallow = o; tree = x; written = w; parts = f; twice = t }
+faulty-moves a l (numberUsed e x h u) = absurd (omega arith)
+faulty-moves a l (curveFaulty p m g o d w e) = by-range (definition-range d)
+  where
+    by-range : PartFault (definitionFault d) ⊎ (definitionFault d ≡ wrongCurve) → TwoMoves a l
+    by-range (inl (inl z)) = absurd (omega arith)
+    by-range (inl (inr z)) = absurd (omega (arith, z))
+    by-range (inr z) = absurd (omega arith)
+faulty-moves a l (curveUsed e m d h u) = absurd (omega arith)
+faulty-moves a l (curveUnknown e x h u n o i) = absurd (omega arith)
+
+moves-faulty : (a : Above) (l : Numbered) → TwoMoves a l → Faulty a l twoMoves
+moves-faulty a l m = lineFaulty (omega arith) (m .tokens) (m .shallow) (m .tree) (m .written) (line-14 (m .tree) .1 (m .parts, m .twice))
+
+pub first-moves : (a : Above) (ls : List Numbered) (k : ℕ) → FirstFaulty a ls twoMoves k → FirstBad TwoMoves a ls k
+first-moves = first-said (λ a l. Faulty a l twoMoves) TwoMoves faulty-moves
+
+pub moves-first : (a : Above) (ls : List Numbered) (k : ℕ) → FirstBad TwoMoves a ls k → FirstFaulty a ls twoMoves k
+moves-first = first-said TwoMoves (λ a l. Faulty a l twoMoves) moves-faulty
+
+-- the lines of a text without a fault each move no axis twice
+pub lines-move : (ls : List Numbered) (xs : List Line) → GoodLines ls xs → AllMoveOnce xs
+lines-move [] [] g = tt
+lines-move [] (x ∷ xs) g = absurd g
+lines-move (l ∷ ls) [] g = absurd g
+lines-move (l ∷ ls) (x ∷ xs) g = (one-move x (g .0 .faultless), lines-move ls xs (g .1))
 
 -- ---- the two stretches of a text
 

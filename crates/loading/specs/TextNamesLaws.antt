@@ -16,7 +16,7 @@ use Rattle.values.specs.Numbers.{clash}
 use Rattle.tokens.specs.Token.{maxLines, maxCurves, SETAL, SYNFCT, isLock, isNaming, between}
 use Rattle.tokens.specs.SingleFault.{idFault, callFault, curveFault}
 use Rattle.grammar.specs.Tree.{Action, assign, assignPosition, drive, code, call, synfct, Line, line}
-use Rattle.grammar.specs.TreeFault.{actionFault, actionsFault, lineFault, keywordOf}
+use Rattle.grammar.specs.TreeFault.{actionFault, actionsFault, partsFault, lineFault, keywordOf}
 use Rattle.grammar.specs.TreeNames.{Name, actionNames, actionsNames, namesIn, eachKnown}
 use Rattle.grammar.specs.TreeOfLaws.{tree-of-tokens}
 use Rattle.engine.specs.Set.{rankIn, isKnown, isDefined, nameTable}
@@ -140,8 +140,8 @@ actions-names kw (b ∷ r) a f =
     good-both (actionNames a) (actionsNames b r) (action-names kw a x) (actions-names kw r b y)
 
 pub line-names : (x : Line) → lineFault x ≡ 0 → AllGood (namesIn x)
-unfolding lineFault namesIn
-line-names (line w v m c a r) f = actions-names (keywordOf c) r a (lower-zero _ _ (lower-zero _ _ f .1) .0)
+unfolding lineFault partsFault namesIn
+line-names (line w v m c a r) f = actions-names (keywordOf c) r a (lower-zero _ _ (lower-zero _ _ (lower-zero _ _ f .0) .1) .0)
 
 -- ---- the numbers of some names
 

@@ -12,7 +12,7 @@ use Rattle.values.specs.Value.{lessThan}
 use Rattle.tokens.specs.Token.{END, FCTDEF, SYNFCT, isLock, maxLines, textSize}
 use Rattle.tokens.specs.SingleFault.{opensTooMany}
 use Rattle.grammar.specs.Tree.{Line, treeNumber, WrittenAs, Definition, DefinedAs}
-use Rattle.grammar.specs.TreeFault.{lineFault, curveIn, numbersFault, definitionFault}
+use Rattle.grammar.specs.TreeFault.{movesIn, AxesApart, partsFault, lineFault, curveIn, numbersFault, definitionFault}
 use Rattle.grammar.specs.TreeNames.{Name, namesIn}
 use Rattle.soundness.specs.AnswerCodes.{OneOf}
 use Rattle.text.specs.Tokens.{tokensOf}
@@ -67,7 +67,7 @@ Shallow l = opensTooMany (tokensOf (l .body) .list) 0 ≡ false
 abbrev pub IsLine : Numbered → Line → Type 0
 IsLine l x = WrittenAs x (tokensOf (l .body) .list)
 
--- it is the line x, which has no fault of 3 to 10
+-- it is the line x, which has no fault of 3 to 10 or 14
 pub record GoodLine (l : Numbered) (x : Line) : Type 0 where
   pub tokens : MakesTokens l
   pub shallow : Shallow l
@@ -145,7 +145,7 @@ IsNewLine a x = (OneOf (treeNumber x) (a .numbers) → ⊥) × UsesOnly (a .curv
 abbrev pub IsNewCurve : Above → Definition → Type 0
 IsNewCurve a d = MayDefine a × (OneOf (curveNumber d) (a .curves) → ⊥)
 
--- its lowest fault is c, of 3 to 11 and behind them 13
+-- its fault is c, the first of 3 to 10, 14, 11 and 13
 pub data Faulty (a : Above) (l : Numbered) (c : ℕ) : Type 0 where
   noToken : c ≡ makesNoToken → tokensOf (l .body) .good ≡ false → Faulty a l c
   deep : c ≡ tooDeep → MakesTokens l → opensTooMany (tokensOf (l .body) .list) 0 ≡ true → Faulty a l c
@@ -156,14 +156,28 @@ pub data Faulty (a : Above) (l : Numbered) (c : ℕ) : Type 0 where
   curveUsed : c ≡ wrongCurve → MayDefine a → (d : Definition) → GoodCurve l d → OneOf (curveNumber d) (a .curves) → Faulty a l c
   curveUnknown : c ≡ wrongCurve → (x : Line) → GoodLine l x → (OneOf (treeNumber x) (a .numbers) → ⊥) → (n : ℕ) → OneOf n (curvesNamed x) → (OneOf n (a .curves) → ⊥) → Faulty a l c
 
--- what 13 says: a definition whose lower limit is above its upper one, whose numbers have no fault; one of a curve that is defined above; or a line without a fault of 3 to 11 that uses a curve
+-- what 13 says: a definition whose lower limit is above its upper one, whose numbers have no fault; one of a curve that is defined above; or a line without a fault of 3 to 11 or 14 that uses a curve
 -- which is not defined above
 pub data WrongCurve (a : Above) (l : Numbered) : Type 0 where
   limitsCrossed : MayDefine a → MakesTokens l → Shallow l → (d : Definition) → IsDefinition l d → numbersFault d ≡ 0 → lessThan (curveIn d .upper) (curveIn d .lower) ≡ true → WrongCurve a l
   definedTwice : MayDefine a → (d : Definition) → GoodCurve l d → OneOf (curveNumber d) (a .curves) → WrongCurve a l
   notDefined : (x : Line) → GoodLine l x → (OneOf (treeNumber x) (a .numbers) → ⊥) → (n : ℕ) → OneOf n (curvesNamed x) → (OneOf n (a .curves) → ⊥) → WrongCurve a l
 
+-- what 14 says: a line without another fault of its own that moves an axis twice
+pub record TwoMoves (a : Above) (l : Numbered) : Type 0 where
+  pub tokens : MakesTokens l
+  pub shallow : Shallow l
+  pub tree : Line
+  pub written : IsLine l tree
+  pub parts : partsFault tree ≡ 0
+  pub twice : AxesApart (movesIn tree) → ⊥
+
 -- ---- the lines of the text
+
+-- each moves no axis twice
+abbrev pub AllMoveOnce : List Line → Type 0
+AllMoveOnce [] = Unit {0}
+AllMoveOnce (x ∷ xs) = AxesApart (movesIn x) × AllMoveOnce xs
 
 -- in two stretches: those in front that begin with FCTDEF, and the rest
 abbrev pub beginsCurve : Numbered → Bool
@@ -177,7 +191,7 @@ unfoldable pub rowLines : List Numbered → List Numbered
 rowLines [] = []
 rowLines (l ∷ ls) = elim (beginsCurve l) [ true ↦ rowLines ls | false ↦ l ∷ ls ]
 
--- they are the lines xs, one for one, without a fault of 3 to 10
+-- they are the lines xs, one for one, without a fault of 3 to 10 or 14
 abbrev pub GoodLines : List Numbered → List Line → Type 0
 GoodLines [] [] = Unit {0}
 GoodLines [] (x ∷ xs) = ⊥
@@ -223,7 +237,7 @@ pub record Small (t : List ℕ) : Type 0 where
   pub short : length t ≤ textSize
   pub few : length (tokenLines t) ≤ maxLines
 
--- its lines with tokens are the definitions ds and the lines xs of the grammar, without a fault of 3 to 11 and 13
+-- its lines with tokens are the definitions ds and the lines xs of the grammar, without a fault of 3 to 11, 13 and 14
 pub record IsLines (t : List ℕ) (ds : List Definition) (xs : List Line) : Type 0 where
   pub small : Small t
   pub good : GoodText (tokenLines t) ds xs

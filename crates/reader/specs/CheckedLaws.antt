@@ -17,8 +17,8 @@ use Rattle.checking.specs.Fault.{lineAt}
 use Rattle.checking.specs.declared.definition.Definition.{Definition as Defined}
 use Rattle.checking.specs.CurveDefinition.{definitionAt}
 use Rattle.grammar.specs.Tree.{Line, line, treeNumber, Definition}
-use Rattle.grammar.specs.TreeFault.{lineFault, numbersFault, definitionFault}
-use Rattle.grammar.specs.TreeFaultLaws.{line-proper, definition-proper, lower-first}
+use Rattle.grammar.specs.TreeFault.{partsFault, lineFault, numbersFault, definitionFault}
+use Rattle.grammar.specs.TreeFaultLaws.{line-proper, parts-fine, definition-proper, lower-first}
 use Rattle.grammar.specs.DefinitionByTree.{curve-by-tree, defined-4, defined-5, defined-by-tree}
 use Rattle.grammar.specs.TreeOf.{treeOf, definitionOf}
 use Rattle.grammar.specs.TreeOfLaws.{tree-of-tokens, no-tree, definition-of-tokens, no-definition}
@@ -32,7 +32,7 @@ use Rattle.reader.specs.Draft.{alone, namesAlone}
 use Rattle.reader.specs.StandLaws.{empty-length, alone-stands}
 use Rattle.engine.specs.NamesByTreeLaws.{names-by-tree, no-names}
 
--- tokens without a fault of 4 to 10 are those of a line of the grammar, which has none
+-- tokens without a fault of 4 to 10 or 14 are those of a line of the grammar, which has none
 pub record Faultless (ts : List ℕ) : Type 0 where
   pub shallow : opensTooMany ts 0 ≡ false
   pub tree : Line
@@ -54,8 +54,8 @@ within false h = absurd (omega arith)
 
 -- its number is 1 to 255
 pub line-number : (l : Line) → lineFault l ≡ 0 → (1 ≤ treeNumber l) × (treeNumber l ≤ 255)
-unfolding lineFault idFault
-line-number (line w v n c a r) f = let (x, y) = both (leb 1 n) (leb n 255) (within (between 1 255 n) (lower-first _ _ (lower-first _ _ f))) in (leb-true 1 n x, leb-true n 255 y)
+unfolding partsFault idFault
+line-number (line w v n c a r) f = let (x, y) = both (leb 1 n) (leb n 255) (within (between 1 255 n) (lower-first _ _ (lower-first _ _ (parts-fine (line w v n c a r) f)))) in (leb-true 1 n x, leb-true n 255 y)
 
 pub number-small : (ts : List ℕ) → faultOf ts ≡ 0 → numberIn ts ≤ 255
 number-small ts e = let w = faultless ts e in rw (w .found) (line-number (w .tree) (w .clean) .1)
@@ -147,7 +147,7 @@ module _ (ts : List ℕ) (real : AllReal ts) (short : length ts ≤ setSize) whe
 
 -- ---- some lines
 
--- each of some lines has real tokens, which fit a set and have no fault of 4 to 10
+-- each of some lines has real tokens, which fit a set and have no fault of 4 to 10 or 14
 abbrev pub AllFaultless : List Row → Type 0
 AllFaultless [] = Unit {0}
 AllFaultless (r ∷ rs) = AllReal (r .tokens) × (length (r .tokens) ≤ setSize) × (faultOf (r .tokens) ≡ 0) × AllFaultless rs

@@ -1,4 +1,4 @@
--- Loading: text to code, line and set, over the lines of the grammar that the text's lines are written as (document 01, "Lines of text" and "Codes"; document 02, Req 03). Definitions only.
+-- Loading: text to code, line and set, over the lines of the grammar that the text's lines are written as (document 01, "Lines of text" and "Codes"; document 02, Req 03 and Req 08). Definitions only.
 use mathlib.Core.Bool.{Bool, true, false, _&&_}
 use mathlib.Core.List.{List, [], _∷_, _++_}
 use mathlib.Core.Option.{Option, none, some}
@@ -19,14 +19,14 @@ use Rattle.text.specs.Lines.{Numbered, tokenLines}
 use Rattle.reader.specs.declared.load_text.Loaded.{Loaded}
 use Rattle.reader.specs.Row.{Row, Kept, nothing, curvesThere, numbersOf, byNumber, setOf}
 
--- ---- a numbered line by itself: its lowest fault of 4 to 10
+-- ---- a numbered line by itself: its lowest fault of 4 to 10, or 14
 
--- 5 if there is no line of the grammar; else its lowest fault of 6 to 10
+-- 5 if there is no line of the grammar; else its lowest fault of 6 to 10, or 14
 abbrev pub treeFault : Option Line → ℕ
 treeFault none = notInGrammar
 treeFault (some l) = lineFault l
 
--- 4 to 10 of a line's tokens: 4 if they open too many brackets; else those of the line that is written as them
+-- 4 to 10 and 14 of a line's tokens: 4 if they open too many brackets; else those of the line that is written as them
 unfoldable pub faultOf : List ℕ → ℕ
 faultOf ts = elim (opensTooMany ts 0) [ true ↦ tooDeep | false ↦ treeFault (treeOf ts) ]
 
@@ -64,7 +64,7 @@ numberDefined (some d) = d .number
 abbrev pub curveNumberIn : List ℕ → ℕ
 curveNumberIn ts = numberDefined (definitionOf ts)
 
--- ---- a line below others: its lowest fault of 3 to 11, then 13
+-- ---- a line below others: the first of 3 to 10, 14, 11 and 13
 
 -- a line FCTDEF: 13 also if its curve is defined above
 unfoldable pub curveBelow : List (List ℕ) → List ℕ → ℕ
@@ -94,11 +94,11 @@ lineBelow k ts =
 abbrev pub defines : Kept → List ℕ → Bool
 defines k ts = eqb (length (k .rows)) 0 && eqb (getD ts 0 END) FCTDEF
 
--- 4 to 13 of a line's tokens, below what is kept
+-- 4 to 11, 13 and 14 of a line's tokens, below what is kept
 unfoldable pub tokensFault : Kept → List ℕ → ℕ
 tokensFault k ts = elim (defines k ts) [ true ↦ curveBelow (k .curves) ts | false ↦ lineBelow k ts ]
 
--- 3 to 13
+-- and 3
 unfoldable pub faultBelow : Kept → Tokens → ℕ
 faultBelow k ts = elim (ts .good) [ true ↦ tokensFault k (ts .list) | false ↦ makesNoToken ]
 

@@ -17,7 +17,7 @@ use Rattle.tokens.specs.SingleFault.{lower, unless, numberFault, readFault, wri
 use Rattle.checking.specs.Fault.{Sight, joinSights, sight, faultFor}
 use Rattle.grammar.specs.Tree.{Operand, number, variable, position, truth, bracket, minus, not, Product, product, Factors, noFactor, factor, Sum, sum, Terms, noTerm, term, Expression, single, compare, row, Sums, last, next, Action, assign, assignPosition, drive, code, call, synfct, Place, cell, axis, placeWord, placeIndex, placeTokens, Condition, always, under, Line, line, Parameter, Definition, operandTokens, productTokens, factorsTokens, sumTokens, termsTokens, expressionTokens, sumsTokens, actionTokens, actionsTokens, conditionTokens, parameterTokens, definitionFront}
 use Rattle.grammar.specs.Meaning.{operandMeaning, productMeaning, factorsMeaning, sumMeaning, termsMeaning, expressionMeaning, sumsMeaning}
-use Rattle.grammar.specs.TreeFault.{wantedFault, rightFault, isFifoZero, isAlone, isRemovalTree, assignedFault, actionFault, actionsFault, conditionFault, keywordOf, lineFault, numbersFault, definitionFault}
+use Rattle.grammar.specs.TreeFault.{wantedFault, rightFault, isFifoZero, isAlone, isRemovalTree, assignedFault, actionFault, actionsFault, conditionFault, keywordOf, partsFault, lineFault, numbersFault, definitionFault}
 use Rattle.grammar.specs.AgreementLaws.{bounds, ends-read}
 use Rattle.grammar.specs.TreeFaultLaws.{seen-sum, seen-expression, wanted-read}
 use Rattle.grammar.specs.ClosedTokens.{front}
@@ -298,9 +298,9 @@ condition-clean (under w v e) h = let b = bounds WHEN EVERY w v in (keyword-in w
 
 -- THE TOKENS OF A LINE WITHOUT A FAULT
 pub line-prints : (l : Line) → lineFault l ≡ 0 → Printables (front l)
-unfolding lineFault
+unfolding lineFault partsFault
 line-prints (line w v n c a r) h =
-    let (x, y) = lower-zero _ _ h in
+    let (x, y) = lower-zero _ _ (lower-zero _ _ h .0) in
     let (i, k) = lower-zero _ _ x in
     let (q, m) = lower-zero _ _ y in
     let b = bounds ID IDS w v in

@@ -18,7 +18,7 @@ unmarkedRows s = map (map withoutMark) (rowsOf s)
 abbrev pub SameRows : List ℕ → List ℕ → Type 0
 SameRows s u = unmarkedRows s ≡ unmarkedRows u
 
--- the text t passes each loading check from 2 on, as the definitions ds and the lines xs of the grammar: 2, 3 to 10 and 13 in each line, 11, 12
+-- the text t passes each loading check from 2 on, as the definitions ds and the lines xs of the grammar: 2, 3 to 10, 13 and 14 in each line, 11, 12
 pub record Passes (t : List ℕ) (ds : List Definition) (xs : List Line) : Type 0 where
   pub few : length (tokenLines t) ≤ maxLines
   pub good : GoodText (tokenLines t) ds xs

@@ -7,10 +7,10 @@ use Rattle.tokens.specs.Index.{isInside}
 use Rattle.tokens.specs.SingleFault.{lower, opensTooMany, wantingFault, numberFault, readFault, isWritable, writeFault, codeFault, idFault, callFault, curveFault}
 use Rattle.values.specs.Value.{lessThan}
 use Rattle.checking.specs.CurveDefinition.{limitsFault}
-use Rattle.checking.specs.Fault.{joinSights, sight, countFault}
+use Rattle.checking.specs.Fault.{joinSights, sight, countFault, isAmong, areApart, movesFault}
 use Rattle.grammar.specs.Tree.{operandTokens, actionTokens, actionsTokens, conditionTokens, lineTokens, parameterTokens, definitionFront}
 use Rattle.grammar.specs.Meaning.{operandMeaning}
-use Rattle.grammar.specs.TreeFault.{rightFault, isRemovalTree, assignedFault, actionFault, actionsFault, lineFault, curveIn, numbersFault, definitionFault}
+use Rattle.grammar.specs.TreeFault.{rightFault, isRemovalTree, assignedFault, actionFault, actionsFault, movesOf, partsFault, lineFault, curveIn, numbersFault, definitionFault}
 use Rattle.grammar.specs.TreeNames.{actionsNames, namesIn, eachKnown}
 use Rattle.grammar.specs.TreeOf.{factorsGuess, productGuess, termsGuess, sumGuess, sumsGuess, expressionGuess, operandFirst, operandGuess, placeGuess, actionGuess, actionsGuess, conditionGuess, lineGuess, sameTokens, ifWritten, treeOf, parameterGuess, definitionGuess, definitionOf}
 use Rattle.engine.specs.Set.{rankIn}
@@ -47,7 +47,7 @@ abbrev Prints : List ℕ → List ℕ → Type 0
 Prints t p = (outcome t ≡ taken (keptOf t)) × (rowsText (thereOf (keptOf t .curves) ++ map tokens (byNumber (keptOf t .rows))) ≡ p)
 
 computed : Prints text print × Prints curvesText curvesPrint
-unfolding factorsGuess productGuess termsGuess sumGuess sumsGuess expressionGuess operandFirst operandGuess placeGuess actionGuess actionsGuess conditionGuess lineGuess sameTokens ifWritten treeOf parameterGuess definitionGuess definitionOf parameterTokens definitionFront operandTokens actionTokens actionsTokens conditionTokens lineTokens operandMeaning rightFault isRemovalTree assignedFault actionFault actionsFault lineFault curveIn numbersFault definitionFault limitsFault lessThan curveFault actionsNames namesIn eachKnown isInside lower opensTooMany wantingFault numberFault readFault joinSights sight isWritable writeFault codeFault idFault callFault countFault rankIn run wordToken written isFit numberToken wordFirst behindPoint numberWith numberFirst signFirst firstToken tokensFrom tokensOf split withoutReturn withoutComment bodies isBlank numbered tokenLines numbersOf leastFrom leastAbove faultOf curveFaultOf curveBelow lineBelow tokensFault faultBelow keptWith rowsFrom firstNot named outcome rising curveLines rowLines curvesAdded thereOf digitsUp partDigits partText numberText nameText tokenText needsSpace gap lineText behindText rowsText
+unfolding factorsGuess productGuess termsGuess sumGuess sumsGuess expressionGuess operandFirst operandGuess placeGuess actionGuess actionsGuess conditionGuess lineGuess sameTokens ifWritten treeOf parameterGuess definitionGuess definitionOf parameterTokens definitionFront operandTokens actionTokens actionsTokens conditionTokens lineTokens operandMeaning rightFault isRemovalTree assignedFault actionFault actionsFault lineFault curveIn numbersFault definitionFault limitsFault lessThan curveFault actionsNames namesIn eachKnown isInside lower opensTooMany wantingFault numberFault readFault joinSights sight isWritable writeFault codeFault idFault callFault countFault rankIn run wordToken written isFit numberToken wordFirst behindPoint numberWith numberFirst signFirst firstToken tokensFrom tokensOf split withoutReturn withoutComment bodies isBlank numbered tokenLines numbersOf leastFrom leastAbove faultOf curveFaultOf curveBelow lineBelow tokensFault faultBelow keptWith rowsFrom firstNot named outcome rising curveLines rowLines curvesAdded thereOf digitsUp partDigits partText numberText nameText tokenText needsSpace gap lineText behindText rowsText movesOf partsFault isAmong areApart movesFault
 computed = ((refl, refl), (refl, refl))
 
 tried : (printText (loadSet text) ≡ print) × (printText (loadSet curvesText) ≡ curvesPrint)

@@ -35,7 +35,7 @@ use Rattle.loading.specs.TextNamesLaws.{line-names, named-positive, each-line, 
 use Rattle.print.specs.PrintText.{rowAt, curveRows, lineRows, rowsOf}
 use Rattle.round_trip.specs.FrontLaws.{row-front, row-definition}
 
--- a line without a fault of 4 to 10
+-- a line without a fault of 4 to 10 or 14
 pub record GoodTree (x : Line) : Type 0 where
   pub faultless : lineFault x ≡ 0
   pub shallow : opensTooMany (front x) 0 ≡ false

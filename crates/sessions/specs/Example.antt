@@ -12,7 +12,7 @@ use Rattle.tokens.specs.Descent.{isIndex, indexOf, isIndexed, indexAt, joined, 
 use Rattle.tokens.specs.Index.{isInside}
 use Rattle.working.specs.Variables.{cellOf, beatCount, fifoValue, fifoAt, variableValue}
 use Rattle.tokens.specs.SingleFault.{lower, opensTooMany, wantingFault, numberFault, readFault, isWritable, writeFault, codeFault, idFault, callFault}
-use Rattle.checking.specs.Fault.{joinSights, sight, countFault, numberOf, isRemoval, assignedAt, assignmentAt, commandAt, unindexedAt, actionAt, actionsAt, lineParts, bodyAt, restAt, lineAt}
+use Rattle.checking.specs.Fault.{joinSights, sight, countFault, isAmong, areApart, movesFault, numberOf, isRemoval, assignedAt, assignmentAt, commandAt, unindexedAt, actionAt, movesAt, actionsAt, lineParts, bodyAt, restAt, lineAt}
 use Rattle.working.specs.Operators.{joinLogic, joinTruths, joinValues}
 use Rattle.working.specs.Working.{valueOver, conditionValue, rightValue}
 use Rattle.engine.specs.Set.{emptySet, linesFrom, linesRead, rankIn, namesKnown, curvesSound, allKnown, namedLines, soundLines, withoutMark, withLine}
@@ -38,7 +38,7 @@ use Rattle.text.specs.Lines.{split, withoutReturn, withoutComment, bodies, firs
 use Rattle.reader.specs.Row.{numbersOf, total, leastFrom, leastAbove, rising, placed, curveSlots, setOf}
 use Rattle.grammar.specs.Tree.{operandTokens, actionTokens, actionsTokens, conditionTokens, lineTokens}
 use Rattle.grammar.specs.Meaning.{operandMeaning}
-use Rattle.grammar.specs.TreeFault.{rightFault, isRemovalTree, assignedFault, actionFault, actionsFault, lineFault}
+use Rattle.grammar.specs.TreeFault.{rightFault, isRemovalTree, assignedFault, actionFault, actionsFault, movesOf, partsFault, lineFault}
 use Rattle.grammar.specs.TreeNames.{actionsNames, namesIn, eachKnown}
 use Rattle.grammar.specs.TreeOf.{factorsGuess, productGuess, termsGuess, sumGuess, sumsGuess, expressionGuess, operandFirst, operandGuess, actionGuess, actionsGuess, conditionGuess, lineGuess, sameTokens, ifWritten, treeOf}
 use Rattle.reader.specs.Load.{faultOf, lineBelow, tokensFault, faultBelow, keptWith, rowsFrom, firstNot, named, outcome, loadAnswer, loadSet}
@@ -55,5 +55,5 @@ prints t = synrun (bytes t)
 example :
     map prints ("ID=1 EVERY $A_IN[1]==1 DO $AC_MARKER[0]=$AC_MARKER[0]+1 M=7\n*\nA 1\nA 1\nA 0\nA 1\n" ∷ "" ∷ "*" ∷ "*\r" ∷ "ID=1 DO FA[X]=$A_INA[1]\r\n*\r\nA 0 5\r\nM 007 -0\r\nA 0 -1\nA 0  1\nA" ∷ [])
     ≡ map bytes ("C 1 0 1\nO 1 4 0 7\nC 2 0 0\nC 3 0 0\nC 4 0 1\nO 1 4 0 7\nEND 4 0 2\n" ∷ "END 0 0 0\n" ∷ "END 0 0 0\n" ∷ "L 3 1\n" ∷ "C 1 0 1\nO 1 2 1 5\nC 2 0 0\nC 3 34 0\nE 4\n" ∷ [])
-unfolding inRange valued sumOf differenceOf productOf quotientOf negationOf lessThan equalTo wholeUnits nearestUnits markerOf outputOf feedOf signOf millisOf grownTimer writtenTimer fits appendAnswer appended shifted removeAnswer removed oldestOf newestOf sumFirst sumAll totalOf countOf cleared emptyAnswer emptied twosComplement fourBytes orderBytes isIndex indexOf isIndexed indexAt joined more readProduct readSum readRest readExpression readClose readVariable readTruth operandFrom readOperand sumAt expressionAt isInside cellOf beatCount fifoValue fifoAt variableValue lower opensTooMany wantingFault numberFault readFault joinSights sight isWritable writeFault codeFault idFault callFault countFault numberOf isRemoval assignedAt assignmentAt commandAt actionAt actionsAt lineParts bodyAt restAt lineAt joinLogic joinTruths joinValues valueOver conditionValue rightValue emptySet linesFrom linesRead rankIn namesKnown allKnown namedLines soundLines powerOn grownCells inputCells beatCells allRanged isCell areCells allZero isFifoSound isFlag areFlags stateSound isSound changeAnswer changed changeFifo writeFifo writeCell writeInside writeTo driveOrder alarmOf lockOf takenAt assignmentOf driveOf commandOf actionOf actionsOf tries acts remembers takesTurn doTurn tryTurn turnOf turnsFrom areInputs beatBegun beatEnded wholeBeat beatAnswer beatBuffer foundAt found called lockedCall lockCall unlockCall cancelCall resetCancelled zeroed resetState resetCall run wordToken written isFit numberToken wordFirst behindPoint numberWith numberFirst signFirst firstToken tokensFrom tokensOf split withoutReturn withoutComment bodies firstBody boundsAt isBlank numbered tokenLines numbersOf total leastFrom leastAbove rising withoutMark withLine placed setOf factorsGuess productGuess termsGuess sumGuess sumsGuess expressionGuess operandFirst operandGuess actionGuess actionsGuess conditionGuess lineGuess sameTokens ifWritten treeOf operandTokens actionTokens actionsTokens conditionTokens lineTokens operandMeaning rightFault isRemovalTree assignedFault actionFault actionsFault lineFault actionsNames namesIn eachKnown faultOf tokensFault faultBelow rowsFrom firstNot named outcome loadAnswer loadSet beatLines cut inputOf lentNumber lentNumbers modeOf allDigits wholeOf fieldsLent lineLent digitsUp fourOf signedText loadLine errorLine codeLine orderLine orderLines endLine answerOf bufferOf beatText beatsText loadedText synrun areFifos spaced unindexedAt curvesSound curveSlots lineBelow keptWith
+unfolding inRange valued sumOf differenceOf productOf quotientOf negationOf lessThan equalTo wholeUnits nearestUnits markerOf outputOf feedOf signOf millisOf grownTimer writtenTimer fits appendAnswer appended shifted removeAnswer removed oldestOf newestOf sumFirst sumAll totalOf countOf cleared emptyAnswer emptied twosComplement fourBytes orderBytes isIndex indexOf isIndexed indexAt joined more readProduct readSum readRest readExpression readClose readVariable readTruth operandFrom readOperand sumAt expressionAt isInside cellOf beatCount fifoValue fifoAt variableValue lower opensTooMany wantingFault numberFault readFault joinSights sight isWritable writeFault codeFault idFault callFault countFault numberOf isRemoval assignedAt assignmentAt commandAt actionAt movesAt actionsAt lineParts bodyAt restAt lineAt joinLogic joinTruths joinValues valueOver conditionValue rightValue emptySet linesFrom linesRead rankIn namesKnown allKnown namedLines soundLines powerOn grownCells inputCells beatCells allRanged isCell areCells allZero isFifoSound isFlag areFlags stateSound isSound changeAnswer changed changeFifo writeFifo writeCell writeInside writeTo driveOrder alarmOf lockOf takenAt assignmentOf driveOf commandOf actionOf actionsOf tries acts remembers takesTurn doTurn tryTurn turnOf turnsFrom areInputs beatBegun beatEnded wholeBeat beatAnswer beatBuffer foundAt found called lockedCall lockCall unlockCall cancelCall resetCancelled zeroed resetState resetCall run wordToken written isFit numberToken wordFirst behindPoint numberWith numberFirst signFirst firstToken tokensFrom tokensOf split withoutReturn withoutComment bodies firstBody boundsAt isBlank numbered tokenLines numbersOf total leastFrom leastAbove rising withoutMark withLine placed setOf factorsGuess productGuess termsGuess sumGuess sumsGuess expressionGuess operandFirst operandGuess actionGuess actionsGuess conditionGuess lineGuess sameTokens ifWritten treeOf operandTokens actionTokens actionsTokens conditionTokens lineTokens operandMeaning rightFault isRemovalTree assignedFault actionFault actionsFault movesOf partsFault lineFault isAmong areApart movesFault actionsNames namesIn eachKnown faultOf tokensFault faultBelow rowsFrom firstNot named outcome loadAnswer loadSet beatLines cut inputOf lentNumber lentNumbers modeOf allDigits wholeOf fieldsLent lineLent digitsUp fourOf signedText loadLine errorLine codeLine orderLine orderLines endLine answerOf bufferOf beatText beatsText loadedText synrun areFifos spaced unindexedAt curvesSound curveSlots lineBelow keptWith
 example = refl

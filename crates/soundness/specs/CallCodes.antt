@@ -1,5 +1,5 @@
 -- WHAT EACH CALL ANSWERS: the codes of a beat and of a host's call, for any set and any state; and a beat that stopped never answers 0. Theorems; nothing is assumed.
--- (A load's are 0 to 13: `code-last` of loading.)
+-- (A load's are 0 to 14: `code-last` of loading.)
 use mathlib.Core.Path.{_≡_, refl}
 use mathlib.Core.Logic.{_≢_, inl, inr}
 use mathlib.Core.Bool.{Bool, true, false, _&&_}

@@ -84,7 +84,7 @@ module _ (s : List ℕ) (sound : soundLines s .sound ≡ true) (size : length s 
     done-fine x es true h =
         holds-then (λ (d : Did). Fine (d .world)) TurnFine (actionsOf s numbers cancelled (lineOf s k .number) maxActions (counted x k) (lineOf s k .actions)) _
         (actions-keep s sound size cancelled (lineOf s k .number) (lineOf s k .keyword) (startOf s k) (lines-known s sound k inside)
-        maxActions setSize 0 0 (counted x k) (lineOf s k .actions) refl (record { vars = h .vars; flags = h .flags }) (clear .passed) (clear .actions))
+        maxActions setSize 0 [] 0 (counted x k) (lineOf s k .actions) refl (record { vars = h .vars; flags = h .flags }) (clear .passed) (clear .actions))
         (λ d e. e)
 
     turn-fine : (x : World) → Fine x → Holds TurnFine (turnOf s numbers cancelled automatic (lineOf s k) k x)

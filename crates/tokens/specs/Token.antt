@@ -230,6 +230,10 @@ isAxis t = between X W t
 abbrev pub isDrive : ℕ → Bool
 isDrive t = between POS MOV t
 
+-- POS or MOV; FA is no move
+abbrev pub isMove : ℕ → Bool
+isMove t = eqb t POS || eqb t MOV
+
 -- SETAL, LOCK or UNLOCK
 abbrev pub isCall : ℕ → Bool
 isCall t = between SETAL UNLOCK t

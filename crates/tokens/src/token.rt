@@ -1,7 +1,7 @@
 // The tokens: their numbers, and what a token is. The same table stands in specs/Token.
 ghost use mathlib.Core.Path.{_≡_};
 ghost use lib.ListN.{getD};
-ghost use Rattle.tokens.specs.Token.{between, isVariable, isFifo, isAxis, isDrive, isCall, isLock, isNaming, isKeyword, isId, isBracket, isFactor, isTerm, isArithmetic, isCompare, isLogic, isWhole, whole};
+ghost use Rattle.tokens.specs.Token.{between, isVariable, isFifo, isAxis, isDrive, isMove, isCall, isLock, isNaming, isKeyword, isId, isBracket, isFactor, isTerm, isArithmetic, isCompare, isLogic, isWhole, whole};
 ghost use Rattle.tokens.specs.Descent.{isRow, isIndex, indexOf, isIndexed, indexAt};
 
 // The lines that a set may have, the actions of each, and the bytes of its text.
@@ -165,6 +165,16 @@ pub fn is_drive(t: u32) -> bool
     ensures { λ r. ⌜ r ≡ isDrive t ⌝ }
 {
     is_between(POS, MOV, t)
+}
+
+// POS or MOV; FA is no move.
+pub fn is_move(t: u32) -> bool
+    ensures { λ r. ⌜ r ≡ isMove t ⌝ }
+{
+    if t == FA {
+        return false;
+    }
+    is_drive(t)
 }
 
 pub fn is_call(t: u32) -> bool

@@ -14,7 +14,7 @@ use Rattle.tokens.specs.SingleFault.{callFault, idFault}
 use Rattle.grammar.specs.Tree.{Action, assign, assignPosition, drive, code, call, synfct, Line, line, lineTokens}
 use Rattle.grammar.specs.Meaning.{Stands}
 use Rattle.grammar.specs.TreeNames.{actionNames, actionsNames, namesIn, eachKnown}
-use Rattle.grammar.specs.TreeFault.{actionFault, actionsFault, lineFault, keywordOf}
+use Rattle.grammar.specs.TreeFault.{actionFault, actionsFault, partsFault, lineFault, keywordOf}
 use Rattle.engine.specs.Set.{rankIn, isKnown, namesKnown, isDefined, curvesIn, setTable}
 use Rattle.engine.specs.NamesByTreeLaws.{each-append, names-by-tree}
 use Rattle.soundness.specs.WriteSoundLaws.{lower-zero, unless-zero}
@@ -65,10 +65,10 @@ module _ (s ns : List ℕ) where
       (action-names kw a (z .0) (h .0), actions-name kw r b (z .1) (h .1))
 
   of-tree : (l : Line) → lineFault l ≡ 0 → eachKnown (setTable s ns) (namesIn l) ≡ true → LineNames (Known ns) (Defined s) l
-  unfolding lineFault namesIn
-  of-tree (line w v n c a r) f k = actions-name (keywordOf c) r a (lower-zero _ _ (lower-zero _ _ f .1) .0) k
+  unfolding lineFault partsFault namesIn
+  of-tree (line w v n c a r) f k = actions-name (keywordOf c) r a (lower-zero _ _ (lower-zero _ _ (lower-zero _ _ f .0) .1) .0) k
 
-  -- a line without a fault of 6 to 10, in which the check found each name known
+  -- a line without a fault of 6 to 10 or 14, in which the check found each name known
   pub line-names : (l : Line) (p q : ℕ) → length (lineTokens l) ≤ suc setSize → lineFault l ≡ 0 → Stands s p (lineTokens l) q → namesKnown s (setTable s ns) setSize p ≡ true →
       LineNames (Known ns) (Defined s) l
   line-names l p q m f h k = of-tree l f (sym (names-by-tree s (setTable s ns) l p q m h) ∙ k)

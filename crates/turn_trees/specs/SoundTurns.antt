@@ -14,7 +14,8 @@ use Rattle.tokens.specs.Descent.{good, _>>=_}
 use Rattle.checking.specs.declared.line.Line.{Line as Told}
 use Rattle.grammar.specs.Tree.{Line, lineTokens, treeNumber}
 use Rattle.grammar.specs.Meaning.{Stands}
-use Rattle.grammar.specs.TreeFault.{lineFault, partsFrom}
+use Rattle.grammar.specs.TreeFault.{lineFault, partsFrom, movesIn, AxesApart}
+use Rattle.grammar.specs.OneMove.{one-move}
 use Rattle.grammar.specs.ClosedTokens.{line-fits}
 use Rattle.grammar.specs.AgreementLine.{line-found, line-fault, line-parts, not-deep, parts-number}
 use Rattle.engine.specs.declared.state.State.{State}
@@ -64,6 +65,10 @@ module _ (s : List ℕ) (size : length s ≤ setSize) (sound : soundLines s .sou
     module _ (l : Line) (t : TreeAt s k l) where
       pub tree-faultless : lineFault l ≡ 0
       tree-faultless = sym (line-fault s size l (startOf s k) (t .0) (not-deep s (startOf s k) clean) (t .1)) ∙ clean
+
+      -- NO LINE OF A SOUND SET MOVES AN AXIS TWICE, wherever the set came from
+      pub sound-moves : AxesApart (movesIn l)
+      sound-moves = one-move l tree-faultless
 
       tree-parts : lineOf s k ≡ partsFrom (startOf s k) l
       tree-parts = line-parts s size l (startOf s k) (t .0) (not-deep s (startOf s k) clean) (t .1) tree-faultless .0

@@ -17,7 +17,7 @@ use Rattle.working.specs.Operators.{isYes}
 use Rattle.working.specs.Working.{conditionValue}
 use Rattle.grammar.specs.Tree.{Action, always, under, Line, line, actionsTokens, conditionTokens, lineTokens}
 use Rattle.grammar.specs.Meaning.{Stands}
-use Rattle.grammar.specs.TreeFault.{lineFault, partsFrom}
+use Rattle.grammar.specs.TreeFault.{partsFault, lineFault, partsFrom}
 use Rattle.grammar.specs.AgreementLaws.{stands-place}
 use Rattle.grammar.specs.AgreementFault.{do-ends, line-stands}
 use Rattle.engine.specs.Set.{noLine}
@@ -65,13 +65,13 @@ module _ (s numbers : List ℕ) (names : Names) (automatic : Bool) where
   -- a line that takes its turn
   try-by-tree : (l : Line) (p q k : ℕ) (x : World) → length (lineTokens l) ≤ suc setSize → lineFault l ≡ 0 → LineNames (SameRank numbers names) (SameCurve s names) l → Stands s p (lineTokens l) q →
       tryTurn s numbers (names .cancelled) automatic (partsFrom p l) k x ≡ tryTree names l k x
-  unfolding tryTurn tryTree partsFrom lineTokens conditionTokens lineFault tries acts
+  unfolding tryTurn tryTree partsFrom lineTokens conditionTokens lineFault partsFault tries acts
   try-by-tree (line w v n always a r) p q k x l f g h =
       let y = line-stands s w v n always a r p q h in
       let L = simp length-append at l in
       let d = y .condition in
       let i : p + (length (conditionTokens always) + 4) ≡ y .doing + 1 = omega arith in
-      do-tree (partsFrom p (line w v n always a r)) n k x [] a r (y .doing + 1) (y .end) true refl i (few-actions (length r) (lower-zero _ _ (lower-zero _ _ f .1) .1)) g (omega arith) (y .actions) (y .stops)
+      do-tree (partsFrom p (line w v n always a r)) n k x [] a r (y .doing + 1) (y .end) true refl i (few-actions (length r) (lower-zero _ _ (lower-zero _ _ (lower-zero _ _ f .0) .1) .1)) g (omega arith) (y .actions) (y .stops)
   try-by-tree (line w v n (under kw u e) a r) p q k x l f g h =
       let c = under kw u e in
       let y = line-stands s w v n c a r p q h in
@@ -79,7 +79,7 @@ module _ (s numbers : List ℕ) (names : Names) (automatic : Bool) where
       let d = stands-place s (conditionTokens c) (p + 3) (y .doing) (y .condition) in
       let i : p + (length (conditionTokens c) + 4) ≡ y .doing + 1 = omega arith in
       let four : p + 3 + 1 ≡ p + 4 = omega arith in
-      let few = few-actions (length r) (lower-zero _ _ (lower-zero _ _ f .1) .1) in
+      let few = few-actions (length r) (lower-zero _ _ (lower-zero _ _ (lower-zero _ _ f .0) .1) .1) in
       let m = getD (x .memory) k false in
       let t = partsFrom p (line w v n c a r) in
       alike (tries kw m)

@@ -53,6 +53,10 @@ notInSet = 12
 abbrev pub wrongCurve : ℕ
 wrongCurve = 13
 
+-- two moves of one axis in a line
+abbrev pub twoMoves : ℕ
+twoMoves = 14
+
 -- order buffer under 2,048 bytes
 abbrev pub shortBuffer : ℕ
 shortBuffer = 20

@@ -39,6 +39,9 @@ pub const NOT_IN_SET: u8 = 12;
 // A curve whose lower limit is above its upper one, that is defined twice, or used but not defined.
 pub const WRONG_CURVE: u8 = 13;
 
+// Two moves of one axis in a line.
+pub const TWO_MOVES: u8 = 14;
+
 // Order buffer under 2,048 bytes.
 pub const SHORT_BUFFER: u8 = 20;
 

@@ -48,9 +48,9 @@ static void put_numbers(const char *word, int count, const int64_t *numbers) {
     out[written++] = '\n';
 }
 
-// POS[X] of eight counters, the orders of one line.
+// POS[X] to POS[W] of six counters, the orders of one line.
 static void put_orders(int line, const int32_t *values) {
-    for (int i = 0; i < 8; i++) put_numbers("O", 4, (int64_t[]){line, 1, 1, values[i]});
+    for (int i = 0; i < 6; i++) put_numbers("O", 4, (int64_t[]){line, 1, i + 1, values[i]});
 }
 
 // Line K: a station counts a piece if its input is high and the next one is not behind it.
@@ -96,12 +96,10 @@ static int beat(struct counters *c, int64_t k, const char **at, int64_t *orders)
     int told = !code && automatic && inputs >> 15 & 1;
     put_numbers("C", 3, (int64_t[]){k, code, told ? 24 : 0});
     if (told) {
-        int32_t middle[8];
-        memcpy(middle, c->marker + 9, 16);
-        memcpy(middle + 4, c->r + 1, 16);
         put_orders(21, c->marker + 1);
-        put_orders(22, middle);
-        put_orders(23, c->r + 5);
+        put_orders(22, c->marker + 7);
+        put_orders(23, c->r + 1);
+        put_orders(24, c->r + 7);
         *orders += 24;
     }
     return code;

@@ -2,7 +2,7 @@
 
 use crate::random::Random;
 
-const AXES: [&str; 6] = ["X", "Y", "Z", "U", "V", "W"];
+pub const AXES: [&str; 6] = ["X", "Y", "Z", "U", "V", "W"];
 const CONSTANTS: [&str; 16] = [
     "0", "1", "1", "2", "3", "7", "10", "0.5", "0.001", "0.333", "1.999", "2.5", "12.345", "007", "0.50",
     "100",

@@ -42,6 +42,13 @@ const PASSING: [&str; 12] = [
     "$AC_MARKER [ 31 ] = 1", "$A_OUT [ 16 ] = 1", "$AC_TIMER [ 7 ] = 0", "$AC_PARAM [ 031 ] = 0.999",
     "$R [ 9 ] = - - 1",
 ];
+/// Two moves of one axis, and what just passes if the line moves none of these axes.
+const MOVES: [&str; 12] = [
+    "POS [ X ] = 1 POS [ X ] = 2", "POS [ Y ] = 1 MOV [ Y ] = 0", "MOV [ Z ] = 1 MOV [ Z ] = - 1",
+    "MOV [ U ] = 0 $R [ 9 ] = 1 POS [ U ] = 0", "POS [ W ] = 1 FA [ W ] = 1 POS [ W ] = 1",
+    "POS [ V ] = 1 FA [ V ] = 2 FA [ V ] = 1", "MOV [ W ] = 1 FA [ W ] = 1", "FA [ X ] = 1 FA [ X ] = 1",
+    "POS [ U ] = 1 MOV [ V ] = 1", "FA [ Y ] = 1 POS [ Y ] = 2", "POS [ Z ] = 1", "MOV [ X ] = 0",
+];
 /// Actions for lines of more than eight, with other faults among them.
 const MANY: [&str; 9] = [
     "$R [ 9 ] = 1", "$R [ 8 ] = 2", "POS [ X ] = 1", "FA [ X ] = 1", "MOV [ X ] = 1", "SETAL ( 65000 )",
@@ -50,6 +57,19 @@ const MANY: [&str; 9] = [
 const DEPTH_FAULTS: [&str; 3] =
     ["$R [ 9 ] = ( ( ( ( ( ( ( ( ( 1 ) ) ) ) ) ) ) ) )", "( ( ( ( ( ( ( ( (", ") ) ( ( ( ( ( ( ( ( ("];
 
+/// Puts two moves of one axis into a line, and mostly one of the faults that are told before or after them.
+pub fn add_move_fault(random: &mut Random, lines: &mut [String], numbers: &[i64]) {
+    let place = random.below(lines.len());
+    append(&mut lines[place], random.pick(&MOVES[..5]));
+    match random.below(7) {
+        0..=2 => renumber(&mut lines[place], &numbers[0].to_string()),
+        3 => append(&mut lines[place], "SYNFCT ( 2 , $R [ 9 ] , $R [ 8 ] )"),
+        4 => append(&mut lines[0], &format!("LOCK ( {} )", missing(random, numbers))),
+        5 => append(&mut lines[place], random.pick(&["$R [ 100 ] = 1", "M = 5", "$R [ 164 ] = 1"])),
+        _ => {}
+    }
+}
+
 /// Puts one to three faults, or things that just pass, into lines of the set, mostly into one.
 pub fn add_faults(random: &mut Random, lines: &mut Vec<String>, numbers: &[i64]) {
     let mut place = random.below(lines.len());
@@ -57,7 +77,7 @@ pub fn add_faults(random: &mut Random, lines: &mut Vec<String>, numbers: &[i64])
         if random.chance(40) {
             place = random.below(lines.len());
         }
-        let fault = random.below(18);
+        let fault = random.below(20);
         match fault {
             0 => more_lines(random, lines, numbers),
             1 => used_number(random, &mut lines[place], numbers),
@@ -81,6 +101,7 @@ fn fault_in_line(random: &mut Random, fault: usize, line: &mut String, numbers: 
         12 => insert(random, line, &MORE_TOKENS),
         13..=14 => *line = loose_line(random, line),
         15 => replace(random, line),
+        17..=18 => append(line, random.pick(&MOVES)),
         16 => append(line, &format!("{} ( {} )", random.pick(&["LOCK", "UNLOCK"]), missing(random, numbers))),
         _ => append(line, random.pick(&PASSING)),
     }
@@ -140,6 +161,10 @@ fn used_number(random: &mut Random, line: &mut String, numbers: &[i64]) {
         1 => format!("00{}", random.pick(numbers)),
         _ => random.pick(numbers).to_string(),
     };
+    renumber(line, &number);
+}
+
+fn renumber(line: &mut String, number: &str) {
     let tokens: Vec<&str> = line.splitn(4, ' ').collect();
     if let [scope, assign, _, body] = tokens[..] {
         *line = format!("{scope} {assign} {number} {body}");

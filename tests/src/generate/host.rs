@@ -230,6 +230,9 @@ impl Session<'_> {
         }
         let lines = self.set.lines.len();
         let rank = self.random.below(lines);
+        if self.random.chance(20) {
+            return self.move_damage(rank);
+        }
         let line = match self.random.below(8) {
             0 => format!("S N {rank} {}", self.random.between(0, 255)),
             1 => format!("S I {rank} {}", self.random.below(2)),
@@ -241,6 +244,21 @@ impl Session<'_> {
             }
         };
         self.add(line);
+    }
+
+    /// A move of the line goes to the axis of the one before it, and may become another.
+    fn move_damage(&mut self, rank: usize) {
+        let body: Vec<String> = self.body(rank).into_iter().map(str::to_owned).collect();
+        let is_move = |place: &usize| ["POS", "MOV", "FA"].contains(&body[*place].as_str());
+        let moves: Vec<usize> = (0..body.len()).filter(is_move).collect();
+        if let [.., first, second] = moves[..] {
+            self.add(format!("T {rank} {} {}", second + 2, body[first + 2]));
+            if self.random.chance(40) {
+                let other = self.random.pick(&["POS", "MOV", "FA"]);
+                self.add(format!("T {rank} {second} {other}"));
+            }
+            self.call();
+        }
     }
 
     /// The tokens of the line of this rank after its number.

@@ -1,6 +1,6 @@
 //! Random lines, as tokens one space apart, of sorts that work on each other.
 
-use super::expression::{axis, condition, half, index, number, readable, switched};
+use super::expression::{axis, condition, half, index, number, readable, switched, AXES};
 use crate::random::Random;
 
 pub const KEYWORDS: [(usize, &str); 5] =
@@ -31,7 +31,27 @@ fn any_line(random: &mut Random, numbers: &[i64]) -> String {
     let keyword = random.weighted(&KEYWORDS);
     let count = if random.chance(4) { 8 } else { random.between(1, 3) };
     let actions: Vec<String> = (0..count).map(|_| action(random, keyword, numbers)).collect();
-    format!("{} DO {}", head(random, keyword), actions.join(" "))
+    format!("{} DO {}", head(random, keyword), one_move(random, actions).join(" "))
+}
+
+/// The actions with no axis moved twice: a second move goes to an axis that is free, or becomes a SETAL.
+pub fn one_move(random: &mut Random, mut actions: Vec<String>) -> Vec<String> {
+    let mut used: Vec<String> = Vec::new();
+    for action in actions.iter_mut().filter(|action| ["POS", "MOV"].contains(&&action[..3])) {
+        let free: Vec<&str> =
+            AXES.into_iter().filter(|axis| !used.iter().any(|other| other == axis)).collect();
+        let axis = action.split(' ').nth(2).unwrap_or("X").to_string();
+        if !free.is_empty() && !free.contains(&axis.as_str()) {
+            let next = random.pick(&free);
+            *action = action.replacen(&format!("[ {axis} ]"), &format!("[ {next} ]"), 1);
+            used.push(next.into());
+        } else if free.is_empty() {
+            *action = format!("SETAL ( {} )", random.between(65000, 69999));
+        } else {
+            used.push(axis);
+        }
+    }
+    actions
 }
 
 fn head(random: &mut Random, keyword: &str) -> String {
@@ -110,14 +130,14 @@ fn alarm_line(random: &mut Random) -> String {
 /// Makes variables seen in orders: those that `others` use, or any.
 pub fn watching_line(random: &mut Random, others: &[String]) -> String {
     let used = used_variables(others);
-    let count = if used.is_empty() { random.between(1, 5) } else { random.between(3, 8) };
+    let count = if used.is_empty() { random.between(1, 5) } else { random.between(3, 6) };
     let watch = |random: &mut Random| match used.len() {
         0 => readable(random),
         length => used[random.below(length)].clone(),
     };
     let actions: Vec<String> =
         (0..count).map(|_| format!("POS [ {} ] = {}", axis(random), watch(random))).collect();
-    format!("DO {}", actions.join(" "))
+    format!("DO {}", one_move(random, actions).join(" "))
 }
 
 /// The variables in these lines, for a FIFO its sum.

@@ -104,7 +104,11 @@ fn random_lines(random: &mut Random, percent: usize) -> RandomSet {
     if in_curves {
         curve_fault::add_fault(random, &mut curves, &mut lines, &numbers);
     }
-    if faulty && (!in_curves || random.chance(25)) {
+    let in_moves = faulty && random.chance(15);
+    if in_moves {
+        fault::add_move_fault(random, &mut lines, &numbers);
+    }
+    if faulty && (!(in_curves || in_moves) || random.chance(25)) {
         fault::add_faults(random, &mut lines, &numbers);
     }
     RandomSet { curves, numbers, lines, text: Vec::new(), faulty }

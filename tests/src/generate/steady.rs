@@ -4,7 +4,7 @@
 use super::curve::{curves, steady_lines, steady_sorts};
 use super::expression::{axis, half};
 use super::layout::lines_text;
-use super::line::{held_lines, lock, watching_line, ALARMS, KEYWORDS};
+use super::line::{held_lines, lock, one_move, watching_line, ALARMS, KEYWORDS};
 use super::{distinct_numbers, RandomSet};
 use crate::load::TEXT;
 use crate::random::Random;
@@ -64,15 +64,17 @@ fn acting_line(random: &mut Random, numbers: &[i64], crowded: bool) -> String {
     let keyword = random.weighted(&KEYWORDS);
     let head = if keyword.is_empty() { "DO".into() } else { format!("{keyword} {} DO", condition(random)) };
     let most = if crowded { 8 } else { random.between(2, 7) };
-    let mut line = head;
-    for place in 0..most {
+    let mut room = ROOM.saturating_sub(bytes(&head));
+    let mut actions = Vec::new();
+    for _ in 0..most {
         let next = if crowded { short_order(random) } else { action(random, keyword, numbers) };
-        if place > 0 && bytes(&line) + bytes(&next) > ROOM {
+        if !actions.is_empty() && bytes(&next) > room {
             break;
         }
-        line = format!("{line} {next}");
+        room = room.saturating_sub(bytes(&next));
+        actions.push(next);
     }
-    line
+    format!("{head} {}", one_move(random, actions).join(" "))
 }
 
 fn bytes(line: &str) -> usize {

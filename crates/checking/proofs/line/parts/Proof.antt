@@ -14,7 +14,7 @@ use Rattle.checking.proofs.FaultLaws.{parts-end, parts-faulty, parts-go
 use Rattle.checking.proofs.line.parts.Statement.{statement}
 use Rattle.checking.proofs.line.parts.Tie as tie
 
--- what 5 to 10 tell of the line is told where its brackets are not too many
+-- what 5 to 10 and 14 tell of the line is told where its brackets are not too many
 module _ (c : tie.After-is-too-deep) where
   told : Line
   told = let a = c .before .args in lineParts (a .set .now) (a .at) (a .keyword) (a .condition) (a .actions) (faulted (a .a))
