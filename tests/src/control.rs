@@ -83,6 +83,7 @@ impl Control {
         numbers: &[i32],
         buffer: &mut [u8],
     ) -> Result<Answer, Code> {
+        self.seen.curve_damage(&self.set);
         self.demand_sound()?;
         if buffer.len() < BUFFER {
             return Err(Code::BufferTooShort);

@@ -19,9 +19,9 @@ use std::collections::BTreeMap;
 
 const MOVES: [&str; 4] = ["POS and POS", "POS and MOV", "MOV and POS", "MOV and MOV"];
 const ALARMS: [u8; 5] = [30, 31, 32, 33, 34];
-const HOST_FORMS: [&str; 27] = [
-    "A", "M", "B", "L", "U", "C", "R", "P", "N", "K", "G", "D", "T", "S N", "S I", "S C", "S X", "V O",
-    "V M", "V P", "V R", "V T", "V U", "V F", "V L", "V C", "V E",
+const HOST_FORMS: [&str; 29] = [
+    "A", "M", "B", "L", "U", "C", "R", "P", "N", "K", "G", "D", "T", "F", "S N", "S I", "S C", "S X", "S F",
+    "V O", "V M", "V P", "V R", "V T", "V U", "V F", "V L", "V C", "V E",
 ];
 
 /// How often each thing occurred, by name.

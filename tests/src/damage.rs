@@ -10,7 +10,7 @@ use crate::value::{Value, UNIT};
 /// The places of the state that a history tells of.
 const LINE_FLAGS: &[u8] = b"LCE";
 
-/// Puts a raw value into set or state. None if the set has no such line or token.
+/// Puts a raw value into set or state. None if the set has no such line, curve or token.
 pub fn damage(control: &mut Control, line: &HostLine) -> Option<()> {
     if !matches!(line, HostLine::Place { letter, .. } if !LINE_FLAGS.contains(letter)) {
         control.witness.damage();
@@ -31,6 +31,12 @@ pub fn damage(control: &mut Control, line: &HostLine) -> Option<()> {
             control.set.damage(|written, _| written.swap(first, second));
         }
         HostLine::Token { rank, place, token } => put_token(control, rank, HEAD + place, plain(token))?,
+        HostLine::CurveToken { number, place, token } => {
+            control.set.damage_curves(|curves| curves.put_token(number, place, plain(token)))?;
+        }
+        HostLine::CurveStart { number, other } => {
+            control.set.damage_curves(|curves| curves.put_start(number, other))?;
+        }
         _ => return None,
     }
     Some(())

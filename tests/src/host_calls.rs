@@ -11,6 +11,7 @@ use crate::synrun::print_orders;
 use crate::text;
 use crate::token::{Comparison, Joint, Keyword, Motion, Name, Scope, Token};
 use crate::value::{Arithmetic, Value, TOP, UNIT};
+use crate::written_curves::CURVES;
 use std::io::{self, Read, Write};
 
 /// Bytes that hold the set text, before the requests.
@@ -19,8 +20,10 @@ const TEXT: usize = 16384;
 const NUMBERS: usize = 37;
 /// The places of a set: the count of lines, where each line starts, the places of 3 curves and of 8 lists of 16 lines, the tokens, an END
 /// behind those of each line.
-const SET: usize = STARTS + LINES + 3 + 8 * (1 + 16) + load::TEXT + 1;
+const SET: usize = CURVE_STARTS + CURVES + 8 * (1 + 16) + load::TEXT + 1;
 const STARTS: usize = 1;
+/// Where each curve starts, 0 for one that the set does not have.
+const CURVE_STARTS: usize = STARTS + LINES;
 /// Those that are answered at once.
 const AT_ONCE: usize = 1024;
 const END: u32 = 0;
@@ -32,11 +35,6 @@ const COUNTS: usize = TIMERS + 8;
 /// The arrays of a state: R, cells, timers that run, locks, cancels, memories.
 const ARRAYS: [usize; 6] = [164, COUNTS + 4, 8, LINES, LINES, LINES];
 
-/// The numbers of the tokens of curves; no random session puts one into a set.
-const COMMA: u32 = 29;
-const FCTDEF: u32 = 30;
-const SYNFCT: u32 = 56;
-
 type Places = Vec<u32>;
 
 /// A session over the pipes of a program.
@@ -47,6 +45,8 @@ pub struct HostCalls<'a, W: Write, R: Read> {
     out: Vec<u8>,
     /// Lines that the set had when it was loaded.
     lines: usize,
+    /// Where its curves then started.
+    curves: [u32; CURVES],
     /// Set and state as last kept.
     kept: (Places, [Places; 6]),
     /// Calls, those with a code, orders.
@@ -57,8 +57,8 @@ pub struct HostCalls<'a, W: Write, R: Read> {
 pub fn run(input: &[u8], requests: impl Write, answers: impl Read) -> Vec<u8> {
     let (set_text, script) = text::split_at_star(input);
     let kept = Default::default();
-    let mut calls =
-        HostCalls { set_text, requests, answers, out: Vec::new(), lines: 0, kept, totals: [0; 3] };
+    let (out, curves, totals) = (Vec::new(), [0; CURVES], [0; 3]);
+    let mut calls = HostCalls { set_text, requests, answers, out, lines: 0, curves, kept, totals };
     let ended = calls.session(script);
     let HostCalls { requests, mut answers, mut out, .. } = calls;
     drop(requests);
@@ -127,6 +127,10 @@ impl<W: Write, R: Read> HostCalls<'_, W, R> {
             HostLine::Token { rank, place, token } => {
                 return self.put_token(rank, HEAD + place, token_number(token))
             }
+            HostLine::CurveToken { number, place, token } => {
+                return self.put_token_at(self.curves[number - 1], place, token_number(token))
+            }
+            HostLine::CurveStart { number, other } => return self.put_curve(number, other),
         }
         Ok(Some(()))
     }
@@ -139,6 +143,7 @@ impl<W: Write, R: Read> HostCalls<'_, W, R> {
         let [code, line, ..] = self.numbers()?;
         self.kept = (self.set()?, self.state()?);
         self.lines = self.kept.0[0] as usize;
+        self.curves.copy_from_slice(&self.kept.0[CURVE_STARTS..CURVE_STARTS + CURVES]);
         writeln!(self.out, "L {code} {line}")
     }
 
@@ -224,13 +229,28 @@ impl<W: Write, R: Read> HostCalls<'_, W, R> {
         if rank >= self.lines {
             return Ok(None);
         }
+        let start = self.set()?[STARTS + rank];
+        self.put_token_at(start, place, token)
+    }
+
+    /// The same for the line that starts at this place of the set; at 0 there is none.
+    fn put_token_at(&mut self, start: u32, place: usize, token: u32) -> io::Result<Option<()>> {
         let set = self.set()?;
-        let start = set[STARTS + rank] as usize;
+        let start = start as usize;
         let line = set.get(start..).unwrap_or_default().iter().take_while(|token| **token != END);
-        if place >= line.count() {
+        if start == 0 || place >= line.count() {
             return Ok(None);
         }
         self.put_in_set(start + place, token).map(Some)
+    }
+
+    /// A curve starts where another did when it was loaded, or nowhere. None if the set had no such one.
+    fn put_curve(&mut self, number: usize, other: usize) -> io::Result<Option<()>> {
+        let start = other.checked_sub(1).map_or(0, |other| self.curves[other]);
+        if other > 0 && start == 0 {
+            return Ok(None);
+        }
+        self.put_in_set(CURVE_STARTS + number - 1, start).map(Some)
     }
 
     fn swap(&mut self, first: usize, second: usize) -> io::Result<Option<()>> {
@@ -362,9 +382,9 @@ fn token_number(token: Token) -> u32 {
         Token::Setal => 52,
         Token::Lock => 53,
         Token::Unlock => 54,
-        Token::Comma => COMMA,
-        Token::Fctdef => FCTDEF,
-        Token::Synfct => SYNFCT,
+        Token::Comma => 29,
+        Token::Fctdef => 30,
+        Token::Synfct => 56,
         Token::Axis(axis) => 56 + u32::from(axis),
         Token::Number(number) if !number.fits => number_token(TOP + UNIT),
         Token::Number(number) => number_token(number.value),

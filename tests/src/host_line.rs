@@ -4,6 +4,7 @@ use crate::beat_line::{input_word, mode, numbers, BeatLine};
 use crate::control::BUFFER;
 use crate::fields::{fields, signed, unsigned};
 use crate::token::{self, Token};
+use crate::written_curves::CURVES;
 use std::ops::RangeInclusive;
 
 /// The longest order buffer and number list that a line may ask for.
@@ -52,6 +53,17 @@ pub enum HostLine {
         place: usize,
         token: Token,
     },
+    /// A token of the line that was loaded as a curve.
+    CurveToken {
+        number: usize,
+        place: usize,
+        token: Token,
+    },
+    /// A curve starts where another did when it was loaded, or nowhere for 0.
+    CurveStart {
+        number: usize,
+        other: usize,
+    },
 }
 
 impl HostLine {
@@ -75,6 +87,7 @@ impl HostLine {
             (b"V", [letter, index, value]) => state_place(letter, index, value),
             (b"S", [letter, first, second]) => set_place(letter, first, second),
             (b"T", [rank, place, text]) => token_place(rank, place, text),
+            (b"F", [number, place, text]) => curve_token(number, place, text),
             _ => None,
         }
     }
@@ -128,17 +141,32 @@ fn set_place(letter: &[u8], first: &[u8], second: &[u8]) -> Option<HostLine> {
         b"I" => Some(HostLine::LineScope { rank: rank(first)?, ids: unsigned(second, 1)? == 1 }),
         b"C" if unsigned(first, 0).is_some() => Some(HostLine::LineCount(unsigned(second, 255)? as usize)),
         b"X" => Some(HostLine::SwapLines(rank(first)?, rank(second)?)),
+        b"F" => Some(HostLine::CurveStart { number: curve(first)?, other: below(second, CURVES as i64)? }),
         _ => None,
     }
 }
 
-/// `T rank place token`, one token of set text.
+/// `T rank place token`
 fn token_place(rank_field: &[u8], place: &[u8], text: &[u8]) -> Option<HostLine> {
-    let token = match token::tokens(text)?[..] {
-        [token] => token,
-        _ => return None,
-    };
-    Some(HostLine::Token { rank: rank(rank_field)?, place: below(place, 4096)?, token })
+    Some(HostLine::Token { rank: rank(rank_field)?, place: below(place, 4096)?, token: one_token(text)? })
+}
+
+/// `F number place token`
+fn curve_token(number: &[u8], place: &[u8], text: &[u8]) -> Option<HostLine> {
+    Some(HostLine::CurveToken { number: curve(number)?, place: below(place, 4096)?, token: one_token(text)? })
+}
+
+/// One token of set text.
+fn one_token(text: &[u8]) -> Option<Token> {
+    match token::tokens(text)?[..] {
+        [token] => Some(token),
+        _ => None,
+    }
+}
+
+/// The number of a curve.
+fn curve(field: &[u8]) -> Option<usize> {
+    below(field, CURVES as i64).filter(|number| *number > 0)
 }
 
 fn rank(field: &[u8]) -> Option<usize> {

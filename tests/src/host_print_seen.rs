@@ -7,7 +7,7 @@ use crate::print::BUFFER;
 
 const CODES: [usize; 3] = [0, 22, 24];
 /// Lines of a script just before a print that gives code 0.
-const BEFORE: [&str; 11] = ["A", "M", "B", "L", "U", "C", "R", "N", "G", "V M", "T"];
+const BEFORE: [&str; 12] = ["A", "M", "B", "L", "U", "C", "R", "N", "G", "V M", "T", "F"];
 /// What is counted beside the codes, and when it is there.
 const PATHS: [(&str, fn(&HostPrint) -> bool); 14] = [
     ("0 in 4096", |print| print.code == 0 && print.buffer == BUFFER),

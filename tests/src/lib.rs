@@ -1,7 +1,7 @@
 //! An independent interpreter of set text and beats, and what compares a control with it.
 //!
-//! The interpreter: `token`, `parse`, `tree`, `check`, `load`, `set`, `state`, `fifo`, `beat`, `evaluate`,
-//! `curve`, `variables`, `control`, `print`. Its flags are held against `history` by `witness`.
+//! The interpreter: `token`, `parse`, `tree`, `check`, `load`, `set`, `written_curves`, `state`, `fifo`, `beat`,
+//! `evaluate`, `curve`, `variables`, `control`, `print`. Its flags are held against `history` by `witness`.
 //! The programs: `synrun`, `synprint`, `host_session`. The rest makes inputs for them and compares what they print.
 
 pub mod beat;
@@ -48,3 +48,4 @@ pub mod tree;
 pub mod value;
 pub mod variables;
 pub mod witness;
+pub mod written_curves;

@@ -14,7 +14,7 @@ pub const BUFFER: usize = 4096;
 pub fn print(set: &Set, slip: Slip) -> Result<Vec<u8>, Code> {
     set.lines()?;
     let lines = set.turns().iter().map(|rank| &set.written()[*rank]);
-    let printed: Vec<Vec<u8>> = set.written_curves().iter().chain(lines).map(|one| line(one, slip)).collect();
+    let printed: Vec<Vec<u8>> = set.written_curves().chain(lines).map(|one| line(one, slip)).collect();
     let mut print = printed.join(&b'\n');
     if slip == Slip::PrintEndsInLf {
         print.push(b'\n');

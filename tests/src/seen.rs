@@ -2,6 +2,7 @@
 
 use crate::beat::Turn;
 use crate::code::Code;
+use crate::set::Set;
 use crate::token::{Keyword, Name};
 use crate::tree::{Line, Variable};
 use crate::witness::Witness;
@@ -30,6 +31,11 @@ const CURVE_EVENTS: [&str; 33] = [
     "SYNFCT step 5", "SYNFCT step 6", "SYNFCT at the lower limit", "SYNFCT at the upper limit",
     "SYNFCT within", "SYNFCT write 33", "SYNFCT write 34",
 ];
+/// What a beat finds of damaged curves.
+const DAMAGE_EVENTS: [&str; 5] = [
+    "curve damage 22 by a code of 4 to 7", "curve damage 22 by limits", "curve damage 22 by a number",
+    "curve damage 22 by a curve gone", "curve damage in use",
+];
 /// What is counted for each keyword; the bare word is for lines without.
 const BY_KEYWORD: [(&str, &[&str]); 8] = [
     ("act", &["", " WHEN", " WHENEVER", " FROM", " EVERY"]),
@@ -55,7 +61,8 @@ impl Seen {
     pub fn counting() -> Seen {
         let by_keyword =
             BY_KEYWORD.iter().flat_map(|(way, words)| words.iter().map(move |word| [way, *word].concat()));
-        let names = EVENTS.iter().chain(&CURVE_EVENTS).map(|name| name.to_string()).chain(by_keyword);
+        let single = EVENTS.iter().chain(&CURVE_EVENTS).chain(&DAMAGE_EVENTS);
+        let names = single.map(|name| name.to_string()).chain(by_keyword);
         Seen { counts: Some(names.map(|name| (name, 0)).collect()), ..Seen::default() }
     }
 
@@ -64,6 +71,15 @@ impl Seen {
             match counts.get_mut(event) {
                 Some(count) => *count += 1,
                 None => panic!("not a counted event: {event}"),
+            }
+        }
+    }
+
+    /// Notes what a beat finds of the curves of this set, if they are damaged.
+    pub fn curve_damage(&mut self, set: &Set) {
+        if self.counts.is_some() {
+            if let Some(event) = set.curve_damage() {
+                self.note(event);
             }
         }
     }

@@ -5,6 +5,7 @@ use crate::code::Code;
 use crate::slip::Slip;
 use crate::token::{Number, Scope, Token};
 use crate::tree::{Curve, Line};
+use crate::written_curves::{CurveFault, WrittenCurves, CURVES};
 
 /// Lines that a set may have, FCTDEF lines among them.
 pub const LINES: usize = 32;
@@ -14,8 +15,8 @@ pub const HEAD: usize = 3;
 
 #[derive(Clone, Default)]
 pub struct Set {
-    /// Each FCTDEF line's tokens, numbers in plain form.
-    written_curves: Vec<Vec<Token>>,
+    /// The FCTDEF lines.
+    curves: WrittenCurves,
     /// Each numbered line's tokens, numbers in plain form.
     written: Vec<Vec<Token>>,
     /// The number of numbered lines; other than `written.len()` only by damage.
@@ -30,10 +31,10 @@ pub struct Set {
 impl Set {
     /// The set of these lines, which have passed loading.
     pub fn new(curves: &[Vec<Token>], lines: &[Vec<Token>], slip: Slip) -> Set {
-        let (written_curves, written) = (stored(curves), stored(lines));
+        let (curves, written) = (WrittenCurves::new(stored(curves)), stored(lines));
         let rank_of = |line: &Vec<Token>| written.iter().position(|other| number(other) == number(line));
         let turns: Vec<usize> = lines.iter().filter_map(rank_of).collect();
-        let mut set = Set { written_curves, count: written.len(), written, slip, ..Set::default() };
+        let mut set = Set { curves, count: written.len(), written, slip, ..Set::default() };
         set.examine();
         if slip == Slip::TextOrder {
             set.turns = turns;
@@ -68,14 +69,14 @@ impl Set {
     }
 
     /// The FCTDEF lines as written.
-    pub fn written_curves(&self) -> &[Vec<Token>] {
-        &self.written_curves
+    pub fn written_curves(&self) -> impl Iterator<Item = &Vec<Token>> {
+        self.curves.written()
     }
 
     /// Both hold the same lines as written.
     pub fn is_same(&self, other: &Set) -> bool {
         let same_lines = self.written == other.written && self.count == other.count;
-        same_lines && self.written_curves == other.written_curves
+        same_lines && self.written_curves().eq(other.written_curves())
     }
 
     /// Damages the numbered lines by `change` and looks anew whether the set is sound.
@@ -84,10 +85,30 @@ impl Set {
         self.examine();
     }
 
-    /// Damages the FCTDEF lines.
-    pub fn damage_curves(&mut self, change: impl FnOnce(&mut Vec<Vec<Token>>)) {
-        change(&mut self.written_curves);
+    /// Damages the FCTDEF lines, and gives what `change` does.
+    pub fn damage_curves<T>(&mut self, change: impl FnOnce(&mut WrittenCurves) -> T) -> T {
+        let given = change(&mut self.curves);
         self.examine();
+        given
+    }
+
+    /// What damage has made of the curves, if the lines are sound: for the coverage report.
+    pub fn curve_damage(&self) -> Option<&'static str> {
+        if !(1..=CURVES).any(|number| self.curves.is_changed(number)) {
+            return None;
+        }
+        let lines = self.sound_lines()?;
+        let is_used = |number: usize| lines.iter().any(|line| line.uses(number as i64));
+        Some(match self.curves.sound(Slip::None) {
+            Err(CurveFault::Line) => "curve damage 22 by a code of 4 to 7",
+            Err(CurveFault::Limits) => "curve damage 22 by limits",
+            Err(CurveFault::Number) => "curve damage 22 by a number",
+            Ok(_) if self.trees.is_none() => "curve damage 22 by a curve gone",
+            Ok(_) if (1..=CURVES).any(|number| self.curves.is_changed(number) && is_used(number)) => {
+                "curve damage in use"
+            }
+            Ok(_) => return None,
+        })
     }
 
     fn examine(&mut self) {
@@ -98,23 +119,13 @@ impl Set {
     /// The curves and lines, if they are few enough, each passes the checks from 4 on, numbers rise, and LOCK, UNLOCK
     /// and SYNFCT name what is in the set.
     fn sound_trees(&self) -> Option<(Vec<Curve>, Vec<Line>)> {
-        if self.written_curves.len() + self.count > LINES {
+        if self.written_curves().count() + self.count > LINES {
             return None;
         }
-        let curves = self.sound_curves()?;
+        let curves = self.curves.sound(self.slip).ok()?;
         let lines = self.sound_lines()?;
         let used = lines.iter().all(|line| check::curves_used(line, &curves).is_ok());
         used.then_some((curves, lines))
-    }
-
-    fn sound_curves(&self) -> Option<Vec<Curve>> {
-        let mut curves: Vec<Curve> = Vec::new();
-        for written in &self.written_curves {
-            let next = check::curve(written, false).ok()?;
-            check::curve_allowed(&next, &curves).ok()?;
-            curves.push(next);
-        }
-        curves.is_sorted_by_key(|curve| curve.number).then_some(curves)
     }
 
     fn sound_lines(&self) -> Option<Vec<Line>> {

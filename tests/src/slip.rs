@@ -35,6 +35,10 @@ pub enum Slip {
     CurveWorkedWhole,
     /// Code 13 of a SYNFCT is looked for after code 12.
     UndefinedAfterTwelve,
+    /// A curve of a damaged set is looked at as it was loaded.
+    CurvesAsLoaded,
+    /// A curve is sound in the place of any other.
+    CurveOfAnyNumber,
     /// Two moves of an axis in a line are taken.
     TwoMovesTaken,
     /// FA counts as a move.
@@ -63,7 +67,7 @@ pub enum Slip {
 
 impl Slip {
     /// In what the control prints.
-    pub const PRINTED: [Slip; 22] = [
+    pub const PRINTED: [Slip; 24] = [
         Slip::EveryByLevel,
         Slip::MemoryClearedAtUnlock,
         Slip::MemoryClearedAtSkip,
@@ -78,6 +82,8 @@ impl Slip {
         Slip::CurveUnlimited,
         Slip::CurveWorkedWhole,
         Slip::UndefinedAfterTwelve,
+        Slip::CurvesAsLoaded,
+        Slip::CurveOfAnyNumber,
         Slip::TwoMovesTaken,
         Slip::FaIsAMove,
         Slip::MovIsNoMove,
@@ -100,13 +106,17 @@ impl Slip {
         Slip::TextLocksNotWritten,
     ];
 
-    /// Whether programs of this form can show it: `synrun` has no reset, and `synprint` no beat.
+    /// Whether programs of this form can show it: `synrun` has no reset and no damage, and `synprint` no beat.
     pub fn shows_in(self, form: Form) -> bool {
         match form {
-            Form::Synrun => !self.is_in_prints() && self != Slip::MemoryKeptAtReset,
+            Form::Synrun => !self.is_in_prints() && !self.is_of_hosts(),
             Form::Host | Form::Long => !self.is_in_prints(),
             Form::Print => self.is_in_prints() || self.is_in_loading(),
         }
+    }
+
+    fn is_of_hosts(self) -> bool {
+        [Slip::MemoryKeptAtReset, Slip::CurvesAsLoaded, Slip::CurveOfAnyNumber].contains(&self)
     }
 
     fn is_in_loading(self) -> bool {

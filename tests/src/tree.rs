@@ -104,6 +104,11 @@ impl Line {
         })
     }
 
+    /// Some SYNFCT of this line works the curve of this number.
+    pub fn uses(&self, curve: i64) -> bool {
+        self.synfcts().any(|synfct| synfct.curve == curve)
+    }
+
     /// The line numbers that LOCK and UNLOCK of this line name.
     pub fn lock_targets(&self) -> impl Iterator<Item = i64> + '_ {
         self.actions.iter().filter_map(|action| match action {

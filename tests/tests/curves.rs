@@ -1,4 +1,4 @@
-//! Curves in a set: what sound means for them, which no program of these tests can damage, and a curve's six steps.
+//! Curves in a set: what sound means for them, also for lines that no host session can put there, and a curve's six steps.
 
 use reference::code::Code;
 use reference::control::Control;
@@ -22,28 +22,34 @@ fn line(text: &str) -> Vec<Token> {
     tokens(text.as_bytes()).expect("tokens")
 }
 
-/// Whether the set is sound once its FCTDEF lines are these.
-fn sound_with(curves: &[&str], lines: &str) -> bool {
+/// Whether the set is sound once its curves 1 to 3 have these lines; an empty one stands for none.
+fn sound_with(curves: [&str; 3], lines: &str) -> bool {
     let mut set = set(&format!("{CURVES}{lines}"));
-    set.damage_curves(|written| *written = curves.iter().map(|curve| line(curve)).collect());
+    let written = |curve: &str| Some(line(curve)).filter(|line| !line.is_empty());
+    for (number, curve) in (1..).zip(curves) {
+        set.damage_curves(|curves| curves.put_line(number, written(curve)));
+    }
     set.lines().is_ok()
 }
 
 #[test]
-fn curves_of_a_sound_set_rise_and_are_allowed() {
+fn curves_of_a_sound_set_have_their_numbers_and_are_allowed() {
     let [one, two, three] = [1, 2, 3].map(|number| format!("FCTDEF({number},-1,1,0,0,0,0)"));
-    assert!(sound_with(&[], ""));
-    assert!(sound_with(&[&one, &two, &three], USE));
-    assert!(sound_with(&[&one, &three], USE));
-    assert!(!sound_with(&[&two, &three], USE));
-    assert!(!sound_with(&[&two, &one], USE));
-    assert!(!sound_with(&[&one, &one], USE));
-    assert!(sound_with(&["FCTDEF(1,1,1,0,0,0,0)"], USE));
-    assert!(!sound_with(&["FCTDEF(1,1,0.999,0,0,0,0)"], USE));
-    assert!(!sound_with(&["FCTDEF(0,0,1,0,0,0,0)"], ""));
-    assert!(!sound_with(&["FCTDEF(4,0,1,0,0,0,0)"], ""));
-    assert!(!sound_with(&["FCTDEF(1,0,1,0,0,0)"], ""));
-    assert!(!sound_with(&["ID=2 DO $R[1]=1"], ""));
+    assert!(sound_with(["", "", ""], ""));
+    assert!(sound_with([&one, &two, &three], USE));
+    assert!(sound_with([&one, "", &three], USE));
+    assert!(!sound_with([&one, &three, ""], USE));
+    assert!(!sound_with(["", &two, &three], USE));
+    assert!(sound_with(["", &two, &three], ""));
+    assert!(!sound_with([&two, &three, ""], USE));
+    assert!(!sound_with([&two, &one, ""], USE));
+    assert!(!sound_with([&one, &one, ""], USE));
+    assert!(sound_with(["FCTDEF(1,1,1,0,0,0,0)", "", ""], USE));
+    assert!(!sound_with(["FCTDEF(1,1,0.999,0,0,0,0)", "", ""], USE));
+    assert!(!sound_with(["FCTDEF(0,0,1,0,0,0,0)", "", ""], ""));
+    assert!(!sound_with(["FCTDEF(4,0,1,0,0,0,0)", "", ""], ""));
+    assert!(!sound_with(["FCTDEF(1,0,1,0,0,0)", "", ""], ""));
+    assert!(!sound_with(["ID=2 DO $R[1]=1", "", ""], ""));
 }
 
 #[test]
@@ -51,7 +57,7 @@ fn curves_and_lines_are_together_at_most_32() {
     let lines: String = (1..=LINES - 2).map(|number| format!("ID={number} DO $R[1]=1\n")).collect();
     let mut set = set(&format!("{CURVES}{lines}"));
     assert!(set.lines().is_ok());
-    set.damage_curves(|written| written.push(line("FCTDEF(3,0,1,0,0,0,0)")));
+    set.damage_curves(|curves| curves.put_line(3, Some(line("FCTDEF(3,0,1,0,0,0,0)"))));
     assert_eq!(print(&set, Slip::None), Err(Code::NotSound));
     set.damage(|_, count| *count -= 1);
     assert!(set.lines().is_ok());
@@ -61,9 +67,9 @@ fn curves_and_lines_are_together_at_most_32() {
 fn every_call_refuses_a_set_with_damaged_curves() {
     let mut control = Control::new(Slip::None, Seen::default());
     control.load(format!("{CURVES}{USE}").as_bytes()).expect("the text is taken");
-    control.set.damage_curves(|written| written.swap(0, 1));
+    control.set.damage_curves(|curves| [curves.put_start(1, 2), curves.put_start(2, 1)]);
     assert_eq!([control.lock(1), control.cancel(9), control.reset()], [Code::NotSound; 3]);
-    control.set.damage_curves(|written| written.swap(0, 1));
+    control.set.damage_curves(|curves| [curves.put_start(1, 1), curves.put_start(2, 2)]);
     assert_eq!(control.reset(), Code::Success);
     let printed = print(&control.set, Slip::None).expect("the set is sound");
     assert_eq!(printed, b"FCTDEF(1,0,0,0,0,0,0)\nFCTDEF(2,-1,1,0,0,0,0)\nID=1 DO SYNFCT(1,$R[1],$R[2])");

@@ -1,6 +1,7 @@
 //! Random host sessions: beats, host calls, prints, lent lists and buffers, damage, dumps.
 
 use super::beats::Inputs;
+use super::curve_damage;
 use super::filled::{filled, operands, GROWN};
 use super::{random_set, RandomSet};
 use crate::host_line::LONGEST_PRINT;
@@ -12,10 +13,13 @@ const BUFFERS: [usize; 8] = [2048, 2048, 2047, 0, 4096, 2049, 2055, 2040];
 const PRINT_BUFFERS: [usize; 12] =
     [4096, 4096, 4096, 4095, 4095, 4097, 4098, 4104, 0, 1, LONGEST_PRINT, LONGEST_PRINT];
 const LISTS: [usize; 7] = [14, 14, 14, 13, 15, 0, 32];
-const ILL_FORMED: [&str; 20] = [
+const ILL_FORMED: [&str; 27] = [
     "", "Q", "L", "L 256", "L -1", "R 1", "B A 0 4097 14", "B A 0 2048 33", "V Q 0 0", "V M 32 0", "V O 0 0",
-    "V L 0 2", "S C 1 1", "T 0 0 #", "N 1000000", "D 0", "P", "P 8193", "P -1", "P 4096 1",
+    "V L 0 2", "S C 1 1", "T 0 0 #", "N 1000000", "D 0", "P", "P 8193", "P -1", "P 4096 1", "F 0 2 1",
+    "F 4 2 1", "F 1 99 1", "F 1 2 #", "S F 0 0", "S F 4 0", "S F 1 4",
 ];
+/// Lines that are ill-formed if the set does not have the curve.
+const OF_NO_CURVE: [&str; 4] = ["F 1 4 0", "F 3 15 1", "S F 1 2", "S F 2 3"];
 /// Raw values around the edges of soundness.
 const RAW: [i64; 16] = [
     0, 0, 1000, 1, 500, 2000, -1000, -1, 123_456, 999_999_998, 1_000_000_000, -1_000_000_000, 1_000_000_001,
@@ -151,7 +155,9 @@ impl Session<'_> {
 
     fn ill_formed(&mut self) {
         if self.random.chance(20) {
-            let line = self.random.pick(&ILL_FORMED).to_string();
+            let of_no_curve = self.random.chance(15);
+            let lines = if of_no_curve { &OF_NO_CURVE[..] } else { &ILL_FORMED[..] };
+            let line = self.random.pick(lines).to_string();
             self.add(line);
         }
     }
@@ -194,6 +200,10 @@ impl Session<'_> {
         if !self.lines_known {
             return;
         }
+        if !self.set.curves.is_empty() && self.random.chance(20) {
+            let line = curve_damage::growth(self.random, &self.set.curves);
+            return self.add(line);
+        }
         let rank = self.random.below(self.set.lines.len());
         let places = operands(&self.body(rank));
         if !places.is_empty() {
@@ -228,6 +238,9 @@ impl Session<'_> {
         if !self.lines_known {
             return self.state_damage();
         }
+        if !self.set.curves.is_empty() && self.random.chance(35) {
+            return self.curve_damage();
+        }
         let lines = self.set.lines.len();
         let rank = self.random.below(lines);
         if self.random.chance(20) {
@@ -244,6 +257,16 @@ impl Session<'_> {
             }
         };
         self.add(line);
+    }
+
+    /// Damage to curves, and mostly a beat or print on it.
+    fn curve_damage(&mut self) {
+        self.script.extend(curve_damage::damage(self.random, &self.set.curves));
+        match self.random.below(4) {
+            0 => {}
+            1 => self.print(),
+            _ => self.beat(),
+        }
     }
 
     /// A move of the line goes to the axis of the one before it, and may become another.

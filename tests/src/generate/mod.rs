@@ -2,6 +2,7 @@
 
 mod beats;
 mod curve;
+mod curve_damage;
 mod curve_fault;
 mod expression;
 mod fault;
