@@ -6,6 +6,9 @@ use reference::text;
 pub const EQUALS: u32 = 1;
 pub const RIGHT: u32 = 15;
 const NUMBER: u32 = 1 << 31;
+const FCTDEF: u32 = 30;
+/// The lines that a set may have; the slots of its curves stand behind theirs.
+const LINES: usize = 32;
 /// The place of a line's number: behind ID or IDS and =.
 const NUMBER_AT: usize = 2;
 /// Twice the thousandths of a number that is too large or has too many digits.
@@ -135,26 +138,40 @@ pub struct Laid {
     pub starts: Vec<usize>,
 }
 
-pub fn laid(lines: &[Vec<u32>]) -> Laid {
-    let mut set = Box::new([0; SIZE]);
-    let mut starts = Vec::new();
-    let mut at = FIRST;
-    set[0] = lines.len() as u32;
-    for (rank, line) in lines.iter().enumerate() {
-        starts.push(at);
-        set[1 + rank] = at as u32;
-        set[at..at + line.len()].copy_from_slice(line);
-        at += line.len() + 1;
+impl Laid {
+    /// Puts lines from a place on, each with its slot, the place that says where it begins. Gives the place behind them.
+    fn put<'a>(&mut self, mut at: usize, lines: impl Iterator<Item = (usize, &'a Vec<u32>)>) -> usize {
+        for (slot, line) in lines {
+            self.set[slot] = at as u32;
+            self.set[at..at + line.len()].copy_from_slice(line);
+            at += line.len() + 1;
+        }
+        at
     }
-    Laid { set, starts }
 }
 
-/// The set that a taken text makes: its lines by rising number, without the marks of written points.
+pub fn laid(lines: &[Vec<u32>]) -> Laid {
+    with_curves(&[], lines)
+}
+
+/// Curves in the slots of their numbers, then lines in those of their ranks.
+fn with_curves(curves: &[Vec<u32>], lines: &[Vec<u32>]) -> Laid {
+    let mut laid = Laid { set: Box::new([0; SIZE]), starts: Vec::new() };
+    let slot = |line: &Vec<u32>| LINES + ((line[NUMBER_AT] - NUMBER) / 2000) as usize;
+    let at = laid.put(FIRST, curves.iter().map(|line| (slot(line), line)));
+    laid.put(at, (1..).zip(lines));
+    laid.set[0] = lines.len() as u32;
+    laid.starts = (1..=lines.len()).map(|slot| laid.set[slot] as usize).collect();
+    laid
+}
+
+/// The set that a taken text makes: its curves and its lines by rising number, without the marks of written points.
 pub fn set(text: &[u8]) -> Laid {
     let bare = text::lines(text).map(text::without_comment);
     let read = |line| tokens(std::str::from_utf8(line).expect("a taken line")).expect("tokens");
-    let mut lines: Vec<Vec<u32>> = bare.map(read).filter(|line| !line.is_empty()).collect();
-    lines.iter_mut().flatten().filter(|token| **token >= NUMBER).for_each(|token| *token &= !1);
-    lines.sort_by_key(|line| line[NUMBER_AT]);
-    laid(&lines)
+    let mut all: Vec<Vec<u32>> = bare.map(read).filter(|line| !line.is_empty()).collect();
+    all.iter_mut().flatten().filter(|token| **token >= NUMBER).for_each(|token| *token &= !1);
+    all.sort_by_key(|line| line[NUMBER_AT]);
+    let (curves, lines): (Vec<_>, Vec<_>) = all.into_iter().partition(|line| line[0] == FCTDEF);
+    with_curves(&curves, &lines)
 }
