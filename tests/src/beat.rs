@@ -3,6 +3,7 @@
 use crate::code::Code;
 use crate::history::Entry;
 use crate::order::Order;
+use crate::reading::CHANNELS;
 use crate::seen::Seen;
 use crate::set::Set;
 use crate::slip::Slip;
@@ -33,8 +34,10 @@ pub enum Turn {
 pub struct Inputs<'a> {
     pub mode: Mode,
     pub word: u16,
-    /// Eight analogues, then the positions X to W.
-    pub numbers: &'a [i32],
+    /// The values of the analogues, as the readings of their channels give them.
+    pub analogues: [Value; CHANNELS],
+    /// X to W.
+    pub positions: &'a [i32],
 }
 
 pub struct Beat<'a> {

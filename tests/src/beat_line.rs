@@ -1,14 +1,16 @@
-//! A beat line of a script: mode, input word and up to 14 numbers.
+//! A beat line of a script: mode, input word, up to eight readings and up to six positions.
 
 use crate::beat::Mode;
-use crate::control::NUMBERS;
+use crate::control::POSITIONS;
 use crate::fields::{fields, signed, unsigned};
+use crate::reading::{Reading, CHANNELS};
 
 #[derive(Clone, PartialEq, Eq, Debug)]
 pub struct BeatLine {
     pub mode: Mode,
     pub word: u16,
-    pub numbers: Vec<i32>,
+    pub readings: [Reading; CHANNELS],
+    pub positions: Vec<i32>,
 }
 
 impl BeatLine {
@@ -17,7 +19,26 @@ impl BeatLine {
         let mut fields = fields(line);
         let mode = mode(fields.next()?)?;
         let word = input_word(fields.next()?)?;
-        Some(BeatLine { mode, word, numbers: numbers(fields, NUMBERS)? })
+        BeatLine::lent(mode, word, fields, POSITIONS)
+    }
+
+    /// A beat whose further fields are these: eight readings, then `length` positions. Those left off are 0.
+    pub fn lent<'a>(
+        mode: Mode,
+        word: u16,
+        mut fields: impl Iterator<Item = &'a [u8]>,
+        length: usize,
+    ) -> Option<BeatLine> {
+        let mut readings = [Reading::LEFT_OFF; CHANNELS];
+        for (reading, field) in readings.iter_mut().zip(fields.by_ref()) {
+            *reading = Reading::read(field)?;
+        }
+        let mut positions: Vec<i32> = fields.map(signed).collect::<Option<_>>()?;
+        if positions.len() > length {
+            return None;
+        }
+        positions.resize(length, 0);
+        Some(BeatLine { mode, word, readings, positions })
     }
 }
 
@@ -31,14 +52,4 @@ pub fn mode(field: &[u8]) -> Option<Mode> {
 
 pub fn input_word(field: &[u8]) -> Option<u16> {
     unsigned(field, i64::from(u16::MAX)).map(|word| word as u16)
-}
-
-/// Up to `length` numbers, those left off being 0.
-pub fn numbers<'a>(fields: impl Iterator<Item = &'a [u8]>, length: usize) -> Option<Vec<i32>> {
-    let mut numbers: Vec<i32> = fields.map(signed).collect::<Option<_>>()?;
-    if numbers.len() > length {
-        return None;
-    }
-    numbers.resize(length, 0);
-    Some(numbers)
 }

@@ -20,6 +20,7 @@ pub enum Code {
     BufferTooShort = 20,
     BadNumbers = 21,
     NotSound = 22,
+    ChannelFaulty = 23,
     PrintTooShort = 24,
     ValueOutOfRange = 30,
     ZeroDivisor = 31,

@@ -1,10 +1,12 @@
 //! The control as the host sees it: load, beat, lock, unlock, cancel, reset.
 
-use crate::beat::{set_lock, Beat, Inputs, Mode};
+use crate::beat::{set_lock, Beat, Inputs};
+use crate::beat_line::BeatLine;
 use crate::code::Code;
 use crate::history::{Entry, History};
 use crate::load::{load, Refusal};
 use crate::order;
+use crate::reading::{Channel, Reading, CHANNELS};
 use crate::seen::Seen;
 use crate::set::Set;
 use crate::slip::Slip;
@@ -15,8 +17,8 @@ use crate::witness::Witness;
 
 /// Bytes that the order buffer must have.
 pub const BUFFER: usize = 2048;
-/// Numbers that the host lends to a beat.
-pub const NUMBERS: usize = 14;
+/// Positions that the host lends to a beat.
+pub const POSITIONS: usize = 6;
 
 #[derive(Clone)]
 pub struct Control {
@@ -68,33 +70,32 @@ impl Control {
     }
 
     /// One beat. Orders go to the front of the buffer; with a code nothing changes.
-    pub fn beat(&mut self, mode: Mode, word: u16, numbers: &[i32], buffer: &mut [u8]) -> Answer {
-        self.work_beat(mode, word, numbers, buffer).unwrap_or_else(|code| Answer {
-            code,
-            orders: 0,
-            acted: 0,
+    pub fn beat(&mut self, line: &BeatLine, buffer: &mut [u8]) -> Answer {
+        let answer = self.work_beat(line, buffer);
+        answer.unwrap_or_else(|code| {
+            let alarm = code >= Code::ValueOutOfRange;
+            let event = if alarm { "row through an alarmed beat" } else { "row through a refused beat" };
+            self.seen.row_stays(&self.state.channels, event);
+            Answer { code, orders: 0, acted: 0 }
         })
     }
 
-    fn work_beat(
-        &mut self,
-        mode: Mode,
-        word: u16,
-        numbers: &[i32],
-        buffer: &mut [u8],
-    ) -> Result<Answer, Code> {
+    fn work_beat(&mut self, line: &BeatLine, buffer: &mut [u8]) -> Result<Answer, Code> {
+        let BeatLine { mode, word, readings, ref positions } = *line;
         self.seen.curve_damage(&self.set);
         self.demand_sound()?;
         if buffer.len() < BUFFER {
             return Err(Code::BufferTooShort);
         }
-        if numbers.len() != NUMBERS || !numbers.iter().all(|number| in_range(Value::from(*number))) {
+        if positions.len() != POSITIONS || !positions.iter().all(|place| in_range(Value::from(*place))) {
             return Err(Code::BadNumbers);
         }
-        let inputs = Inputs { mode, word, numbers };
+        let (channels, analogues) = self.read_channels(&readings)?;
+        let inputs = Inputs { mode, word, analogues, positions };
         self.witness.begin_beat(mode);
         let mut beat = Beat::new(self.set.lines()?, &self.state, &inputs, self.slip, &mut self.seen);
         beat.curves = self.set.curves()?;
+        beat.state.channels = channels;
         beat.witness = Some(&mut self.witness);
         let result = beat.work(&self.set);
         let (state, orders, acted) = (beat.state, beat.orders, beat.acted);
@@ -102,12 +103,34 @@ impl Control {
         self.seen.acted(self.set.lines()?, acted, result.is_ok());
         if result.is_ok() || self.slip == Slip::WritesKeptAtAlarm {
             self.state = state;
+        } else if self.slip == Slip::FaultsCountedWhenUndone {
+            self.state.channels = channels;
         }
         result?;
         for (place, order) in buffer.chunks_exact_mut(order::SIZE).zip(&orders) {
             place.copy_from_slice(&order.bytes());
         }
         Ok(Answer { code: Code::Success, orders: orders.len(), acted })
+    }
+
+    /// The records of the channels after a beat with these readings, and the values that it reads.
+    fn read_channels(
+        &mut self,
+        readings: &[Reading; CHANNELS],
+    ) -> Result<([Channel; CHANNELS], [Value; CHANNELS]), Code> {
+        let (mut channels, mut values) = (self.state.channels, [0; CHANNELS]);
+        let places = channels.iter_mut().zip(&mut values).zip(readings);
+        let mut first = Ok(());
+        for ((channel, value), reading) in places {
+            match channel.next(*reading, self.slip, &mut self.seen) {
+                Ok(next) => (*channel, *value) = next,
+                Err(code) => first = first.and(Err(code)),
+            }
+        }
+        if first.is_err() && self.slip == Slip::OthersKeptAt23 {
+            self.state.channels = channels;
+        }
+        first.map(|()| (channels, values))
     }
 
     pub fn lock(&mut self, number: u8) -> Code {
@@ -141,6 +164,10 @@ impl Control {
         self.state.markers.fill(0);
         self.state.params.fill(0);
         self.state.timers.fill(Timer::default());
+        if self.slip == Slip::ChannelsClearedAtReset {
+            self.state.channels.fill(Channel::default());
+        }
+        self.seen.row_stays(&self.state.channels, "row through a reset");
         self.witness.write(Entry::Reset);
         Code::Success
     }

@@ -19,9 +19,9 @@ use std::collections::BTreeMap;
 
 const MOVES: [&str; 4] = ["POS and POS", "POS and MOV", "MOV and POS", "MOV and MOV"];
 const ALARMS: [u8; 5] = [30, 31, 32, 33, 34];
-const HOST_FORMS: [&str; 29] = [
+const HOST_FORMS: [&str; 32] = [
     "A", "M", "B", "L", "U", "C", "R", "P", "N", "K", "G", "D", "T", "F", "S N", "S I", "S C", "S X", "S F",
-    "V O", "V M", "V P", "V R", "V T", "V U", "V F", "V L", "V C", "V E",
+    "V O", "V M", "V P", "V R", "V T", "V U", "V F", "V L", "V C", "V E", "V K", "V B", "V Q",
 ];
 
 /// How often each thing occurred, by name.
@@ -224,9 +224,9 @@ fn expected() -> Vec<String> {
     names.extend([3, 4, 5, 7, 13].map(|code| format!("FCTDEF line, load {code}")));
     names.extend((3..=14).map(|code| format!("SYNFCT line, load {code}")));
     names.extend(["lower above upper", "defined twice", "not defined"].map(|why| format!("load 13, {why}")));
-    names.extend([0, 21].iter().chain(&ALARMS).map(|code| format!("synrun beat {code}")));
+    names.extend([0, 21, 23].iter().chain(&ALARMS).map(|code| format!("synrun beat {code}")));
     for form in ["host", "long"] {
-        names.extend([0, 20, 21, 22].iter().chain(&ALARMS).map(|code| format!("{form} beat {code}")));
+        names.extend([0, 20, 21, 22, 23].iter().chain(&ALARMS).map(|code| format!("{form} beat {code}")));
         for call in ["L", "U", "C"] {
             names.extend([0, 22, 40].map(|code| format!("{form} call {call} {code}")));
         }

@@ -1,7 +1,7 @@
 //! Damage: raw values put into state and set, as a host with a bad memory would give them.
 
 use crate::control::Control;
-use crate::host_line::{indices, HostLine, PLACE_LETTERS};
+use crate::host_line::{indices, written, HostLine, PLACE_LETTERS};
 use crate::set::{plain, scope_token, HEAD};
 use crate::state::State;
 use crate::token::{Number, Token};
@@ -48,9 +48,8 @@ fn put_token(control: &mut Control, rank: usize, place: usize, token: Token) -> 
     Some(())
 }
 
-fn put(state: &mut State, letter: u8, index: usize, value: i32) {
-    let raw = Value::from(value);
-    let flag = value == 1;
+fn put(state: &mut State, letter: u8, index: usize, raw: Value) {
+    let flag = raw == 1;
     match letter {
         b'O' => state.outputs[index - 1] = raw,
         b'M' => state.markers[index] = raw,
@@ -58,10 +57,13 @@ fn put(state: &mut State, letter: u8, index: usize, value: i32) {
         b'R' => state.r[index] = raw,
         b'T' => state.timers[index].value = raw,
         b'U' => state.timers[index].running = flag,
-        b'F' => state.fifo_counts[index - 1] = value as usize,
+        b'F' => state.fifo_counts[index - 1] = raw as usize,
         b'L' => state.lines[index].locked = flag,
         b'C' => state.lines[index].cancelled = flag,
-        _ => state.lines[index].memory = flag,
+        b'E' => state.lines[index].memory = flag,
+        b'K' => state.channels[index - 1].known = flag,
+        b'B' => state.channels[index - 1].bits = raw as u32,
+        _ => state.channels[index - 1].faults = raw as u8,
     }
 }
 
@@ -76,19 +78,22 @@ fn get(state: &State, letter: u8, index: usize) -> Value {
         b'F' => state.fifo_counts[index - 1] as Value,
         b'L' => Value::from(state.lines[index].locked),
         b'C' => Value::from(state.lines[index].cancelled),
-        _ => Value::from(state.lines[index].memory),
+        b'E' => Value::from(state.lines[index].memory),
+        b'K' => Value::from(state.channels[index - 1].known),
+        b'B' => Value::from(state.channels[index - 1].bits),
+        _ => Value::from(state.channels[index - 1].faults),
     }
 }
 
-/// Every place of the state that is not 0: letter, index, value.
-pub fn places(state: &State) -> Vec<(char, usize, Value)> {
+/// Every place of the state that is not 0: letter, index, value as written.
+pub fn places(state: &State) -> Vec<(char, usize, String)> {
     let mut found = Vec::new();
     for letter in PLACE_LETTERS {
         let (first, last) = indices(*letter).unwrap_or((1, 0));
         for index in first as usize..=last as usize {
             let value = get(state, *letter, index);
             if value != 0 {
-                found.push((char::from(*letter), index, value));
+                found.push((char::from(*letter), index, written(*letter, value)));
             }
         }
     }

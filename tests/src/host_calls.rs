@@ -3,9 +3,10 @@
 
 use crate::beat::Mode;
 use crate::beat_line::BeatLine;
-use crate::host_line::{indices, HostLine, PLACE_LETTERS};
+use crate::host_line::{indices, written, HostLine, PLACE_LETTERS};
 use crate::host_session::checksum;
 use crate::load;
+use crate::reading::{Reading, CHANNELS};
 use crate::set::{HEAD, LINES};
 use crate::synrun::print_orders;
 use crate::text;
@@ -32,8 +33,11 @@ const MARKERS: usize = 16;
 const PARAMETERS: usize = MARKERS + 32;
 const TIMERS: usize = PARAMETERS + 32;
 const COUNTS: usize = TIMERS + 8;
-/// The arrays of a state: R, cells, timers that run, locks, cancels, memories.
-const ARRAYS: [usize; 6] = [164, COUNTS + 4, 8, LINES, LINES, LINES];
+/// The arrays of a state: R, cells, timers that run, locks, cancels, memories; of the channels whether each was ever good,
+/// the bits of its last good reading, and its faulty beats in a row.
+const ARRAYS: [usize; 9] = [164, COUNTS + 4, 8, LINES, LINES, LINES, CHANNELS, CHANNELS, CHANNELS];
+/// A state as its arrays.
+type State = [Places; ARRAYS.len()];
 
 type Places = Vec<u32>;
 
@@ -48,7 +52,7 @@ pub struct HostCalls<'a, W: Write, R: Read> {
     /// Where its curves then started.
     curves: [u32; CURVES],
     /// Set and state as last kept.
-    kept: (Places, [Places; 6]),
+    kept: (Places, State),
     /// Calls, those with a code, orders.
     totals: [u32; 3],
 }
@@ -149,8 +153,9 @@ impl<W: Write, R: Read> HostCalls<'_, W, R> {
 
     fn beat(&mut self, number: usize, beat: &BeatLine, length: usize) -> io::Result<()> {
         let mode = u32::from(beat.mode == Mode::Automatic);
-        let mut numbers = vec![mode, beat.word.into(), length as u32, beat.numbers.len() as u32];
-        numbers.extend(beat.numbers.iter().map(|number| *number as u32));
+        let mut numbers = vec![mode, beat.word.into(), length as u32, beat.positions.len() as u32];
+        numbers.extend(beat.readings.iter().flat_map(|reading| reading_numbers(*reading)));
+        numbers.extend(beat.positions.iter().map(|position| *position as u32));
         self.request(b'B', &numbers)?;
         let [code, orders, low, high] = self.numbers()?;
         let acted = u64::from(high) << 32 | u64::from(low);
@@ -193,9 +198,9 @@ impl<W: Write, R: Read> HostCalls<'_, W, R> {
         Ok(set)
     }
 
-    fn state(&mut self) -> io::Result<[Places; 6]> {
+    fn state(&mut self) -> io::Result<State> {
         self.request(b'D', &[])?;
-        let mut state: [Places; 6] = Default::default();
+        let mut state = State::default();
         for (array, places) in state.iter_mut().zip(ARRAYS) {
             *array = self.places(places)?;
         }
@@ -270,9 +275,10 @@ impl<W: Write, R: Read> HostCalls<'_, W, R> {
             let (first, last) = indices(*letter).unwrap_or((1, 0));
             for index in first as usize..=last as usize {
                 let (array, place) = place(*letter, index);
-                let value = state[array][place] as i32;
-                if value != 0 {
-                    writeln!(self.out, "V {} {index} {value}", char::from(*letter))?;
+                let number = state[array][place];
+                if number != 0 {
+                    let value = if *letter == b'B' { number.into() } else { i64::from(number as i32) };
+                    writeln!(self.out, "V {} {index} {}", char::from(*letter), written(*letter, value))?;
                 }
             }
         }
@@ -319,6 +325,15 @@ fn changed<'a>(now: &'a [u32], wanted: &'a [u32]) -> impl Iterator<Item = (usize
         .map(|(at, (_, wanted))| (at, *wanted))
 }
 
+/// A reading's kind, and its bits; a fault has none.
+fn reading_numbers(reading: Reading) -> [u32; 2] {
+    match reading {
+        Reading::Volts(bits) => [0, bits],
+        Reading::Break => [1, 0],
+        Reading::Short => [2, 0],
+    }
+}
+
 /// Where a place of the state stands: the array and the place in it.
 fn place(letter: u8, index: usize) -> (usize, usize) {
     match letter {
@@ -331,7 +346,10 @@ fn place(letter: u8, index: usize) -> (usize, usize) {
         b'U' => (2, index),
         b'L' => (3, index),
         b'C' => (4, index),
-        _ => (5, index),
+        b'E' => (5, index),
+        b'K' => (6, index - 1),
+        b'B' => (7, index - 1),
+        _ => (8, index - 1),
     }
 }
 

@@ -1,20 +1,21 @@
 //! A line of a host session, as HOST-SESSIONS.md describes it.
 
-use crate::beat_line::{input_word, mode, numbers, BeatLine};
+use crate::beat_line::{input_word, mode, BeatLine};
 use crate::control::BUFFER;
 use crate::fields::{fields, signed, unsigned};
+use crate::reading::{bits, is_nan};
 use crate::token::{self, Token};
 use crate::written_curves::CURVES;
 use std::ops::RangeInclusive;
 
-/// The longest order buffer and number list that a line may ask for.
+/// The longest order buffer and list of positions that a line may ask for.
 pub const LONGEST_BUFFER: i64 = 4096;
-pub const LONGEST_LIST: i64 = 32;
+pub const LONGEST_LIST: i64 = 16;
 /// The longest buffer for a print.
 pub const LONGEST_PRINT: usize = 8192;
 
 /// The letters of the places of the state, in the order of a dump.
-pub const PLACE_LETTERS: &[u8] = b"OMPRTUFLCE";
+pub const PLACE_LETTERS: &[u8] = b"OMPRTUFLCEKBQ";
 
 #[derive(Clone, PartialEq, Eq, Debug)]
 pub enum HostLine {
@@ -36,7 +37,7 @@ pub enum HostLine {
     Place {
         letter: u8,
         index: usize,
-        value: i32,
+        value: i64,
     },
     LineNumber {
         rank: usize,
@@ -93,15 +94,15 @@ impl HostLine {
     }
 }
 
-/// `B mode word buffer list numbers..`
+/// `B mode word buffer list readings.. positions..`
 fn lent_beat(fields: &[&[u8]]) -> Option<HostLine> {
     let [first, word, buffer, list, given @ ..] = fields else {
         return None;
     };
     let buffer = unsigned(buffer, LONGEST_BUFFER)? as usize;
     let list = unsigned(list, LONGEST_LIST)? as usize;
-    let numbers = numbers(given.iter().copied(), list)?;
-    Some(HostLine::Beat { beat: BeatLine { mode: mode(first)?, word: input_word(word)?, numbers }, buffer })
+    let beat = BeatLine::lent(mode(first)?, input_word(word)?, given.iter().copied(), list)?;
+    Some(HostLine::Beat { beat, buffer })
 }
 
 fn state_place(letter: &[u8], index: &[u8], value: &[u8]) -> Option<HostLine> {
@@ -110,8 +111,19 @@ fn state_place(letter: &[u8], index: &[u8], value: &[u8]) -> Option<HostLine> {
     };
     let (first, last) = indices(letter)?;
     let index = unsigned(index, last).filter(|index| *index >= first)? as usize;
-    let value = signed(value).filter(|value| values(letter).contains(value))?;
+    let value = match letter {
+        b'B' => i64::from(bits(value).filter(|bits| !is_nan(*bits))?),
+        _ => signed(value).map(i64::from).filter(|value| values(letter).contains(value))?,
+    };
     Some(HostLine::Place { letter, index, value })
+}
+
+/// The value of a place as a script writes it.
+pub fn written(letter: u8, value: i64) -> String {
+    match letter {
+        b'B' => format!("{value:08X}"),
+        _ => value.to_string(),
+    }
 }
 
 /// The first and last index of a place of the state.
@@ -121,17 +133,18 @@ pub fn indices(letter: u8) -> Option<(i64, i64)> {
         b'R' => (0, 163),
         b'T' | b'U' => (0, 7),
         b'F' => (1, 4),
+        b'K' | b'B' | b'Q' => (1, 8),
         b'M' | b'P' | b'L' | b'C' | b'E' => (0, 31),
         _ => return None,
     })
 }
 
-/// The raw values that a place of the state can be given.
-fn values(letter: u8) -> RangeInclusive<i32> {
+/// The raw values that a place of the state can be given; bits are written in hex digits, and are not those of a NaN.
+fn values(letter: u8) -> RangeInclusive<i64> {
     match letter {
-        b'F' => 0..=255,
-        b'U' | b'L' | b'C' | b'E' => 0..=1,
-        _ => i32::MIN..=i32::MAX,
+        b'F' | b'Q' => 0..=255,
+        b'U' | b'L' | b'C' | b'E' | b'K' => 0..=1,
+        _ => i64::from(i32::MIN)..=i64::from(i32::MAX),
     }
 }
 

@@ -75,7 +75,7 @@ impl<'a> Session<'a> {
 
     fn beat(&mut self, beat: &BeatLine, length: usize) -> io::Result<()> {
         let mut buffer = vec![FILL; length];
-        let answer = self.control.beat(beat.mode, beat.word, &beat.numbers, &mut buffer);
+        let answer = self.control.beat(beat, &mut buffer);
         self.totals.count(answer.code, answer.orders);
         let (code, orders, acted) = (answer.code.number(), answer.orders, answer.acted);
         writeln!(self.out, "C {} {code} {orders} {acted} {}", self.number, checksum(&buffer))?;

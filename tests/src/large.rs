@@ -36,7 +36,8 @@ fn last_beat_ill_formed() -> Case {
 /// A beat line of leading zeros.
 fn zeros_without_end() -> Case {
     let zeros = "0".repeat(ZEROS);
-    let input = format!("{EXAMPLE}A {zeros}1 -{zeros}5\nA {zeros}65536\n");
+    let readings = ["00000000"; 8].join(" ");
+    let input = format!("{EXAMPLE}A {zeros}1 {readings} -{zeros}5\nA {zeros}65536\n");
     case("large-leading-zeros", input, "C 1 0 1\nO 1 4 0 7\nE 2\n".into())
 }
 

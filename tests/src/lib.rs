@@ -1,7 +1,7 @@
 //! An independent interpreter of set text and beats, and what compares a control with it.
 //!
 //! The interpreter: `token`, `parse`, `tree`, `check`, `load`, `set`, `written_curves`, `state`, `fifo`, `beat`,
-//! `evaluate`, `curve`, `variables`, `control`, `print`. Its flags are held against `history` by `witness`.
+//! `evaluate`, `curve`, `variables`, `reading`, `control`, `print`. Its flags are held against `history` by `witness`.
 //! The programs: `synrun`, `synprint`, `host_session`. The rest makes inputs for them and compares what they print.
 
 pub mod beat;
@@ -31,6 +31,7 @@ pub mod parse;
 pub mod print;
 pub mod print_seen;
 pub mod random;
+pub mod reading;
 pub mod report;
 pub mod reprint;
 pub mod runner;

@@ -2,6 +2,7 @@
 
 use crate::beat::Turn;
 use crate::code::Code;
+use crate::reading::{Channel, Reading};
 use crate::set::Set;
 use crate::token::{Keyword, Name};
 use crate::tree::{Line, Variable};
@@ -36,6 +37,15 @@ const DAMAGE_EVENTS: [&str; 5] = [
     "curve damage 22 by a code of 4 to 7", "curve damage 22 by limits", "curve damage 22 by a number",
     "curve damage 22 by a curve gone", "curve damage in use",
 ];
+/// What is counted of readings and channels.
+const READING_EVENTS: [&str; 27] = [
+    "reading +0", "reading -0", "reading below the normal numbers", "reading exact", "reading under a half",
+    "reading over a half", "reading half down to even", "reading half up to even", "reading below zero",
+    "reading of the top", "reading just under the top", "reading just over the top", "reading out of range",
+    "reading +infinity", "reading -infinity", "reading quiet NaN", "reading signalling NaN", "reading break",
+    "reading short", "23, never good", "23 after 25 faulty beats", "row of 1 ends", "row of 24 ends",
+    "row of 25 ends", "row through a refused beat", "row through an alarmed beat", "row through a reset",
+];
 /// What is counted for each keyword; the bare word is for lines without.
 const BY_KEYWORD: [(&str, &[&str]); 8] = [
     ("act", &["", " WHEN", " WHENEVER", " FROM", " EVERY"]),
@@ -61,8 +71,8 @@ impl Seen {
     pub fn counting() -> Seen {
         let by_keyword =
             BY_KEYWORD.iter().flat_map(|(way, words)| words.iter().map(move |word| [way, *word].concat()));
-        let single = EVENTS.iter().chain(&CURVE_EVENTS).chain(&DAMAGE_EVENTS);
-        let names = single.map(|name| name.to_string()).chain(by_keyword);
+        let events = EVENTS.iter().chain(&CURVE_EVENTS).chain(&DAMAGE_EVENTS).chain(&READING_EVENTS);
+        let names = events.map(|name| name.to_string()).chain(by_keyword);
         Seen { counts: Some(names.map(|name| (name, 0)).collect()), ..Seen::default() }
     }
 
@@ -114,6 +124,55 @@ impl Seen {
             _ if self.counts.is_none() => {}
             None => self.note(&format!("SYNFCT {way} {}", label(variable))),
             Some(code) => self.note(&format!("SYNFCT {work} {}", code.number())),
+        }
+    }
+
+    /// Notes what a channel sends.
+    pub fn reading(&mut self, reading: Reading) {
+        if self.counts.is_some() {
+            match reading {
+                Reading::Break => self.note("reading break"),
+                Reading::Short => self.note("reading short"),
+                Reading::Volts(bits) => self.volts(bits),
+            }
+        }
+    }
+
+    fn volts(&mut self, bits: u32) {
+        let size = bits & 0x7FFF_FFFF;
+        self.note(match size {
+            0 if bits == 0 => return self.note("reading +0"),
+            0 => "reading -0",
+            1..0x0080_0000 => "reading below the normal numbers",
+            0x4974_23FF => "reading just under the top",
+            0x4974_2400 => "reading of the top",
+            0x4974_2401 => "reading just over the top",
+            0x4974_2402..0x7F80_0000 => "reading out of range",
+            0x7F80_0000 if bits == size => "reading +infinity",
+            0x7F80_0000 => "reading -infinity",
+            0x7F80_0001..0x7FC0_0000 => "reading signalling NaN",
+            0x7FC0_0000.. => "reading quiet NaN",
+            _ => fraction(size),
+        });
+        if size != 0 && size <= 0x4974_2400 && bits != size {
+            self.note("reading below zero");
+        }
+    }
+
+    /// Notes a row of faulty beats that a good reading ends.
+    pub fn row_ends(&mut self, faults: u8) {
+        match faults {
+            1 => self.note("row of 1 ends"),
+            24 => self.note("row of 24 ends"),
+            25 => self.note("row of 25 ends"),
+            _ => {}
+        }
+    }
+
+    /// Notes what leaves the channels as they are while one has a row of faulty beats.
+    pub fn row_stays(&mut self, channels: &[Channel], event: &str) {
+        if channels.iter().any(|channel| channel.faults > 0) {
+            self.note(event);
         }
     }
 
@@ -185,6 +244,19 @@ impl Seen {
     /// Each event with its count.
     pub fn counts(&self) -> impl Iterator<Item = (&str, u64)> + '_ {
         self.counts.iter().flatten().map(|(event, count)| (event.as_str(), *count))
+    }
+}
+
+/// Which way a positive number of volts within the range goes, by its odd sixteenths: no other number is a half.
+fn fraction(bits: u32) -> &'static str {
+    let volts = f32::from_bits(bits);
+    let exact = f64::from(volts) * 1000.0;
+    match exact - exact.floor() {
+        0.0 => "reading exact",
+        0.5 if exact.floor() % 2.0 == 0.0 => "reading half down to even",
+        0.5 => "reading half up to even",
+        part if part < 0.5 => "reading under a half",
+        _ => "reading over a half",
     }
 }
 

@@ -35,6 +35,18 @@ pub enum Slip {
     CurveWorkedWhole,
     /// Code 13 of a SYNFCT is looked for after code 12.
     UndefinedAfterTwelve,
+    /// Halves of thousandths of a reading go away from zero.
+    ReadingHalvesAway,
+    /// A reading is cut toward zero.
+    ReadingCut,
+    /// A 26th faulty beat in a row is bridged too.
+    BridgedFor26,
+    /// An alarmed beat counts as a faulty one, and its good readings are kept.
+    FaultsCountedWhenUndone,
+    /// A beat refused with 23 keeps what the other channels sent.
+    OthersKeptAt23,
+    /// A reset clears the records of the channels.
+    ChannelsClearedAtReset,
     /// A curve of a damaged set is looked at as it was loaded.
     CurvesAsLoaded,
     /// A curve is sound in the place of any other.
@@ -67,7 +79,7 @@ pub enum Slip {
 
 impl Slip {
     /// In what the control prints.
-    pub const PRINTED: [Slip; 24] = [
+    pub const PRINTED: [Slip; 30] = [
         Slip::EveryByLevel,
         Slip::MemoryClearedAtUnlock,
         Slip::MemoryClearedAtSkip,
@@ -82,6 +94,12 @@ impl Slip {
         Slip::CurveUnlimited,
         Slip::CurveWorkedWhole,
         Slip::UndefinedAfterTwelve,
+        Slip::ReadingHalvesAway,
+        Slip::ReadingCut,
+        Slip::BridgedFor26,
+        Slip::FaultsCountedWhenUndone,
+        Slip::OthersKeptAt23,
+        Slip::ChannelsClearedAtReset,
         Slip::CurvesAsLoaded,
         Slip::CurveOfAnyNumber,
         Slip::TwoMovesTaken,
@@ -116,7 +134,9 @@ impl Slip {
     }
 
     fn is_of_hosts(self) -> bool {
-        [Slip::MemoryKeptAtReset, Slip::CurvesAsLoaded, Slip::CurveOfAnyNumber].contains(&self)
+        let at_reset = [Slip::MemoryKeptAtReset, Slip::ChannelsClearedAtReset];
+        let of_damage = [Slip::CurvesAsLoaded, Slip::CurveOfAnyNumber];
+        at_reset.contains(&self) || of_damage.contains(&self)
     }
 
     fn is_in_loading(self) -> bool {

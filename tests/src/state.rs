@@ -1,5 +1,6 @@
-//! The state of the control: variables, timers, FIFOs, and what is known of each line.
+//! The state of the control: variables, timers, FIFOs, and what is known of each line and each analogue channel.
 
+use crate::reading::{Channel, CHANNELS};
 use crate::set::LINES;
 use crate::value::{in_range, Value, TOP, UNIT};
 
@@ -32,6 +33,7 @@ pub struct State {
     pub timers: [Timer; 8],
     pub fifo_counts: [usize; 4],
     pub lines: [LineState; LINES],
+    pub channels: [Channel; CHANNELS],
 }
 
 impl State {
@@ -44,6 +46,7 @@ impl State {
             timers: [Timer::default(); 8],
             fifo_counts: [0; 4],
             lines: [LineState::default(); LINES],
+            channels: [Channel::default(); CHANNELS],
         }
     }
 
@@ -69,6 +72,7 @@ impl State {
             && (1..=4).all(|fifo| self.fifo_is_sound(fifo))
             && self.lines.iter().all(|line| !line.cancelled || !(line.locked || line.memory))
             && self.lines[lines..].iter().all(|line| *line == LineState::default())
+            && self.channels.iter().all(|channel| channel.is_sound())
     }
 
     fn fifo_is_sound(&self, fifo: usize) -> bool {

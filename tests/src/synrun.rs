@@ -41,7 +41,7 @@ pub fn run(input: &[u8], control: &mut Control, out: &mut dyn Write) -> io::Resu
         let Some(beat) = BeatLine::read(line) else {
             return writeln!(out, "E {}", totals.calls + 1);
         };
-        let answer = control.beat(beat.mode, beat.word, &beat.numbers, &mut buffer);
+        let answer = control.beat(&beat, &mut buffer);
         totals.count(answer.code, answer.orders);
         writeln!(out, "C {} {} {}", totals.calls, answer.code.number(), answer.orders)?;
         print_orders(&buffer, answer.orders, out)?;

@@ -16,8 +16,8 @@ impl Beat<'_> {
         };
         Ok(match variable.name {
             Name::In => Value::from(self.inputs.word >> (index - 1) & 1) * UNIT,
-            Name::Ina => Value::from(self.inputs.numbers[index - 1]),
-            Name::Im => Value::from(self.inputs.numbers[8 + index - 1]),
+            Name::Ina => self.inputs.analogues[index - 1],
+            Name::Im => Value::from(self.inputs.positions[index - 1]),
             Name::Out => state.outputs[index - 1],
             Name::Marker => state.markers[index],
             Name::Param => state.params[index],

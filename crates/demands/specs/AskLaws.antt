@@ -3,6 +3,7 @@ use mathlib.Core.Path.{_≡_, refl, sym, ap, _∙_}
 use mathlib.Core.Logic.{_≢_}
 use mathlib.Core.List.{List, [], _∷_, _++_}
 use Prim.Native.Nat.{ℕ}
+use Rattle.couplers.specs.Channel.{freshChannels}
 use Rattle.engine.specs.declared.state.State.{State}
 use Rattle.engine.specs.Set.{emptySet}
 use Rattle.engine.specs.State.{powerOn}
@@ -25,6 +26,11 @@ load-power-on t = go (outcome t)
         l .state ≡ powerOn
     go (taken rs) = refl
     go (refused c k) = refl
+
+-- so loading clears what the channels kept
+pub load-clears-channels : (t : List ℕ) → loadAnswer t .state .channels ≡ freshChannels
+unfolding powerOn
+load-clears-channels t = ap (λ (st : State). st .channels) (load-power-on t)
 
 -- ON REFUSAL THE SET IS EMPTY TOO
 pub refused-no-set : (t : List ℕ) → loadAnswer t .code ≢ 0 → loadSet t ≡ emptySet

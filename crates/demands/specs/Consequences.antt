@@ -8,7 +8,8 @@ use native.Mathlib.Omega.{arith}
 use native.Mathlib.Nat.{zero-div}
 use lib.Dec.{eqb, ltb}
 use lib.ListN.{length, getD}
-use Rattle.values.specs.Codes.{shortBuffer, wrongNumbers, unsound}
+use Rattle.values.specs.Codes.{shortBuffer, wrongNumbers, unsound, faultyChannel}
+use Rattle.couplers.specs.declared.channel.Channel.{Channel}
 use Rattle.values.specs.Numbers.{clash}
 use Rattle.values.specs.Choice.{either}
 use Rattle.tokens.specs.Token.{WHEN, EVERY, maxActions}
@@ -25,13 +26,13 @@ use Rattle.engine.specs.Sound.{isSound}
 use Rattle.engine.specs.Action.{World, Note, Did, fromValueOrAlarm}
 use Rattle.engine.specs.Actions.{actionsOf}
 use Rattle.engine.specs.Turn.{Entry, beatIn, worked, locks, cancels, resets, Turned, counted, takesTurn, doTurn, turnOf, turnsFrom}
-use Rattle.engine.specs.Beat.{bufferSize, areInputs, Given, beatBegun, wholeBeat, turnedAnswer, beatAnswer}
+use Rattle.engine.specs.Beat.{bufferSize, areInputs, Given, samplesIn, beatBegun, wholeBeat, turnedAnswer, beatAnswer}
 use Rattle.engine.specs.NamedLine.{found}
 use Rattle.engine.specs.Calls.{withLocked, called, lockedCall, lockCall, unlockCall}
 use Rattle.engine.specs.SetCountLaws.{sound-count}
 use Rattle.demands.specs.History.{History, after, isAutomatic, everTrue, wasTrue, takesByRule, triesByRule, actsByRule}
 use Rattle.soundness.specs.Call.{Call, doBeat, doLock, doUnlock, doCancel, doReset}
-use Rattle.demands.specs.Run.{Now, coded, noted, rankOf, codeByRule, cleared, engineRun, Rest, stateBy, begunBy, byRank, cancelledBy, tryByRule, turnByRule, turnsByRule, beatByRule, stepByRule, resetByRule, runByRuleFrom, runByRule, beatenByRule}
+use Rattle.demands.specs.Run.{Now, coded, noted, rankOf, codeByRule, cleared, engineRun, Rest, stateBy, samplesBy, begunBy, byRank, cancelledBy, tryByRule, turnByRule, turnsByRule, beatByRule, stepByRule, resetByRule, runByRuleFrom, runByRule, beatenByRule}
 use Rattle.demands.specs.Acts.{isActed, conditionNow, triesNow, actsNow, actedSince}
 use Rattle.tokens.specs.AnswerLaws.{Ok, is-ok, bind-ok}
 use Rattle.demands.specs.ActionRuleLaws.{noteAll, Noted, actions-noted}
@@ -46,18 +47,19 @@ module _ (s : List ℕ) (v : Rest) (r : History) (g : Given) where
   pub beat-turns : (t : Turned) → beatByRule s v r g ≡ good t →
       (u : Turned) × (turnsByRule s (soundLines s) (soundLines s .count) 0 (beatIn (g .automatic) ∷ r) (begunBy v g) ≡ good u) × (t ≡ record { world = u .world; entries = beatIn (g .automatic) ∷ u .entries })
   unfolding beatByRule
-  beat-turns t = go (isSound s (stateBy (soundLines s) v r)) (ltb (length (g .buffer)) bufferSize) (areInputs (g .lent)) (turnsByRule s (soundLines s) (soundLines s .count) 0 (beatIn (g .automatic) ∷ r) (begunBy v g))
+  beat-turns t = go (isSound s (stateBy (soundLines s) v r)) (ltb (length (g .buffer)) bufferSize) (areInputs (g .lent)) (samplesBy v g .good) (turnsByRule s (soundLines s) (soundLines s .count) 0 (beatIn (g .automatic) ∷ r) (begunBy v g))
     where
-      go : (a b c : Bool) (d : Answer Turned) →
+      go : (a b c h : Bool) (d : Answer Turned) →
           (let x : Answer Turned = elim a [
-            | true ↦ elim b [ true ↦ stop shortBuffer | false ↦ elim c [ true ↦ d >>= λ t. good (record { world = t .world; entries = beatIn (g .automatic) ∷ t .entries }) | false ↦ stop wrongNumbers ] ]
+            | true ↦ elim b [ true ↦ stop shortBuffer | false ↦ elim c [ true ↦ elim h [ true ↦ d >>= λ t. good (record { world = t .world; entries = beatIn (g .automatic) ∷ t .entries }) | false ↦ stop faultyChannel ] | false ↦ stop wrongNumbers ] ]
             | false ↦ stop unsound
           ] in x ≡ good t) → (u : Turned) × (d ≡ good u) × (t ≡ record { world = u .world; entries = beatIn (g .automatic) ∷ u .entries })
-      go true true c d e = clash (cc)
-      go true false true (good u) e = (u, refl, cc)
-      go true false true (stop k) e = clash (cc)
-      go true false false d e = clash (cc)
-      go false b c d e = clash (cc)
+      go true true c h d e = clash (cc)
+      go true false true true (good u) e = (u, refl, cc)
+      go true false true true (stop k) e = clash (cc)
+      go true false true false d e = clash (cc)
+      go true false false h d e = clash (cc)
+      go false b c h d e = clash (cc)
 
   -- what it did for the line of rank k
   beat-done : (t : Turned) (k : ℕ) → k < soundLines s .count → beatByRule s v r g ≡ good t →
@@ -142,9 +144,9 @@ module _ (s : List ℕ) (v : Rest) (r : History) (g : Given) (t : Turned) where
 pub no-bit : (k : ℕ) → isActed 0 k ≡ false
 no-bit k = rw (zero-div (2 ^ k))
 
-acted-good : (st : State) (k : ℕ) (a : Answer Turned) → isActed (turnedAnswer st a .acted) k ≡ true → (t : Turned) × (a ≡ good t) × (isActed (t .world .acted) k ≡ true)
-acted-good st k (good t) e = (t, refl, e)
-acted-good st k (stop c) e = let z : false ≡ true = sym (no-bit k) ∙ e in clash (cc)
+acted-good : (st : State) (kept : List Channel) (k : ℕ) (a : Answer Turned) → isActed (turnedAnswer st kept a .acted) k ≡ true → (t : Turned) × (a ≡ good t) × (isActed (t .world .acted) k ≡ true)
+acted-good st kept k (good t) e = (t, refl, e)
+acted-good st kept k (stop c) e = let z : false ≡ true = sym (no-bit k) ∙ e in clash (cc)
 
 -- ---- of the rule, for one keyword
 
@@ -284,7 +286,7 @@ module _ (s : List ℕ) (cs : List Call) (g : Given) (k : ℕ) where
       isActed (beatAnswer s (engineRun s cs .kept) g .acted) k ≡ true → actedSince k (engineRun s cs .told) ≡ false
   unfolding beatAnswer
   once h w e =
-      let a = acted-good (engineRun s cs .kept) k (wholeBeat s (engineRun s cs .kept) g) e in
+      let a = acted-good (engineRun s cs .kept) (samplesIn (engineRun s cs .kept) g .channels) k (wholeBeat s (engineRun s cs .kept) g) e in
       let d = acts-just (a .0) h (a .1) in
       let line : Line = getD (soundLines s .items) k noLine in
       not-yet (actedSince k (engineRun s cs .told)) (everTrue k (engineRun s cs .history)) (once-so-far s k h w cs)
@@ -297,7 +299,7 @@ module _ (s : List ℕ) (cs : List Call) (g : Given) (k : ℕ) where
       × (conditionNow s (getD (soundLines s .items) k noLine) (before .world) ≡ true) × (wasTrue k (engineRun s cs .history) ≡ false)
   unfolding beatAnswer
   edge h w e =
-      let a = acted-good (engineRun s cs .kept) k (wholeBeat s (engineRun s cs .kept) g) e in
+      let a = acted-good (engineRun s cs .kept) (samplesIn (engineRun s cs .kept) g .channels) k (wholeBeat s (engineRun s cs .kept) g) e in
       let d = acts-just (a .0) h (a .1) in
       let f = every-edge s k (getD (soundLines s .items) k noLine) (after (d .before .entries) (beatIn (g .automatic) ∷ engineRun s cs .history)) (d .before .world) w (sym (d .acted) ∙ a .2) in
       (d .before, d .come, f .0, sym (d .was-before) ∙ f .1)

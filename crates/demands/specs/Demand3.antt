@@ -19,13 +19,13 @@ use Rattle.engine.specs.Set.{noLine, soundLines}
 use Rattle.engine.specs.State.{powerOn}
 use Rattle.engine.specs.Sound.{isSound}
 use Rattle.engine.specs.Turn.{Entry, beatIn, locks, cancels, resets, Turned}
-use Rattle.engine.specs.Beat.{bufferSize, areInputs, Given, beatBegun, beatEnded, wholeBeat, turnedAnswer, buffered, beatAnswer, beatBuffer}
+use Rattle.engine.specs.Beat.{bufferSize, areInputs, Given, samplesIn, beatBegun, beatEnded, wholeBeat, turnedAnswer, buffered, beatAnswer, beatBuffer}
 use Rattle.engine.specs.NamedLine.{foundAt, found}
 use Rattle.engine.specs.Calls.{withLocked, withCancelled, called, lockedCall, lockCall, unlockCall, cancelCall, resetState, resetCall}
 use Rattle.engine.specs.SetCountLaws.{sound-count}
 use Rattle.demands.specs.History.{History, after, isCancelled, isLocked}
 use Rattle.soundness.specs.Call.{Call, doBeat, doLock, doUnlock, doCancel, doReset}
-use Rattle.demands.specs.Run.{Now, coded, entriesOf, rankOf, hosted, beaten, step, runFrom, engineRun, byRank, cancelledBy, lockedBy, remembersBy, memoryBy, Rest, restOf, withRest, stateBy, begunBy, endedBy, turnsByRule, beatByRule, codeByRule, hostedByRule, beatenByRule, cleared, resetByRule, stepByRule, runByRuleFrom, runByRule}
+use Rattle.demands.specs.Run.{Now, coded, entriesOf, rankOf, hosted, beaten, step, runFrom, engineRun, byRank, cancelledBy, lockedBy, remembersBy, memoryBy, Rest, restOf, withRest, stateBy, samplesBy, begunBy, endedBy, turnsByRule, beatByRule, codeByRule, hostedByRule, beatenByRule, cleared, resetByRule, stepByRule, runByRuleFrom, runByRule}
 use Rattle.demands.specs.FlagLaws.{byRank-at, lock-locked, cancel-cancelled, cancel-locked, cancel-memory, reset-locked, reset-cancelled, reset-memory, new-locked, new-cancelled, new-memory}
 use Rattle.tokens.specs.AnswerLaws.{Ok, is-ok, bind-ok}
 use Rattle.tokens.specs.ChooseLaws.{choose}
@@ -49,8 +49,9 @@ module _ (s : List ℕ) (v : Rest) (r : History) (g : Given) where
       choose (flaggedTurn (soundLines s) r) (isSound s (stateBy (soundLines s) v r)) _ _ _ _
       (choose (flaggedTurn (soundLines s) r) (ltb (length (g .buffer)) bufferSize) _ _ _ _ refl
       (choose (flaggedTurn (soundLines s) r) (areInputs (g .lent)) _ _ _ _
+      (choose (flaggedTurn (soundLines s) r) (samplesBy v g .good) _ _ _ _
       (ap (λ a. a >>= begins) (turns-same (soundLines s) s (soundLines s .count) 0 (beatIn (g .automatic) ∷ r) (begunBy v g) (sound-count s) (omega arith))
-      ∙ beat-begun (turnsByRule s (soundLines s) (soundLines s .count) 0 (beatIn (g .automatic) ∷ r) (begunBy v g))) refl)) refl
+      ∙ beat-begun (turnsByRule s (soundLines s) (soundLines s .count) 0 (beatIn (g .automatic) ∷ r) (begunBy v g))) refl) refl)) refl
 
   beat-quiet : Ok (λ t. byRank (cancelledBy (soundLines s) (after (t .entries) r)) ≡ byRank (cancelledBy (soundLines s) r)) (beatByRule s v r g)
   unfolding beatByRule
@@ -60,8 +61,9 @@ module _ (s : List ℕ) (v : Rest) (r : History) (g : Given) where
       either (Ok P) (isSound s (stateBy (soundLines s) v r))
       (λ e. either (Ok P) (ltb (length (g .buffer)) bufferSize) (λ e. tt)
       (λ e. either (Ok P) (areInputs (g .lent))
+      (λ e. either (Ok P) (samplesBy v g .good)
       (λ e. bind-ok P a _ (λ t q. is-ok _ a t q (turns-quiet (soundLines s) s (soundLines s .count) 0 (beatIn (g .automatic) ∷ r) (begunBy v g)) .0))
-      (λ e. tt))) (λ e. tt)
+      (λ e. tt)) (λ e. tt))) (λ e. tt)
 
 -- ---- states by their flags
 
@@ -84,7 +86,7 @@ module _ (s : List ℕ) (n : Now Rest) where
       st = stateBy (soundLines s) (n .kept) (n .history)
 
       go : (a : Answer Turned) → Ok (λ t. byRank (cancelledBy (soundLines s) (after (t .entries) (n .history))) ≡ byRank (cancelledBy (soundLines s) (n .history))) a →
-          (let f : Answer Turned = a >>= flaggedTurn (soundLines s) (n .history) in beaten g (turnedAnswer st f) (buffered (g .buffer) f) (entriesOf f) (withFlags s n)) ≡ withFlags s (beatenByRule g a n)
+          (let f : Answer Turned = a >>= flaggedTurn (soundLines s) (n .history) in beaten g (turnedAnswer st (samplesIn st g .channels) f) (buffered (g .buffer) f) (entriesOf f) (withFlags s n)) ≡ withFlags s (beatenByRule g a n)
       go (good t) q = rw q
       go (stop c) q = refl
 

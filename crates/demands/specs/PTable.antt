@@ -15,13 +15,15 @@ use Rattle.engine.specs.Order.{fourBytes, orderBytes}
 use Rattle.values.specs.Complement.{twosComplement}
 use Rattle.tokens.specs.Descent.{isIndex, indexOf, isIndexed, indexAt, joined, more, readProduct, readSum, readRest, readExpression, readVariable, operandFrom, readOperand, readClose, readTruth, sumAt, expressionAt}
 use Rattle.tokens.specs.Index.{isInside}
-use Rattle.working.specs.Variables.{numberCount, cellOf, beatCount, fifoValue, fifoAt, variableValue}
+use Rattle.working.specs.Variables.{positionCount, cellOf, beatCount, fifoValue, fifoAt, variableValue}
 use Rattle.tokens.specs.SingleFault.{lower, opensTooMany, wantingFault, numberFault, readFault, isWritable, writeFault, codeFault, idFault, callFault}
 use Rattle.checking.specs.Fault.{joinSights, sight, countFault, isAmong, areApart, movesFault, numberOf, isRemoval, assignedAt, assignmentAt, commandAt, unindexedAt, actionAt, movesAt, actionsAt, lineParts, bodyAt, restAt, lineAt}
 use Rattle.working.specs.Operators.{joinLogic, joinTruths, joinValues}
 use Rattle.working.specs.Working.{valueOver, conditionValue, rightValue}
 use Rattle.engine.specs.Set.{linesFrom, linesRead, rankIn, namesKnown, curvesSound, allKnown, namedLines, soundLines, emptySet, withoutMark, withLine}
 use Rattle.engine.specs.declared.state.State.{State}
+use Rattle.couplers.specs.Conversion.{nearestEven, signedThousandths, thousandthsOf}
+use Rattle.couplers.specs.Channel.{freshChannels, zeroReadings, isChannel, areChannels, allGood, valuesSampled, channelsSampled, sampledAll}
 use Rattle.engine.specs.State.{powerOn}
 use Rattle.engine.specs.Timers.{grownCells}
 use Rattle.engine.specs.Cells.{inputCells, beatCells}
@@ -95,7 +97,7 @@ answers code = (code, 0, 0, [])
 
 -- a beat in AUTOMATIC with this input word
 abbrev pub on : ℕ → Call
-on word = doBeat (record { automatic = true; word = word; lent = replicate numberCount (pos 0); buffer = replicate bufferSize lentByte })
+on word = doBeat (record { automatic = true; word = word; readings = zeroReadings; lent = replicate positionCount (pos 0); buffer = replicate bufferSize lentByte })
 
 -- what the control gave: the load's code and line, each call's reply, and $R[1] afterwards
 abbrev pub shown : Loaded → Now State → ℕ × ℕ × List Shown × ℤ
@@ -166,5 +168,5 @@ cases =
 
 -- THE TABLE: each case gives what document 01 says, markers by document 02
 pub table : map outcomeOf cases ≡ map expected cases
-unfolding joinLogic beatCount fifoValue fifoAt fits appendAnswer appended shifted removeAnswer removed oldestOf newestOf sumFirst sumAll totalOf countOf cleared emptyAnswer emptied millisOf writtenTimer sumOf differenceOf productOf quotientOf negationOf feedOf signOf inRange valued lessThan equalTo wholeUnits nearestUnits markerOf outputOf grownTimer twosComplement fourBytes orderBytes isIndex indexOf isIndexed indexAt joined more readProduct readSum readRest readExpression readVariable operandFrom readOperand readClose readTruth sumAt expressionAt isInside cellOf variableValue lower opensTooMany wantingFault numberFault readFault joinSights sight isWritable writeFault codeFault idFault callFault countFault numberOf isRemoval assignedAt assignmentAt commandAt unindexedAt actionAt movesAt actionsAt lineParts bodyAt restAt lineAt joinTruths joinValues valueOver conditionValue rightValue linesFrom linesRead rankIn namesKnown curvesSound allKnown namedLines soundLines emptySet powerOn grownCells inputCells beatCells allRanged isCell areCells allZero isFifoSound isFlag areFlags stateSound isSound changeAnswer changed changeFifo writeFifo writeCell writeInside writeTo alarmOf driveOrder driveOf lockOf takenAt assignmentOf commandOf actionOf actionsOf tries acts remembers takesTurn doTurn tryTurn turnOf turnsFrom areInputs beatBegun beatEnded wholeBeat beatAnswer beatBuffer foundAt found called lockedCall lockCall unlockCall cancelCall resetCancelled zeroed resetState resetCall run wordToken written isFit numberToken wordFirst behindPoint numberWith numberFirst signFirst firstToken tokensFrom tokensOf split withoutReturn withoutComment bodies isBlank numbered tokenLines numbersOf leastFrom leastAbove rising withoutMark placed curveSlots setOf factorsGuess productGuess termsGuess sumGuess sumsGuess expressionGuess operandFirst operandGuess actionGuess actionsGuess conditionGuess lineGuess sameTokens ifWritten treeOf operandTokens actionTokens actionsTokens conditionTokens lineTokens operandMeaning rightFault isRemovalTree assignedFault actionFault actionsFault movesOf partsFault lineFault isAmong areApart movesFault actionsNames namesIn eachKnown faultOf tokensFault faultBelow lineBelow keptWith rowsFrom firstNot named outcome loadAnswer loadSet step runFrom cases areFifos withLine
+unfolding joinLogic beatCount fifoValue fifoAt fits appendAnswer appended shifted removeAnswer removed oldestOf newestOf sumFirst sumAll totalOf countOf cleared emptyAnswer emptied millisOf writtenTimer sumOf differenceOf productOf quotientOf negationOf feedOf signOf inRange valued lessThan equalTo wholeUnits nearestUnits markerOf outputOf grownTimer twosComplement fourBytes orderBytes isIndex indexOf isIndexed indexAt joined more readProduct readSum readRest readExpression readVariable operandFrom readOperand readClose readTruth sumAt expressionAt isInside cellOf variableValue lower opensTooMany wantingFault numberFault readFault joinSights sight isWritable writeFault codeFault idFault callFault countFault numberOf isRemoval assignedAt assignmentAt commandAt unindexedAt actionAt movesAt actionsAt lineParts bodyAt restAt lineAt joinTruths joinValues valueOver conditionValue rightValue linesFrom linesRead rankIn namesKnown curvesSound allKnown namedLines soundLines emptySet powerOn grownCells inputCells beatCells allRanged isCell areCells allZero isFifoSound isFlag areFlags stateSound isSound changeAnswer changed changeFifo writeFifo writeCell writeInside writeTo alarmOf driveOrder driveOf lockOf takenAt assignmentOf commandOf actionOf actionsOf tries acts remembers takesTurn doTurn tryTurn turnOf turnsFrom areInputs beatBegun beatEnded wholeBeat beatAnswer beatBuffer foundAt found called lockedCall lockCall unlockCall cancelCall resetCancelled zeroed resetState resetCall run wordToken written isFit numberToken wordFirst behindPoint numberWith numberFirst signFirst firstToken tokensFrom tokensOf split withoutReturn withoutComment bodies isBlank numbered tokenLines numbersOf leastFrom leastAbove rising withoutMark placed curveSlots setOf factorsGuess productGuess termsGuess sumGuess sumsGuess expressionGuess operandFirst operandGuess actionGuess actionsGuess conditionGuess lineGuess sameTokens ifWritten treeOf operandTokens actionTokens actionsTokens conditionTokens lineTokens operandMeaning rightFault isRemovalTree assignedFault actionFault actionsFault movesOf partsFault lineFault isAmong areApart movesFault actionsNames namesIn eachKnown faultOf tokensFault faultBelow lineBelow keptWith rowsFrom firstNot named outcome loadAnswer loadSet step runFrom cases areFifos withLine freshChannels thousandthsOf signedThousandths nearestEven isChannel areChannels allGood valuesSampled channelsSampled sampledAll
 table = refl

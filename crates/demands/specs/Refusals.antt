@@ -1,12 +1,16 @@
 -- A refusal or an alarm returns what was given, for each call; and it adds nothing to the history. Assumes nothing.
-use mathlib.Core.Path.{_≡_, refl}
+use mathlib.Core.Path.{_≡_, refl, ap, _∙_}
 use mathlib.Core.Logic.{_≢_}
 use mathlib.Core.Bool.{Bool, true, false}
 use mathlib.Core.List.{List, [], _∷_}
-use Prim.Native.Nat.{ℕ}
-use lib.Dec.{eqb}
+use Prim.Native.Nat.{ℕ, _<_}
+use lib.Dec.{eqb, ltb}
+use lib.ListN.{length}
 use borrow.Author.Tests.{eqb-true}
-use Rattle.values.specs.Codes.{unsound}
+use Rattle.values.specs.Choice.{either, chosen, refused}
+use Rattle.values.specs.Codes.{wrongNumbers, unsound, faultyChannel}
+use Rattle.couplers.specs.Channel.{channelCount, sampledAt, sampledAll}
+use Rattle.couplers.specs.ChannelLaws.{refused-by-one}
 use Rattle.tokens.specs.Descent.{Answer, good, stop}
 use Rattle.engine.specs.declared.state.State.{State}
 use Rattle.engine.specs.declared.calls.Called.{Called}
@@ -14,9 +18,10 @@ use Rattle.engine.specs.declared.named_line.Found.{Found}
 use Rattle.engine.specs.Set.{soundLines}
 use Rattle.engine.specs.Sound.{isSound}
 use Rattle.engine.specs.Turn.{Entry, locks, cancels, resets, Turned}
-use Rattle.engine.specs.Beat.{Given, wholeBeat, turnedAnswer, buffered, beatAnswer, beatBuffer}
+use Rattle.engine.specs.Beat.{bufferSize, areInputs, Given, samplesIn, wholeBeat, turnedAnswer, buffered, beatEnded, beatAnswer, beatBuffer}
 use Rattle.engine.specs.NamedLine.{found}
 use Rattle.engine.specs.Calls.{withLocked, withCancelled, called, lockedCall, lockCall, unlockCall, cancelCall, resetState, resetCall}
+use Rattle.soundness.specs.CallCodes.{ended-well}
 use Rattle.soundness.specs.Call.{Call, doBeat, doLock, doUnlock, doCancel, doReset}
 use Rattle.demands.specs.History.{after}
 use Rattle.demands.specs.Run.{Now, entriesOf, noted, rankOf, step}
@@ -27,9 +32,31 @@ pub beat-refused : (s : List ℕ) (st : State) (g : Given) → let x = beatAnswe
 unfolding beatAnswer beatBuffer
 beat-refused s st g = go (wholeBeat s st g)
   where
-    go : (a : Answer Turned) → turnedAnswer st a .code ≢ 0 → (turnedAnswer st a .state ≡ st) × (turnedAnswer st a .orders ≡ 0) × (turnedAnswer st a .acted ≡ 0) × (buffered (g .buffer) a ≡ g .buffer) × (entriesOf a ≡ [])
+    go : (a : Answer Turned) → let x = turnedAnswer st (samplesIn st g .channels) a in x .code ≢ 0 → (x .state ≡ st) × (x .orders ≡ 0) × (x .acted ≡ 0) × (buffered (g .buffer) a ≡ g .buffer) × (entriesOf a ≡ [])
     go (good t) h = absurd (h refl)
     go (stop c) h = (refl, refl, refl, refl, refl)
+
+-- BEHIND 22 AND 20 POSITIONS THAT ARE NONE GIVE 21, whatever the channels sent
+module _ (s : List ℕ) (st : State) (g : Given) (sound : isSound s st ≡ true) (long : ltb (length (g .buffer)) bufferSize ≡ false) where
+  pub positions-first : areInputs (g .lent) ≡ false → beatAnswer s st g .code ≡ wrongNumbers
+  unfolding beatAnswer wholeBeat
+  positions-first i = ap (λ (a : Answer Turned). turnedAnswer st (samplesIn st g .channels) a .code) (chosen _ _ _ sound ∙ refused _ _ _ long ∙ refused _ _ _ i)
+
+  -- AND BEHIND 21 A CHANNEL THAT REFUSES GIVES 23
+  pub one-channel-23 : areInputs (g .lent) ≡ true → (k : ℕ) → k < channelCount → sampledAt (st .channels) (g .readings) k .good ≡ false → beatAnswer s st g .code ≡ faultyChannel
+  unfolding beatAnswer wholeBeat
+  one-channel-23 i k l h =
+      ap (λ (a : Answer Turned). turnedAnswer st (samplesIn st g .channels) a .code)
+      (chosen _ _ _ sound ∙ refused _ _ _ long ∙ chosen _ _ _ i ∙ refused _ _ _ (refused-by-one (st .channels) (g .readings) k l h))
+
+-- A BEAT THAT IS REFUSED OR UNDONE KEEPS WHAT THE CHANNELS KEPT, whatever was read
+pub refused-keeps-channels : (s : List ℕ) (st : State) (g : Given) → beatAnswer s st g .code ≢ 0 → beatAnswer s st g .state .channels ≡ st .channels
+refused-keeps-channels s st g h = ap (λ (x : State). x .channels) (beat-refused s st g h .0)
+
+-- one that ends well keeps what the channels made of the readings
+pub good-keeps-samples : (s : List ℕ) (st : State) (g : Given) → beatAnswer s st g .code ≡ 0 → beatAnswer s st g .state .channels ≡ sampledAll (st .channels) (g .readings) .channels
+unfolding beatAnswer beatEnded
+good-keeps-samples s st g z = let w = ended-well s st g z in rw (w .1)
 
 called-refused : (st : State) (f : Found) (change : ℕ → State) → called st f change .code ≢ 0 → called st f change .state ≡ st
 unfolding called
@@ -59,6 +86,11 @@ reset-refused s st = go (isSound s st)
     go : (a : Bool) → let c : Called = elim a [ true ↦ record { code = 0; state = resetState (soundLines s .items) (soundLines s .count) st } | false ↦ record { code = unsound; state = st } ] in c .code ≢ 0 → c .state ≡ st
     go true h = absurd (h refl)
     go false h = refl
+
+-- RESET KEEPS WHAT THE CHANNELS KEPT
+pub reset-keeps-channels : (s : List ℕ) (st : State) → resetCall s st .state .channels ≡ st .channels
+unfolding resetCall resetState
+reset-keeps-channels s st = either (λ (c : Called). c .state .channels ≡ st .channels) (isSound s st) (λ e. refl) (λ e. refl)
 
 -- in a run: a call that is turnedAnswer with a code other than 0 changes no state and adds nothing to the history
 noted-refused : (c : ℕ) (es r : List Entry) → c ≢ 0 → noted c es r ≡ r

@@ -6,7 +6,9 @@ use Prim.Native.Nat.{ℕ, zero, suc, _+_, _/_}
 use lib.Dec.{eqb, ltb}
 use lib.IntN.{ℤ}
 use lib.ListN.{length, getD}
-use Rattle.values.specs.Codes.{shortBuffer, wrongNumbers, unsound, unknownLine}
+use Rattle.values.specs.Codes.{shortBuffer, wrongNumbers, unsound, faultyChannel, unknownLine}
+use Rattle.couplers.specs.declared.channel.Channel.{Channel}
+use Rattle.couplers.specs.declared.channel.Samples.{Samples}
 use Rattle.tokens.specs.Token.{WHEN, FROM, EVERY, maxLines}
 use Rattle.tokens.specs.Descent.{Answer, good, stop, _>>=_}
 use Rattle.working.specs.Operators.{isYes}
@@ -23,7 +25,7 @@ use Rattle.engine.specs.Sound.{isSound}
 use Rattle.engine.specs.Action.{World, fromValueOrAlarm}
 use Rattle.engine.specs.Turn.{Entry, beatIn, worked, locks, cancels, resets, Turned, doTurn}
 use Rattle.engine.specs.Order.{orderSize}
-use Rattle.engine.specs.Beat.{bufferSize, areInputs, buffered, beatAnswer, beatBuffer, Given, beatBegun, beatEnded, wholeBeat}
+use Rattle.engine.specs.Beat.{bufferSize, areInputs, buffered, beatAnswer, beatBuffer, Given, samplesIn, beatBegun, beatEnded, wholeBeat}
 use Rattle.engine.specs.Calls.{lockCall, unlockCall, cancelCall, resetState, resetCall}
 use Rattle.soundness.specs.Call.{Call, doBeat, doLock, doUnlock, doCancel, doReset}
 use Rattle.demands.specs.History.{History, after, isCancelled, isLocked, wasTrue, everTrue, isAutomatic, takesByRule, triesByRule, actsByRule}
@@ -128,13 +130,14 @@ pub record Rest : Type 0 where
   pub r : List ℤ
   pub cells : List ℤ
   pub runs : List Bool
+  pub channels : List Channel
 
 abbrev pub restOf : State → Rest
-restOf st = record { r = st .r; cells = st .cells; runs = st .runs }
+restOf st = record { r = st .r; cells = st .cells; runs = st .runs; channels = st .channels }
 
 -- the state with these flags
 abbrev pub withRest : Rest → List Bool → List Bool → List Bool → State
-withRest v locked cancelled memory = record { r = v .r; cells = v .cells; runs = v .runs; locked = locked; cancelled = cancelled; memory = memory }
+withRest v locked cancelled memory = record { r = v .r; cells = v .cells; runs = v .runs; channels = v .channels; locked = locked; cancelled = cancelled; memory = memory }
 
 abbrev pub withoutFlags : Rest → State
 withoutFlags v = withRest v [] [] []
@@ -143,13 +146,17 @@ withoutFlags v = withRest v [] [] []
 unfoldable pub stateBy : Lines → Rest → History → State
 stateBy ls v r = withRest v (byRank (lockedBy ls r)) (byRank (cancelledBy ls r)) (byRank (memoryBy ls r))
 
+-- what the channels make of the readings
+abbrev pub samplesBy : Rest → Given → Samples
+samplesBy v g = samplesIn (withoutFlags v) g
+
 -- a beat begins without flags
 unfoldable pub begunBy : Rest → Given → World
 begunBy v g = beatBegun (withoutFlags v) g
 
 -- and leaves none
-unfoldable pub endedBy : Rest → World → Rest
-endedBy v x = restOf (beatEnded (withoutFlags v) x)
+unfoldable pub endedBy : Rest → Given → World → Rest
+endedBy v g x = restOf (beatEnded (withoutFlags v) (samplesBy v g .channels) x)
 
 module _ (s : List ℕ) (ls : Lines) where
   -- the condition, worked if the rule says so; then the actions, if the rule says so (a LOCK in text asks the history which lines are cancelled)
@@ -174,7 +181,7 @@ module _ (s : List ℕ) (ls : Lines) where
       turnsByRule m (k + 1) (after (t .entries) r) (t .world) >>= λ u.
       good (record { world = u .world; entries = t .entries ++ u .entries })
 
--- a beat: 22 is asked of the set, the rest and what the history gives of locks, cancels and memory, then 20 and 21; its first entry is its mode
+-- a beat: 22 is asked of the set, the rest and what the history gives of locks, cancels and memory, then 20, 21 and 23; its first entry is its mode
 unfoldable pub beatByRule : List ℕ → Rest → History → Given → Answer Turned
 beatByRule s v r g =
     elim (isSound s (stateBy (soundLines s) v r)) [
@@ -184,8 +191,12 @@ beatByRule s v r g =
             | false ↦
                 elim (areInputs (g .lent)) [
                   | true ↦
-                      turnsByRule s (soundLines s) (soundLines s .count) 0 (beatIn (g .automatic) ∷ r) (begunBy v g) >>= λ t.
-                      good (record { world = t .world; entries = beatIn (g .automatic) ∷ t .entries })
+                      elim (samplesBy v g .good) [
+                        | true ↦
+                            turnsByRule s (soundLines s) (soundLines s .count) 0 (beatIn (g .automatic) ∷ r) (begunBy v g) >>= λ t.
+                            good (record { world = t .world; entries = beatIn (g .automatic) ∷ t .entries })
+                        | false ↦ stop faultyChannel
+                      ]
                   | false ↦ stop wrongNumbers
                 ]
           ]
@@ -211,7 +222,7 @@ hostedByRule c k es n = record { kept = n .kept; history = noted k es (n .histor
 -- a failed beat leaves all as it was
 abbrev pub beatenByRule : Given → Answer Turned → Now Rest → Now Rest
 beatenByRule g (good t) n = record {
-  kept = endedBy (n .kept) (t .world);
+  kept = endedBy (n .kept) g (t .world);
   history = after (t .entries) (n .history);
   told = (doBeat g, record { code = 0; orders = length (t .world .orders) / orderSize; acted = t .world .acted; buffer = buffered (g .buffer) (good t) }) ∷ n .told;
 }

@@ -17,7 +17,7 @@ use Rattle.engine.specs.Set.{noLine, soundLines}
 use Rattle.engine.specs.Action.{World}
 use Rattle.engine.specs.Turn.{beatIn, Turned, takesTurn, turnOf, turnsFrom}
 use Rattle.engine.specs.Order.{orderSize}
-use Rattle.engine.specs.Beat.{buffered, beatAnswer, beatBuffer, Given, beatBegun, wholeBeat, turnedAnswer}
+use Rattle.engine.specs.Beat.{buffered, beatAnswer, beatBuffer, Given, samplesIn, beatBegun, wholeBeat, turnedAnswer}
 use Rattle.soundness.specs.Call.{Call}
 use Rattle.soundness.specs.CallCodes.{ended-well}
 use Rattle.tokens.specs.AnswerLaws.{is-ok}
@@ -113,7 +113,7 @@ module _ (s : List ℕ) (cs : List Call) (g : Given) where
   unfolding beatAnswer
   no-other-bit k h = go (wholeBeat s (engineRun s cs .kept) g) (λ t. acts-no-other s cs g k t h)
     where
-      go : (a : Answer Turned) → ((t : Turned) → a ≡ good t → isActed (t .world .acted) k ≡ false) → isActed (turnedAnswer (engineRun s cs .kept) a .acted) k ≡ false
+      go : (a : Answer Turned) → ((t : Turned) → a ≡ good t → isActed (t .world .acted) k ≡ false) → isActed (turnedAnswer (engineRun s cs .kept) (samplesIn (engineRun s cs .kept) g .channels) a .acted) k ≡ false
       go (good t) f = f t refl
       go (stop c) f = no-bit k
 
@@ -146,7 +146,7 @@ module _ (s : List ℕ) (cs : List Call) (g : Given) where
       orders t = rw (demand-3 s cs) (beat-orders s (runByRule s cs .kept) (runByRule s cs .history) g t)
 
       go : (a : Answer Turned) → ((t : Turned) → a ≡ good t → Gave (OfActed (soundLines s) (t .world .acted)) [] (t .world .orders)) →
-          let x = turnedAnswer (engineRun s cs .kept) a in
+          let x = turnedAnswer (engineRun s cs .kept) (samplesIn (engineRun s cs .kept) g .channels) a in
           (os : List Order) × (x .orders ≡ length os) × (buffered (g .buffer) a ≡ bytesOf os ++ drop (orderSize * length os) (g .buffer)) × Each (OfActed (soundLines s) (x .acted)) os
       go (good t) f =
           let o = f t refl in let n : length (t .world .orders) ≡ orderSize * length (o .given) = ap length (o .bytes) ∙ bytes-length (o .given) in

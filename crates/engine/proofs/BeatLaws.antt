@@ -7,7 +7,9 @@ use native.Mathlib.Omega.{arith}
 use borrow.Author.Tests.{lt-ltb, le-ltb}
 use lib.ListN.{length, take, drop}
 use Rattle.values.specs.Choice.{and-true, chosen, refused}
-use Rattle.values.specs.Codes.{shortBuffer, wrongNumbers, unsound}
+use Rattle.values.specs.Codes.{shortBuffer, wrongNumbers, unsound, faultyChannel}
+use Rattle.couplers.specs.declared.channel.Channel.{Channel}
+use Rattle.couplers.specs.declared.channel.Samples.{Samples}
 use Rattle.tokens.specs.Descent.{Answer, good, stop, _>>=_}
 use Rattle.engine.specs.declared.action.Progress.{Progress}
 use Rattle.engine.specs.declared.one_beat.BeatCode.{BeatCode}
@@ -16,8 +18,8 @@ use Rattle.engine.specs.declared.state.State.{State}
 use Rattle.engine.specs.Sound.{stateSound}
 use Rattle.engine.specs.Order.{orderSize}
 use Rattle.engine.specs.Write.{Vars}
-use Rattle.engine.specs.Turn.{Entry, beatIn, Turned}
-use Rattle.engine.specs.Beat.{bufferSize, areInputs, Given, allTurns, beatOver}
+use Rattle.engine.specs.Turn.{Entry, beatIn, Turned, turnsFrom}
+use Rattle.engine.specs.Beat.{bufferSize, areInputs, Given, samplesIn, begunWith, beatBegun, allTurns, beatOver}
 use Rattle.engine.specs.Held.{Held, heldIn, turnedCode, heldAfter}
 use Rattle.engine.specs.ActionAnswers.{worldOf}
 
@@ -45,37 +47,47 @@ module _ (s : List ℕ) (ls : Lines) (st : State) (g : Given) where
         no-inputs i = chosen _ _ _ sound ∙ refused _ _ _ (le-ltb (length (g .buffer)) bufferSize l) ∙ refused _ _ _ i
 
         module _ (i : areInputs (g .lent) ≡ true) where
-          turns-beat : beatOver s ls st g ≡ (allTurns s ls st g >>= λ t. good (record { world = t .world; entries = beatIn (g .automatic) ∷ t .entries }))
+          pub faulty-channel : samplesIn st g .good ≡ false → beatOver s ls st g ≡ stop faultyChannel
           unfolding beatOver
-          turns-beat = chosen _ _ _ sound ∙ refused _ _ _ (le-ltb (length (g .buffer)) bufferSize l) ∙ chosen _ _ _ i
+          faulty-channel k = chosen _ _ _ sound ∙ refused _ _ _ (le-ltb (length (g .buffer)) bufferSize l) ∙ chosen _ _ _ i ∙ refused _ _ _ k
 
-          -- what the turns came to is what the beat comes to, but for what is written down
-          pub turns-told : (b : Held) {x : BeatCode} {a : Held} → x ≡ turnedCode (allTurns s ls st g) → a ≡ heldAfter b (allTurns s ls st g) →
-              (x ≡ turnedCode (beatOver s ls st g)) × (a ≡ heldAfter b (beatOver s ls st g))
-          turns-told b p q = rw turns-beat (p ∙ go (allTurns s ls st g) .0, q ∙ go (allTurns s ls st g) .1)
-            where
-              go : (y : Answer Turned) → let z : Answer Turned = y >>= λ t. good (record { world = t .world; entries = beatIn (g .automatic) ∷ t .entries }) in (turnedCode y ≡ turnedCode z) × (heldAfter b y ≡ heldAfter b z)
-              go (good t) = (refl, refl)
-              go (stop k) = (refl, refl)
+          module _ (k : samplesIn st g .good ≡ true) where
+            turns-beat : beatOver s ls st g ≡ (allTurns s ls st g >>= λ t. good (record { world = t .world; entries = beatIn (g .automatic) ∷ t .entries }))
+            unfolding beatOver
+            turns-beat = chosen _ _ _ sound ∙ refused _ _ _ (le-ltb (length (g .buffer)) bufferSize l) ∙ chosen _ _ _ i ∙ chosen _ _ _ k
+
+            -- what the turns came to, with the values that the channels gave, is what the beat comes to, but for what is written down
+            pub turns-told : (b : Held) (before : List Channel) (n : Samples) → n ≡ samplesIn st g → {x : BeatCode} {a : Held} →
+                (let y = turnsFrom s (ls .numbers) (st .cancelled) (g .automatic) (ls .items) (ls .count) 0 (begunWith st (g .word) (n .values) (g .lent)) in (x ≡ turnedCode before (n .channels) y) × (a ≡ heldAfter b (n .channels) y)) →
+                (x ≡ turnedCode before (samplesIn st g .channels) (beatOver s ls st g)) × (a ≡ heldAfter b (samplesIn st g .channels) (beatOver s ls st g))
+            unfolding beatBegun
+            turns-told b before n e p = let q = rw e at p in rw turns-beat (q .0 ∙ go (allTurns s ls st g) .0, q .1 ∙ go (allTurns s ls st g) .1)
+              where
+                go : (y : Answer Turned) → let z : Answer Turned = y >>= λ t. good (record { world = t .world; entries = beatIn (g .automatic) ∷ t .entries }) in
+                    (turnedCode before (samplesIn st g .channels) y ≡ turnedCode before (samplesIn st g .channels) z) × (heldAfter b (samplesIn st g .channels) y ≡ heldAfter b (samplesIn st g .channels) z)
+                go (good t) = (refl, refl)
+                go (stop k) = (refl, refl)
 
 -- what a beat that comes to y answers and leaves of what it held
-module _ (h : Held) (y : Answer Turned) where
-  pub refuses : {x : BeatCode} {k : ℕ} → x ≡ record { code = k; orders = 0; acted = 0 } → y ≡ stop k → (x ≡ turnedCode y) × (h ≡ heldAfter h y)
-  refuses x e = (x ∙ ap turnedCode (sym e), ap (heldAfter h) (sym e))
+module _ (h : Held) (kept : List Channel) (y : Answer Turned) where
+  pub refuses : {x : BeatCode} {k : ℕ} → x ≡ record { code = k; orders = 0; acted = 0; channels = h .channels } → y ≡ stop k →
+      (x ≡ turnedCode (h .channels) kept y) × (heldIn (h .r) (h .cells) (h .runs) (x .channels) (h .locked) (h .memory) (h .buffer) ≡ heldAfter h kept y)
+  refuses p e = rw (p, e) (refl, refl)
 
   -- the first 8 bytes for each order are those of the orders
-  module _ (vars : Vars) (locked memory : List Bool) (out : List ℕ) (f : Progress) (es : List Entry) (e : y ≡ good (record { world = worldOf vars locked memory out f; entries = es })) (l : length (take (f .count * orderSize) out) ≡ f .count * orderSize) where
+  module _ (vars : Vars) (locked memory : List Bool) (out : List ℕ) (f : Progress) (es : List Entry) (e : y ≡ good (record { world = worldOf vars locked memory out f; entries = es })) (l : length (take (f .count * orderSize) out) ≡ f .count * orderSize)
+      {x : BeatCode} (p : x ≡ record { code = 0; orders = f .count; acted = f .acted; channels = kept }) where
     bytes : f .count * orderSize ≡ orderSize * f .count
     bytes = omega arith
 
     written : length (take (orderSize * f .count) out) ≡ orderSize * f .count
     written = rw bytes at l
 
-    pub answers : {x : BeatCode} → x ≡ record { code = 0; orders = f .count; acted = f .acted } → x ≡ turnedCode y
-    answers p = let m : orderSize * f .count / orderSize ≡ f .count = omega arith in p ∙ rw (e, written, m)
+    pub answers : x ≡ turnedCode (h .channels) kept y
+    answers = let m : orderSize * f .count / orderSize ≡ f .count = omega arith in p ∙ rw (e, written, m)
 
-    pub leaves : {o : List ℕ} → o ≡ take (f .count * orderSize) out ++ drop (f .count * orderSize) (h .buffer) → heldIn (vars .r) (vars .cells) (vars .runs) locked memory o ≡ heldAfter h y
-    leaves o = rw (o, e, written, bytes)
+    pub leaves : {o : List ℕ} → o ≡ take (f .count * orderSize) out ++ drop (f .count * orderSize) (h .buffer) → heldIn (vars .r) (vars .cells) (vars .runs) (x .channels) locked memory o ≡ heldAfter h kept y
+    leaves o = rw (p, o, e, written, bytes)
 
 -- what is left, array by array
 pub each-array : {x y : BeatCode} {a b : Held} → (x ≡ y) × (a ≡ b) → (x ≡ y) × ((a .r ≡ b .r) × ((a .cells ≡ b .cells) × ((a .runs ≡ b .runs) × ((a .locked ≡ b .locked) × ((a .memory ≡ b .memory) × (a .buffer ≡ b .buffer))))))

@@ -87,6 +87,6 @@ module _ (s : List ℕ) (st : State) where
 
   -- the lines of the set are l, the cells cs and the cancelled lines xs
   pub reset-sound : isSound s st ≡ true → (l : Lines) → l ≡ soundLines s → (cs : List ℤ) → cs ≡ zeroed (st .cells) → (xs : List Bool) → xs ≡ resetCancelled (l .items) (st .cancelled) (l .count)
-      → resetCall s st ≡ record { code = 0; state = record { r = st .r; cells = cs; runs = replicate timerCount false; locked = replicate maxLines false; cancelled = xs; memory = replicate maxLines false } }
+      → resetCall s st ≡ record { code = 0; state = record { r = st .r; cells = cs; runs = replicate timerCount false; channels = st .channels; locked = replicate maxLines false; cancelled = xs; memory = replicate maxLines false } }
   unfolding resetCall resetState
   reset-sound z l e cs g xs h = rw (h, g, e) (rw (resetCall, z))

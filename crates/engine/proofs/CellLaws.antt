@@ -8,7 +8,7 @@ use native.Mathlib.Numerals.{add-one}
 use native.Mathlib.Nat.{pow-suc, div-div-eq-div-mul}
 use lib.Dec.{eqb}
 use lib.IntN.{ℤ, pos}
-use lib.ListN.{length, take, drop, getD, set, length-drop, drop-of-length-le}
+use lib.ListN.{length, take, drop, getD, set, length-drop, length-append, drop-of-length-le}
 use lib.Seq.{paste, paste-suc, length-take-le, take-all, take-length, take-at, drop-at, drop-drop, append-snoc}
 use Rattle.values.specs.Value.{unit}
 use Rattle.values.specs.ListLaws.{put}
@@ -38,14 +38,20 @@ module _ (word i rest : ℕ) (r : rest ≡ word / 2 ^ i) where
   unfolding inputCells
   input-turn d cs v e h q = rw (e, q, r) (put (inputCells word i) i (length-inputs word i) d h (inputCell word i) (pos 0) ∙ sym (rw (add-one i, append-snoc)))
 
--- ---- the cells of a beat, part by part: i input bits, n numbers and m cells of the state
+-- ---- the cells of a beat, part by part: the input bits, the analogues, the positions and the cells of the state
 
--- the inputs are put in front of d, then the numbers are copied behind them
-pub begun : (a b g d x y : List ℤ) → length a ≡ 16 → length b ≡ 14 → drop 30 d ≡ g → x ≡ a ++ drop 16 d → y ≡ take 16 x ++ (b ++ drop (16 + length b) x) → y ≡ a ++ (b ++ g)
-begun a b g d x y la lb e ex ey =
-    let t : take 16 x ≡ a = rw ex (take-at a (drop 16 d) 16 la) in
-    let r : drop (16 + 14) x ≡ g = sym (drop-drop 14 16 x) ∙ ap (λ (l : List ℤ). drop 14 l) (ap (λ (l : List ℤ). drop 16 l) ex ∙ drop-at a (drop 16 d) 16 la) ∙ drop-drop 14 16 d ∙ e in
-    ey ∙ rw (t, lb, r)
+-- m cells are copied behind n that stand in front of d
+pub behind : (a b d x y : List ℤ) (n m : ℕ) → length a ≡ n → length b ≡ m → x ≡ a ++ drop n d → y ≡ take n x ++ (b ++ drop (n + length b) x) → y ≡ (a ++ b) ++ drop (n + m) d
+behind a b d x y n m la lb ex ey =
+    let t : take n x ≡ a = rw ex (take-at a (drop n d) n la) in
+    let r : drop (n + m) x ≡ drop (n + m) d = sym (drop-drop m n x) ∙ ap (λ (l : List ℤ). drop m l) (ap (λ (l : List ℤ). drop n l) ex ∙ drop-at a (drop n d) n la) ∙ drop-drop m n d in
+    ey ∙ rw (t, lb, r) (sym (append-assoc a b (drop (n + m) d)))
+
+-- the inputs are put in front of d, then the analogues are copied behind them, and the positions behind these
+pub begun : (a v b g d x y z : List ℤ) → length a ≡ 16 → length v ≡ 8 → length b ≡ 6 → drop 30 d ≡ g → x ≡ a ++ drop 16 d → y ≡ take 16 x ++ (v ++ drop (16 + length v) x) → z ≡ take 24 y ++ (b ++ drop (24 + length b) y) → z ≡ a ++ (v ++ (b ++ g))
+begun a v b g d x y z la lv lb e ex ey ez =
+    behind (a ++ v) b d y z 24 6 (omega (arith, length-append a v)) lb (behind a v d x y 16 8 la lv ex ey) ez
+    ∙ rw (e) (append-assoc (a ++ v) b g ∙ append-assoc a v (b ++ g))
 
 -- a part of 92 cells behind the first 30 is replaced
 pub replaced : (d g x : List ℤ) → length d ≡ 122 → x ≡ take 30 d ++ (g ++ drop 92 (drop 30 d)) → drop 30 x ≡ g

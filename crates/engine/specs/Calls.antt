@@ -17,7 +17,7 @@ use Rattle.engine.specs.Set.{noLine, soundLines}
 use Rattle.engine.specs.Sound.{isSound}
 
 abbrev pub withLocked : State → ℕ → Bool → State
-withLocked st k b = record { r = st .r; cells = st .cells; runs = st .runs; locked = set (st .locked) k b; cancelled = st .cancelled; memory = st .memory }
+withLocked st k b = record { r = st .r; cells = st .cells; runs = st .runs; channels = st .channels; locked = set (st .locked) k b; cancelled = st .cancelled; memory = st .memory }
 
 -- cancelling clears the line's lock and memory
 abbrev pub withCancelled : State → ℕ → State
@@ -25,6 +25,7 @@ withCancelled st k = record {
   r = st .r;
   cells = st .cells;
   runs = st .runs;
+  channels = st .channels;
   locked = set (st .locked) k false;
   cancelled = set (st .cancelled) k true;
   memory = set (st .memory) k false;
@@ -55,12 +56,13 @@ resetCancelled ls cs (suc n) = set (resetCancelled ls cs n) n (getD cs n false |
 unfoldable pub zeroed : List ℤ → List ℤ
 zeroed c = take markerAt c ++ (replicate (countAt - markerAt) (pos 0) ++ drop countAt c)
 
--- reset cancels every ID line, unlocks and clears the memory of IDS lines, zeroes markers and parameters, stops timers at 0; R, FIFOs and outputs stay
+-- reset cancels every ID line, unlocks and clears the memory of IDS lines, zeroes markers and parameters, stops timers at 0; R, FIFOs, outputs and what the channels keep stay
 unfoldable pub resetState : List Line → ℕ → State → State
 resetState ls count st = record {
   r = st .r;
   cells = zeroed (st .cells);
   runs = replicate timerCount false;
+  channels = st .channels;
   locked = replicate maxLines false;
   cancelled = resetCancelled ls (st .cancelled) count;
   memory = replicate maxLines false;

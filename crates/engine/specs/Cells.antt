@@ -17,9 +17,9 @@ unfoldable pub inputCells : ℕ → ℕ → List ℤ
 inputCells word zero = []
 inputCells word (suc n) = inputCells word n ++ (inputCell word n ∷ [])
 
--- the cells of a beat: inputs, the numbers, the state's cells with the timers grown
-unfoldable pub beatCells : ℕ → List ℤ → List Bool → List ℤ → List ℤ
-beatCells word lent runs c = inputCells word bitCount ++ (lent ++ grownCells runs c timerCount)
+-- the cells of a beat: inputs, analogues, positions, the state's cells with the timers grown
+unfoldable pub beatCells : ℕ → List ℤ → List ℤ → List Bool → List ℤ → List ℤ
+beatCells word values lent runs c = inputCells word bitCount ++ (values ++ (lent ++ grownCells runs c timerCount))
 
 -- the cells of a state, ready for a beat: behind input cells that are 0
 unfoldable pub spreadCells : List ℤ → List ℤ

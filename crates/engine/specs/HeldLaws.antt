@@ -6,6 +6,8 @@ use Prim.Native.Nat.{ℕ}
 use lib.IntN.{ℤ, pos}
 use lib.ListN.{length, drop, replicate}
 use lib.Seq.{drop-at}
+use Rattle.couplers.specs.declared.reading.Reading.{Reading}
+use Rattle.couplers.specs.declared.channel.Channel.{Channel}
 use Rattle.tokens.specs.Descent.{Answer, good, stop}
 use Rattle.engine.specs.declared.one_beat.BeatCode.{BeatCode}
 use Rattle.engine.specs.declared.one_beat.Beaten.{Beaten}
@@ -31,12 +33,12 @@ pub beat-over-lines : (s : List ℕ) (st : State) (g : Given) {lines : List ℕ}
 beat-over-lines s st g p q = rw (p, q, lines-back s) (sym (beat-by-lines s st g))
 
 -- of the buffer a beat looks at the size only
-pub beat-any-buffer : (s : List ℕ) (st : State) (automatic : Bool) (word : ℕ) (lent : List ℤ) (b c : List ℕ) → length b ≡ length c →
-    wholeBeat s st (record { automatic = automatic; word = word; lent = lent; buffer = b }) ≡ wholeBeat s st (record { automatic = automatic; word = word; lent = lent; buffer = c })
+pub beat-any-buffer : (s : List ℕ) (st : State) (automatic : Bool) (word : ℕ) (readings : List Reading) (lent : List ℤ) (b c : List ℕ) → length b ≡ length c →
+    wholeBeat s st (record { automatic = automatic; word = word; readings = readings; lent = lent; buffer = b }) ≡ wholeBeat s st (record { automatic = automatic; word = word; readings = readings; lent = lent; buffer = c })
 unfolding wholeBeat beatBegun
-beat-any-buffer s st automatic word lent b c e = go (isSound s st)
+beat-any-buffer s st automatic word readings lent b c e = go (isSound s st)
   where
-    go : (sound : Bool) → beatWhere sound s (soundLines s) st (record { automatic = automatic; word = word; lent = lent; buffer = b }) ≡ beatWhere sound s (soundLines s) st (record { automatic = automatic; word = word; lent = lent; buffer = c })
+    go : (sound : Bool) → beatWhere sound s (soundLines s) st (record { automatic = automatic; word = word; readings = readings; lent = lent; buffer = b }) ≡ beatWhere sound s (soundLines s) st (record { automatic = automatic; word = word; readings = readings; lent = lent; buffer = c })
     go true = rw (e, beatWhere)
     go false = refl
 
@@ -47,26 +49,28 @@ unfolding spreadCells
 cells-back c = drop-at (replicate inputCount (pos 0)) c inputCount refl
 
 -- its cells are spread
-pub state-apart : (st : State) {c : List ℤ} (b : List ℕ) → c ≡ spreadCells (st .cells) → stateHeld (st .cancelled) (heldIn (st .r) c (st .runs) (st .locked) (st .memory) b) ≡ st
-state-apart st b e = ap (λ (x : List ℤ). record { r = st .r; cells = x; runs = st .runs; locked = st .locked; cancelled = st .cancelled; memory = st .memory }) (ap (drop inputCount) e ∙ cells-back (st .cells))
+pub state-apart : (st : State) {c : List ℤ} (b : List ℕ) → c ≡ spreadCells (st .cells) → stateHeld (st .cancelled) (heldIn (st .r) c (st .runs) (st .channels) (st .locked) (st .memory) b) ≡ st
+state-apart st b e = ap (λ (x : List ℤ). record { r = st .r; cells = x; runs = st .runs; channels = st .channels; locked = st .locked; cancelled = st .cancelled; memory = st .memory }) (ap (drop inputCount) e ∙ cells-back (st .cells))
 
 -- what is held, array by array
-pub held-is : {h : Held} {r c : List ℤ} {runs locked memory : List Bool} {b : List ℕ} → r ≡ h .r → c ≡ h .cells → runs ≡ h .runs → locked ≡ h .locked → memory ≡ h .memory → b ≡ h .buffer → heldIn r c runs locked memory b ≡ h
-held-is p q r s t u = rw (p, q, r, s, t, u)
+pub held-is : {h : Held} {r c : List ℤ} {runs : List Bool} {channels : List Channel} {locked memory : List Bool} {b : List ℕ} → r ≡ h .r → c ≡ h .cells → runs ≡ h .runs → channels ≡ h .channels → locked ≡ h .locked → memory ≡ h .memory → b ≡ h .buffer →
+    heldIn r c runs channels locked memory b ≡ h
+held-is p q r s t u v = rw (p, q, r, s, t, u, v)
 
 -- it is put together again
-module _ (st : State) (h : Held) (e : stateHeld (st .cancelled) h ≡ st) where
-  put-together : (y : Answer Turned) → _≡_ {A = Beaten} (record { code = turnedCode y .code; orders = turnedCode y .orders; acted = turnedCode y .acted; state = stateHeld (st .cancelled) (heldAfter h y) }) (turnedAnswer st y)
+module _ (st : State) (h : Held) (channels : List Channel) (e : stateHeld (st .cancelled) h ≡ st) where
+  put-together : (y : Answer Turned) →
+      _≡_ {A = Beaten} (let x = turnedCode (h .channels) channels y in record { code = x .code; orders = x .orders; acted = x .acted; state = stateHeld (st .cancelled) (heldAfter h channels y) }) (turnedAnswer st channels y)
   unfolding beatEnded
   put-together (good t) = refl
   put-together (stop k) = ap (λ (x : State). record { code = k; orders = 0; acted = 0; state = x }) e
 
-  buffer-left : (y : Answer Turned) → heldAfter h y .buffer ≡ buffered (h .buffer) y
+  buffer-left : (y : Answer Turned) → heldAfter h channels y .buffer ≡ buffered (h .buffer) y
   buffer-left (good t) = refl
   buffer-left (stop k) = refl
 
   -- what the beat in place answered and left, where kept is the state's part of the cells
-  pub put-back : {y z : Answer Turned} → y ≡ z → {x : BeatCode} {k : Held} {kept : List ℤ} → x ≡ turnedCode y → k ≡ heldAfter h y → kept ≡ drop inputCount (k .cells) →
-      (_≡_ {A = Beaten} (record { code = x .code; orders = x .orders; acted = x .acted; state = record { r = k .r; cells = kept; runs = k .runs; locked = k .locked; cancelled = st .cancelled; memory = k .memory } }) (turnedAnswer st z))
+  pub put-back : {y z : Answer Turned} → y ≡ z → {x : BeatCode} {k : Held} {kept : List ℤ} → x ≡ turnedCode (h .channels) channels y → k ≡ heldAfter h channels y → kept ≡ drop inputCount (k .cells) →
+      (_≡_ {A = Beaten} (record { code = x .code; orders = x .orders; acted = x .acted; state = record { r = k .r; cells = kept; runs = k .runs; channels = k .channels; locked = k .locked; cancelled = st .cancelled; memory = k .memory } }) (turnedAnswer st channels z))
       × (k .buffer ≡ buffered (h .buffer) z)
   put-back {y} {z} p q r t = rw (t, q, r, p) (put-together z, buffer-left z)

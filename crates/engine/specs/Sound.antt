@@ -7,6 +7,7 @@ use lib.IntN.{ℤ, pos}
 use lib.ListN.{getD, drop}
 use Rattle.values.specs.Value.{inRange, lessThan, equalTo, wholeUnits, outputOf, codeOf}
 use Rattle.values.specs.Fifo.{places}
+use Rattle.couplers.specs.Channel.{channelCount, areChannels}
 use Rattle.working.specs.Variables.{asCount, run, countIn, fifos, markerAt, paramAt, timerAt, countAt}
 use Rattle.engine.specs.declared.state.State.{State}
 use Rattle.tokens.specs.Token.{maxLines}
@@ -59,7 +60,7 @@ areFlags count locked cancelled memory (suc m) k =
 
 unfoldable pub stateSound : ℕ → State → Bool
 stateSound count st =
-    allRanged (st .r) && (areCells (st .cells) 0 && (areFifos (st .r) (st .cells) fifos 0 && areFlags count (st .locked) (st .cancelled) (st .memory) maxLines 0))
+    allRanged (st .r) && (areCells (st .cells) 0 && (areFifos (st .r) (st .cells) fifos 0 && (areChannels (st .channels) channelCount && areFlags count (st .locked) (st .cancelled) (st .memory) maxLines 0)))
 
 -- a set and a state are sound: of the set are asked the places that its lines use (Set), of the state all places
 unfoldable pub isSound : List ℕ → State → Bool

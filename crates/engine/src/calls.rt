@@ -112,7 +112,7 @@ fn zero_cells(cells: &mut [i32])
     }
 }
 
-// Reset: ID lines are cancelled, IDS lines unlocked and their memory cleared, markers and parameters 0, timers stopped at 0; R, FIFOs and outputs stay.
+// Reset: ID lines are cancelled, IDS lines unlocked and their memory cleared, markers and parameters 0, timers stopped at 0; R, FIFOs, outputs and what the channels keep stay.
 pub fn reset(set: &[u32; SIZE], state: State) -> Called
     ensures { λ x. ⌜ x ≡ resetCall (now (set .entry)) state ⌝ }
 {
@@ -133,12 +133,14 @@ pub fn reset(set: &[u32; SIZE], state: State) -> Called
     let mut cells = state.cells;
     zero_cells(&mut cells);
     let r = state.r;
+    let channels = state.channels;
     let was = state.cancelled;
     let cancelled = cancel_ids(lines, was);
     let next = State {
         r: r,
         cells: cells,
         runs: [false; TIMERS],
+        channels: channels,
         locked: [false; LINES],
         cancelled: cancelled,
         memory: [false; LINES],

@@ -7,12 +7,13 @@ ghost use mathlib.Core.Bool.{cond};
 ghost use lib.Dec.{eqb};
 ghost use lib.IntN.{pos};
 ghost use Rattle.values.specs.Value.{unit};
-ghost use Rattle.working.specs.Variables.{bitCount, numberCount, inputCount, cellCount};
+ghost use Rattle.working.specs.Variables.{bitCount, analogueCount, positionCount, inputCount, cellCount};
 ghost use Rattle.engine.specs.Cells.{inputCells, beatCells, spreadCells};
 use crate::timers::grow_timers;
 use values::arithmetic::UNIT;
 use working::variables::BITS;
 use working::variables::CELLS;
+use working::variables::IM_AT;
 use working::variables::INPUTS;
 use working::variables::STATE_CELLS;
 use working::variables::TIMERS;
@@ -51,14 +52,21 @@ fn put_inputs(cells: &mut [i32], word: u16)
     }
 }
 
-// The cells of a beat, in place: inputs, the 14 numbers, the state's cells with the timers grown.
-pub fn begin_cells(cells: &mut [i32], runs: &[bool; TIMERS], word: u16, lent: &[i32])
-    requires { ⌜ (length (now cells) ≡ cellCount) × (length (now lent) ≡ numberCount) ⌝ }
-    ensures { λ x. ⌜ now (cells .exit) ≡ beatCells word (now (lent .entry)) (now (runs .entry)) (drop inputCount (now (cells .entry))) ⌝ }
+// The cells of a beat, in place: inputs, analogues, positions, the state's cells with the timers grown.
+pub fn begin_cells(
+    cells: &mut [i32],
+    runs: &[bool; TIMERS],
+    word: u16,
+    values: &[i32],
+    lent: &[i32],
+)
+    requires { ⌜ (length (now cells) ≡ cellCount) × ((length (now values) ≡ analogueCount) × (length (now lent) ≡ positionCount)) ⌝ }
+    ensures { λ x. ⌜ now (cells .exit) ≡ beatCells word (now (values .entry)) (now (lent .entry)) (now (runs .entry)) (drop inputCount (now (cells .entry))) ⌝ }
 {
     grow_timers(&mut cells[INPUTS..CELLS], runs);
     put_inputs(cells, word);
-    copy_at(cells, BITS, lent);
+    copy_at(cells, BITS, values);
+    copy_at(cells, IM_AT, lent);
 }
 
 // The cells of a state, behind input cells that are 0.

@@ -1,11 +1,11 @@
-// A beat: its checks 22, 20, 21 in that order, the timers' growth, the turns by rising number, and the undoing of all by the first alarm.
+// A beat: its checks 22, 20, 21, 23 in that order, the timers' growth, the turns by rising number, and the undoing of all by the first alarm.
 ghost use mathlib.Core.Path.{_≡_};
 ghost use mathlib.Core.List.{_++_};
 ghost use Prim.Native.Nat.{_≤_};
 ghost use lib.ListN.{length, take, drop};
-ghost use Rattle.working.specs.Variables.{numberCount};
+ghost use Rattle.working.specs.Variables.{analogueCount, positionCount};
 ghost use Rattle.engine.specs.Beat.{bufferSize, areInputs, beatAnswer, beatBuffer};
-ghost use Rattle.engine.specs.Held.{heldIn, heldAfter, turnedCode, turnsHeld, beatHeld};
+ghost use Rattle.engine.specs.Held.{heldIn, heldAfter, keptHeld, turnedCode, turnsHeld, beatHeld};
 ghost use Rattle.engine.specs.ReadLines.{linesIn};
 ghost use Rattle.engine.specs.Order.{maxOrders};
 ghost use Rattle.tokens.specs.Token.{maxLines};
@@ -23,25 +23,31 @@ use crate::sound::all_ranged;
 use crate::sound::is_held_sound;
 use crate::state::State;
 use crate::turn::turns;
+use couplers::channel::CHANNELS;
+use couplers::channel::Channel;
+use couplers::channel::sample_all;
+use couplers::reading::Reading;
 use tokens::token::LINES;
 use tokens::token::SIZE;
+use values::codes::FAULTY_CHANNEL;
 use values::codes::SHORT_BUFFER;
 use values::codes::UNSOUND;
 use values::codes::WRONG_NUMBERS;
 use working::variables::CELLS;
 use working::variables::INPUTS;
-use working::variables::NUMBERS;
+use working::variables::POSITIONS;
 use working::variables::RS;
 use working::variables::TIMERS;
 
-// What a beat in place answers: its code, the count of orders in the buffer, and the word of the lines that acted, by rank.
+// What a beat in place answers: its code, the count of orders in the buffer, the word of the lines that acted, by rank, and what the channels keep.
 pub struct BeatCode {
     pub code: u8,
     pub orders: u32,
     pub acted: u64,
+    pub channels: [Channel; CHANNELS],
 }
 
-// The same and the state.
+// What a beat answers: the same, and the state.
 pub struct Beaten {
     pub code: u8,
     pub orders: u32,
@@ -49,11 +55,11 @@ pub struct Beaten {
     pub state: State,
 }
 
-// 14 numbers, each within range.
+// Six positions, each within range.
 fn are_inputs(lent: &[i32]) -> bool
     ensures { λ x. ⌜ x ≡ areInputs (now (lent .entry)) ⌝ }
 {
-    if lent.len() != NUMBERS {
+    if lent.len() != POSITIONS {
         return false;
     }
     all_ranged(lent)
@@ -72,29 +78,31 @@ fn copy_orders(orders: &mut [u8], out: &[u8; ORDERS], n: usize)
     }
 }
 
-fn refused(code: u8) -> BeatCode
-    ensures { λ x. ⌜ x ≡ record { code = code; orders = 0; acted = 0 } ⌝ }
+fn refused(code: u8, before: [Channel; CHANNELS]) -> BeatCode
+    ensures { λ x. ⌜ x ≡ record { code = code; orders = 0; acted = 0; channels = before } ⌝ }
 {
     BeatCode {
         code: code,
         orders: 0,
         acted: 0,
+        channels: before,
     }
 }
 
 // The answer of a beat that came to its end.
-fn finished(f: Progress) -> BeatCode
+fn finished(f: Progress, kept: [Channel; CHANNELS]) -> BeatCode
     requires { ⌜ f .count ≤ maxOrders ⌝ }
-    ensures { λ x. ⌜ x ≡ record { code = 0; orders = f .count; acted = f .acted } ⌝ }
+    ensures { λ x. ⌜ x ≡ record { code = 0; orders = f .count; acted = f .acted; channels = kept } ⌝ }
 {
     BeatCode {
         code: 0,
         orders: f.count as u32,
         acted: f.acted,
+        channels: kept,
     }
 }
 
-// The turns of a beat that no check refuses: its orders go to the buffer; an alarm takes back all that was written.
+// The turns of a beat that no check refuses, with these analogues and positions: its orders go to the buffer; an alarm takes back all that was written, and the channels are as before.
 fn all_turns(
     set: &[u32; SIZE],
     lines: &[usize; READ],
@@ -104,21 +112,24 @@ fn all_turns(
     locked: &mut [bool; LINES],
     cancelled: &[bool; LINES],
     memory: &mut [bool; LINES],
+    before: [Channel; CHANNELS],
+    kept: [Channel; CHANNELS],
     automatic: bool,
     inputs: u16,
+    values: &[i32],
     lent: &[i32],
     orders: &mut [u8],
 ) -> BeatCode
-    requires { ⌜ (linesIn (now lines) .count ≤ maxLines) × ((length (now lent) ≡ numberCount) × (bufferSize ≤ length (now orders))) ⌝ }
-    ensures { λ x. ⌜ x ≡ turnedCode (turnsHeld (now (set .entry)) (linesIn (now (lines .entry))) (now (cancelled .entry)) (heldIn (now (r .entry)) (now (cells .entry)) (now (runs .entry)) (now (locked .entry)) (now (memory .entry)) (now (orders .entry))) automatic inputs (now (lent .entry))) ⌝ }
-    ensures { λ x. ⌜ heldIn (now (r .exit)) (now (cells .exit)) (now (runs .exit)) (now (locked .exit)) (now (memory .exit)) (now (orders .exit)) ≡ heldAfter (heldIn (now (r .entry)) (now (cells .entry)) (now (runs .entry)) (now (locked .entry)) (now (memory .entry)) (now (orders .entry))) (turnsHeld (now (set .entry)) (linesIn (now (lines .entry))) (now (cancelled .entry)) (heldIn (now (r .entry)) (now (cells .entry)) (now (runs .entry)) (now (locked .entry)) (now (memory .entry)) (now (orders .entry))) automatic inputs (now (lent .entry))) ⌝ }
+    requires { ⌜ (linesIn (now lines) .count ≤ maxLines) × ((length (now values) ≡ analogueCount) × ((length (now lent) ≡ positionCount) × (bufferSize ≤ length (now orders)))) ⌝ }
+    ensures { λ x. ⌜ x ≡ turnedCode before kept (turnsHeld (now (set .entry)) (linesIn (now (lines .entry))) (now (cancelled .entry)) (heldIn (now (r .entry)) (now (cells .entry)) (now (runs .entry)) before (now (locked .entry)) (now (memory .entry)) (now (orders .entry))) automatic inputs (now (values .entry)) (now (lent .entry))) ⌝ }
+    ensures { λ x. ⌜ heldIn (now (r .exit)) (now (cells .exit)) (now (runs .exit)) (x .channels) (now (locked .exit)) (now (memory .exit)) (now (orders .exit)) ≡ heldAfter (heldIn (now (r .entry)) (now (cells .entry)) (now (runs .entry)) before (now (locked .entry)) (now (memory .entry)) (now (orders .entry))) kept (turnsHeld (now (set .entry)) (linesIn (now (lines .entry))) (now (cancelled .entry)) (heldIn (now (r .entry)) (now (cells .entry)) (now (runs .entry)) before (now (locked .entry)) (now (memory .entry)) (now (orders .entry))) automatic inputs (now (values .entry)) (now (lent .entry))) ⌝ }
 {
     let before_r = *r;
     let before_cells = *cells;
     let before_runs = *runs;
     let before_locked = *locked;
     let before_memory = *memory;
-    begin_cells(cells, runs, inputs, lent);
+    begin_cells(cells, runs, inputs, values, lent);
     let mut out = [0u8; ORDERS];
     let d = turns(
         set,
@@ -139,14 +150,14 @@ fn all_turns(
         *runs = before_runs;
         *locked = before_locked;
         *memory = before_memory;
-        return refused(d.alarm);
+        return refused(d.alarm, before);
     }
     let f = d.progress;
     copy_orders(orders, &out, f.count * ORDER_BYTES);
-    finished(f)
+    finished(f, kept)
 }
 
-// A beat in place, over lines that were read before: its checks 22, 20, 21 in that order, then its turns.
+// A beat in place, over lines that were read before: its checks 22, 20, 21, 23 in that order, then its turns.
 fn beat_held(
     set: &[u32; SIZE],
     lines: &[usize; READ],
@@ -156,34 +167,44 @@ fn beat_held(
     locked: &mut [bool; LINES],
     cancelled: &[bool; LINES],
     memory: &mut [bool; LINES],
+    channels: [Channel; CHANNELS],
     automatic: bool,
     inputs: u16,
+    readings: [Reading; CHANNELS],
     lent: &[i32],
     orders: &mut [u8],
 ) -> BeatCode
-    ensures { λ x. ⌜ x ≡ turnedCode (beatHeld (now (set .entry)) (linesIn (now (lines .entry))) (now (cancelled .entry)) (heldIn (now (r .entry)) (now (cells .entry)) (now (runs .entry)) (now (locked .entry)) (now (memory .entry)) (now (orders .entry))) automatic inputs (now (lent .entry))) ⌝ }
-    ensures { λ x. ⌜ heldIn (now (r .exit)) (now (cells .exit)) (now (runs .exit)) (now (locked .exit)) (now (memory .exit)) (now (orders .exit)) ≡ heldAfter (heldIn (now (r .entry)) (now (cells .entry)) (now (runs .entry)) (now (locked .entry)) (now (memory .entry)) (now (orders .entry))) (beatHeld (now (set .entry)) (linesIn (now (lines .entry))) (now (cancelled .entry)) (heldIn (now (r .entry)) (now (cells .entry)) (now (runs .entry)) (now (locked .entry)) (now (memory .entry)) (now (orders .entry))) automatic inputs (now (lent .entry))) ⌝ }
+    ensures { λ x. ⌜ x ≡ turnedCode channels (keptHeld (heldIn (now (r .entry)) (now (cells .entry)) (now (runs .entry)) channels (now (locked .entry)) (now (memory .entry)) (now (orders .entry))) readings) (beatHeld (now (set .entry)) (linesIn (now (lines .entry))) (now (cancelled .entry)) (heldIn (now (r .entry)) (now (cells .entry)) (now (runs .entry)) channels (now (locked .entry)) (now (memory .entry)) (now (orders .entry))) automatic inputs readings (now (lent .entry))) ⌝ }
+    ensures { λ x. ⌜ heldIn (now (r .exit)) (now (cells .exit)) (now (runs .exit)) (x .channels) (now (locked .exit)) (now (memory .exit)) (now (orders .exit)) ≡ heldAfter (heldIn (now (r .entry)) (now (cells .entry)) (now (runs .entry)) channels (now (locked .entry)) (now (memory .entry)) (now (orders .entry))) (keptHeld (heldIn (now (r .entry)) (now (cells .entry)) (now (runs .entry)) channels (now (locked .entry)) (now (memory .entry)) (now (orders .entry))) readings) (beatHeld (now (set .entry)) (linesIn (now (lines .entry))) (now (cancelled .entry)) (heldIn (now (r .entry)) (now (cells .entry)) (now (runs .entry)) channels (now (locked .entry)) (now (memory .entry)) (now (orders .entry))) automatic inputs readings (now (lent .entry))) ⌝ }
 {
     if !are_sound(lines) {
-        return refused(UNSOUND);
+        return refused(UNSOUND, channels);
     }
     let all = &cells[..];
     if !is_held_sound(
         count_of(lines),
         r,
         &all[INPUTS..],
+        channels,
         locked,
         cancelled,
         memory,
     ) {
-        return refused(UNSOUND);
+        return refused(UNSOUND, channels);
     }
     if orders.len() < ORDERS {
-        return refused(SHORT_BUFFER);
+        return refused(SHORT_BUFFER, channels);
     }
     if !are_inputs(lent) {
-        return refused(WRONG_NUMBERS);
+        return refused(WRONG_NUMBERS, channels);
     }
+    let s = sample_all(channels, readings);
+    let good = s.good;
+    if !good {
+        return refused(FAULTY_CHANNEL, channels);
+    }
+    let values = s.values;
+    let kept = s.channels;
     all_turns(
         set,
         lines,
@@ -193,14 +214,17 @@ fn beat_held(
         locked,
         cancelled,
         memory,
+        channels,
+        kept,
         automatic,
         inputs,
+        &values,
         lent,
         orders,
     )
 }
 
-// One beat over lines that were read before, in place. The cells are those of a beat: 30 of inputs, then those of the state. On any code every array is as it was.
+// One beat over lines that were read before, in place. The cells are those of a beat: 30 of inputs, then those of the state. What the channels keep goes in and comes back by value. On any code all is as it was.
 pub fn beat_over(
     set: &[u32; SIZE],
     lines: &[usize; READ],
@@ -210,18 +234,20 @@ pub fn beat_over(
     locked: &mut [bool; LINES],
     cancelled: &[bool; LINES],
     memory: &mut [bool; LINES],
+    channels: [Channel; CHANNELS],
     automatic: bool,
     inputs: u16,
+    readings: [Reading; CHANNELS],
     lent: &[i32],
     orders: &mut [u8],
 ) -> BeatCode
-    ensures { λ x. ⌜ x ≡ turnedCode (beatHeld (now (set .entry)) (linesIn (now (lines .entry))) (now (cancelled .entry)) (heldIn (now (r .entry)) (now (cells .entry)) (now (runs .entry)) (now (locked .entry)) (now (memory .entry)) (now (orders .entry))) automatic inputs (now (lent .entry))) ⌝ }
-    ensures { λ x. ⌜ now (r .exit) ≡ heldAfter (heldIn (now (r .entry)) (now (cells .entry)) (now (runs .entry)) (now (locked .entry)) (now (memory .entry)) (now (orders .entry))) (beatHeld (now (set .entry)) (linesIn (now (lines .entry))) (now (cancelled .entry)) (heldIn (now (r .entry)) (now (cells .entry)) (now (runs .entry)) (now (locked .entry)) (now (memory .entry)) (now (orders .entry))) automatic inputs (now (lent .entry))) .r ⌝ }
-    ensures { λ x. ⌜ now (cells .exit) ≡ heldAfter (heldIn (now (r .entry)) (now (cells .entry)) (now (runs .entry)) (now (locked .entry)) (now (memory .entry)) (now (orders .entry))) (beatHeld (now (set .entry)) (linesIn (now (lines .entry))) (now (cancelled .entry)) (heldIn (now (r .entry)) (now (cells .entry)) (now (runs .entry)) (now (locked .entry)) (now (memory .entry)) (now (orders .entry))) automatic inputs (now (lent .entry))) .cells ⌝ }
-    ensures { λ x. ⌜ now (runs .exit) ≡ heldAfter (heldIn (now (r .entry)) (now (cells .entry)) (now (runs .entry)) (now (locked .entry)) (now (memory .entry)) (now (orders .entry))) (beatHeld (now (set .entry)) (linesIn (now (lines .entry))) (now (cancelled .entry)) (heldIn (now (r .entry)) (now (cells .entry)) (now (runs .entry)) (now (locked .entry)) (now (memory .entry)) (now (orders .entry))) automatic inputs (now (lent .entry))) .runs ⌝ }
-    ensures { λ x. ⌜ now (locked .exit) ≡ heldAfter (heldIn (now (r .entry)) (now (cells .entry)) (now (runs .entry)) (now (locked .entry)) (now (memory .entry)) (now (orders .entry))) (beatHeld (now (set .entry)) (linesIn (now (lines .entry))) (now (cancelled .entry)) (heldIn (now (r .entry)) (now (cells .entry)) (now (runs .entry)) (now (locked .entry)) (now (memory .entry)) (now (orders .entry))) automatic inputs (now (lent .entry))) .locked ⌝ }
-    ensures { λ x. ⌜ now (memory .exit) ≡ heldAfter (heldIn (now (r .entry)) (now (cells .entry)) (now (runs .entry)) (now (locked .entry)) (now (memory .entry)) (now (orders .entry))) (beatHeld (now (set .entry)) (linesIn (now (lines .entry))) (now (cancelled .entry)) (heldIn (now (r .entry)) (now (cells .entry)) (now (runs .entry)) (now (locked .entry)) (now (memory .entry)) (now (orders .entry))) automatic inputs (now (lent .entry))) .memory ⌝ }
-    ensures { λ x. ⌜ now (orders .exit) ≡ heldAfter (heldIn (now (r .entry)) (now (cells .entry)) (now (runs .entry)) (now (locked .entry)) (now (memory .entry)) (now (orders .entry))) (beatHeld (now (set .entry)) (linesIn (now (lines .entry))) (now (cancelled .entry)) (heldIn (now (r .entry)) (now (cells .entry)) (now (runs .entry)) (now (locked .entry)) (now (memory .entry)) (now (orders .entry))) automatic inputs (now (lent .entry))) .buffer ⌝ }
+    ensures { λ x. ⌜ x ≡ turnedCode channels (keptHeld (heldIn (now (r .entry)) (now (cells .entry)) (now (runs .entry)) channels (now (locked .entry)) (now (memory .entry)) (now (orders .entry))) readings) (beatHeld (now (set .entry)) (linesIn (now (lines .entry))) (now (cancelled .entry)) (heldIn (now (r .entry)) (now (cells .entry)) (now (runs .entry)) channels (now (locked .entry)) (now (memory .entry)) (now (orders .entry))) automatic inputs readings (now (lent .entry))) ⌝ }
+    ensures { λ x. ⌜ now (r .exit) ≡ heldAfter (heldIn (now (r .entry)) (now (cells .entry)) (now (runs .entry)) channels (now (locked .entry)) (now (memory .entry)) (now (orders .entry))) (keptHeld (heldIn (now (r .entry)) (now (cells .entry)) (now (runs .entry)) channels (now (locked .entry)) (now (memory .entry)) (now (orders .entry))) readings) (beatHeld (now (set .entry)) (linesIn (now (lines .entry))) (now (cancelled .entry)) (heldIn (now (r .entry)) (now (cells .entry)) (now (runs .entry)) channels (now (locked .entry)) (now (memory .entry)) (now (orders .entry))) automatic inputs readings (now (lent .entry))) .r ⌝ }
+    ensures { λ x. ⌜ now (cells .exit) ≡ heldAfter (heldIn (now (r .entry)) (now (cells .entry)) (now (runs .entry)) channels (now (locked .entry)) (now (memory .entry)) (now (orders .entry))) (keptHeld (heldIn (now (r .entry)) (now (cells .entry)) (now (runs .entry)) channels (now (locked .entry)) (now (memory .entry)) (now (orders .entry))) readings) (beatHeld (now (set .entry)) (linesIn (now (lines .entry))) (now (cancelled .entry)) (heldIn (now (r .entry)) (now (cells .entry)) (now (runs .entry)) channels (now (locked .entry)) (now (memory .entry)) (now (orders .entry))) automatic inputs readings (now (lent .entry))) .cells ⌝ }
+    ensures { λ x. ⌜ now (runs .exit) ≡ heldAfter (heldIn (now (r .entry)) (now (cells .entry)) (now (runs .entry)) channels (now (locked .entry)) (now (memory .entry)) (now (orders .entry))) (keptHeld (heldIn (now (r .entry)) (now (cells .entry)) (now (runs .entry)) channels (now (locked .entry)) (now (memory .entry)) (now (orders .entry))) readings) (beatHeld (now (set .entry)) (linesIn (now (lines .entry))) (now (cancelled .entry)) (heldIn (now (r .entry)) (now (cells .entry)) (now (runs .entry)) channels (now (locked .entry)) (now (memory .entry)) (now (orders .entry))) automatic inputs readings (now (lent .entry))) .runs ⌝ }
+    ensures { λ x. ⌜ now (locked .exit) ≡ heldAfter (heldIn (now (r .entry)) (now (cells .entry)) (now (runs .entry)) channels (now (locked .entry)) (now (memory .entry)) (now (orders .entry))) (keptHeld (heldIn (now (r .entry)) (now (cells .entry)) (now (runs .entry)) channels (now (locked .entry)) (now (memory .entry)) (now (orders .entry))) readings) (beatHeld (now (set .entry)) (linesIn (now (lines .entry))) (now (cancelled .entry)) (heldIn (now (r .entry)) (now (cells .entry)) (now (runs .entry)) channels (now (locked .entry)) (now (memory .entry)) (now (orders .entry))) automatic inputs readings (now (lent .entry))) .locked ⌝ }
+    ensures { λ x. ⌜ now (memory .exit) ≡ heldAfter (heldIn (now (r .entry)) (now (cells .entry)) (now (runs .entry)) channels (now (locked .entry)) (now (memory .entry)) (now (orders .entry))) (keptHeld (heldIn (now (r .entry)) (now (cells .entry)) (now (runs .entry)) channels (now (locked .entry)) (now (memory .entry)) (now (orders .entry))) readings) (beatHeld (now (set .entry)) (linesIn (now (lines .entry))) (now (cancelled .entry)) (heldIn (now (r .entry)) (now (cells .entry)) (now (runs .entry)) channels (now (locked .entry)) (now (memory .entry)) (now (orders .entry))) automatic inputs readings (now (lent .entry))) .memory ⌝ }
+    ensures { λ x. ⌜ now (orders .exit) ≡ heldAfter (heldIn (now (r .entry)) (now (cells .entry)) (now (runs .entry)) channels (now (locked .entry)) (now (memory .entry)) (now (orders .entry))) (keptHeld (heldIn (now (r .entry)) (now (cells .entry)) (now (runs .entry)) channels (now (locked .entry)) (now (memory .entry)) (now (orders .entry))) readings) (beatHeld (now (set .entry)) (linesIn (now (lines .entry))) (now (cancelled .entry)) (heldIn (now (r .entry)) (now (cells .entry)) (now (runs .entry)) channels (now (locked .entry)) (now (memory .entry)) (now (orders .entry))) automatic inputs readings (now (lent .entry))) .buffer ⌝ }
 {
     beat_held(
         set,
@@ -232,8 +258,10 @@ pub fn beat_over(
         locked,
         cancelled,
         memory,
+        channels,
         automatic,
         inputs,
+        readings,
         lent,
         orders,
     )
@@ -245,11 +273,12 @@ pub fn beat(
     state: State,
     automatic: bool,
     inputs: u16,
+    readings: [Reading; CHANNELS],
     lent: &[i32],
     orders: &mut [u8],
 ) -> Beaten
-    ensures { λ x. ⌜ x ≡ beatAnswer (now (set .entry)) state (record { automatic = automatic; word = inputs; lent = now (lent .entry); buffer = now (orders .entry) }) ⌝ }
-    ensures { λ x. ⌜ now (orders .exit) ≡ beatBuffer (now (set .entry)) state (record { automatic = automatic; word = inputs; lent = now (lent .entry); buffer = now (orders .entry) }) ⌝ }
+    ensures { λ x. ⌜ x ≡ beatAnswer (now (set .entry)) state (record { automatic = automatic; word = inputs; readings = readings; lent = now (lent .entry); buffer = now (orders .entry) }) ⌝ }
+    ensures { λ x. ⌜ now (orders .exit) ≡ beatBuffer (now (set .entry)) state (record { automatic = automatic; word = inputs; readings = readings; lent = now (lent .entry); buffer = now (orders .entry) }) ⌝ }
 {
     let mut lines = [0usize; READ];
     read_lines(set, &mut lines);
@@ -257,6 +286,7 @@ pub fn beat(
     let state_cells = state.cells;
     let mut cells = spread_cells(&state_cells);
     let mut runs = state.runs;
+    let channels = state.channels;
     let mut locked = state.locked;
     let cancelled = state.cancelled;
     let mut memory = state.memory;
@@ -269,16 +299,20 @@ pub fn beat(
         &mut locked,
         &cancelled,
         &mut memory,
+        channels,
         automatic,
         inputs,
+        readings,
         lent,
         orders,
     );
     let kept = kept_cells(&cells);
+    let next_channels = b.channels;
     let next = State {
         r: r,
         cells: kept,
         runs: runs,
+        channels: next_channels,
         locked: locked,
         cancelled: cancelled,
         memory: memory,

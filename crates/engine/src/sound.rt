@@ -1,4 +1,4 @@
-// Sound: what document 01 asks of a set and a state, tested at every call.
+// Sound: what documents 01 and 02 ask of a set and a state, tested at every call.
 ghost use mathlib.Core.Path.{_≡_};
 ghost use mathlib.Core.Bool.{Bool, _&&_};
 ghost use mathlib.Core.List.{List};
@@ -9,6 +9,9 @@ ghost use Rattle.working.specs.Variables.{fifos, stateCells};
 ghost use Rattle.tokens.specs.Token.{maxLines};
 use crate::set::sound_lines;
 use crate::state::State;
+use couplers::channel::CHANNELS;
+use couplers::channel::Channel;
+use couplers::channel::are_channels;
 use tokens::token::LINES;
 use tokens::token::SIZE;
 use values::arithmetic::Worked;
@@ -180,12 +183,13 @@ pub fn is_held_sound(
     count: usize,
     r: &[i32; RS],
     cells: &[i32],
+    channels: [Channel; CHANNELS],
     locked: &[bool; LINES],
     cancelled: &[bool; LINES],
     memory: &[bool; LINES],
 ) -> bool
     requires { ⌜ length (now cells) ≡ stateCells ⌝ }
-    ensures { λ x. ⌜ ((runs : List Bool) → x ≡ stateSound count (record { r = now (r .entry); cells = now (cells .entry); runs = runs; locked = now (locked .entry); cancelled = now (cancelled .entry); memory = now (memory .entry) })) ⌝ }
+    ensures { λ x. ⌜ ((runs : List Bool) → x ≡ stateSound count (record { r = now (r .entry); cells = now (cells .entry); runs = runs; channels = channels; locked = now (locked .entry); cancelled = now (cancelled .entry); memory = now (memory .entry) })) ⌝ }
 {
     if !all_ranged(r) {
         return false;
@@ -194,6 +198,9 @@ pub fn is_held_sound(
         return false;
     }
     if !are_fifos(r, cells) {
+        return false;
+    }
+    if !are_channels(channels) {
         return false;
     }
     are_flags(count, locked, cancelled, memory)
@@ -205,10 +212,11 @@ pub fn is_state_sound(count: usize, state: State) -> bool
 {
     let r = state.r;
     let cells = state.cells;
+    let channels = state.channels;
     let locked = state.locked;
     let cancelled = state.cancelled;
     let memory = state.memory;
-    is_held_sound(count, &r, &cells, &locked, &cancelled, &memory)
+    is_held_sound(count, &r, &cells, channels, &locked, &cancelled, &memory)
 }
 
 // Whether a set and a state are sound.

@@ -1,5 +1,7 @@
 // A short host: it loads a set, works ten beats with a lock, an unlock, a cancel and a reset in between, writes what each call answered, and at the end prints its set. A real host reads its inputs
 // from the terminals and hands the orders to the drives; this one has its inputs in `inputs_at` and writes the orders down. docs/HOST.md goes through it.
+use couplers::channel::CHANNELS;
+use couplers::reading::Reading;
 use engine::Beaten;
 use engine::Called;
 use engine::ORDERS;
@@ -82,12 +84,22 @@ fn called(text: &[u8], c: Called) -> State {
     state
 }
 
-// Beat k, in AUTOMATIC and with 14 numbers that are all 0. Its orders are carried out.
+// Beat k, in AUTOMATIC, with readings of 0 V and positions that are all 0. Its orders are carried out.
 fn one_beat(k: u32, set: &[u32; SIZE], state: State) -> Beaten {
-    let numbers = [0i32; 14];
+    let zero = Reading::Volts(0.0);
+    let readings = [zero; CHANNELS];
+    let positions = [0i32; 6];
     // Room for every order that a beat can give.
     let mut orders = [0u8; ORDERS];
-    let b = beat(set, state, true, inputs_at(k), &numbers, &mut orders);
+    let b = beat(
+        set,
+        state,
+        true,
+        inputs_at(k),
+        readings,
+        &positions,
+        &mut orders,
+    );
     tell(b"beat ", k as u64);
     tell(b": code ", b.code as u64);
     tell(b", orders ", b.orders as u64);
@@ -106,7 +118,7 @@ fn inputs_at(k: u32) -> u16 {
     }
 }
 
-// 20, a fault of the host, and 22, damaged memory, stop it. On 21 nothing was worked, and an alarm, 30 to 34, has undone its beat: the next one goes on.
+// 20, a fault of the host, and 22, damaged memory, stop it. On 21 and 23 nothing was worked, and an alarm, 30 to 34, has undone its beat: the next one goes on.
 fn stops_on(code: u8) -> bool {
     match code {
         SHORT_BUFFER | UNSOUND => true,

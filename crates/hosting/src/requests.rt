@@ -14,6 +14,9 @@ use crate::places::dump;
 use crate::places::put;
 use crate::places::with_value;
 use crate::places::write_set;
+use couplers::channel::CHANNELS;
+use couplers::reading::Reading;
+use couplers::reading::reading_of;
 use engine::Beaten;
 use engine::Called;
 use engine::State;
@@ -33,10 +36,12 @@ const FILL: u8 = 170;
 pub const TEXT: usize = 16384;
 // The longest buffer that a print may be lent.
 const PRINT: usize = 8192;
-// The longest list that a beat may be lent, and its place in a request.
-const LIST: usize = 32;
+// The readings of a beat in a request: two numbers each, its kind and its bits.
+const READINGS_AT: usize = 20;
+// The longest list of positions that a beat may be lent, and its place in a request.
+const LIST: usize = 16;
 
-const LIST_AT: usize = 20;
+const LIST_AT: usize = 84;
 
 fn first_text(text: &[u8; TEXT], n: u32) -> &[u8] {
     let all = &text[..];
@@ -52,6 +57,34 @@ fn load_first(request: &[u8; REQUEST], text: &[u8; TEXT], set: &mut [u32; SIZE])
 
 // ---- beats
 
+// The reading of a channel, from 0: 1 is a break, 2 a short circuit, any other kind a number of volts; a NaN's bits are a break.
+fn reading_at(request: &[u8; REQUEST], channel: usize) -> Reading {
+    if CHANNELS <= channel {
+        return Reading::Break;
+    }
+    let at = READINGS_AT + 8 * channel;
+    let kind = word(request, at);
+    if kind == 1 {
+        return Reading::Break;
+    }
+    if kind == 2 {
+        return Reading::Short;
+    }
+    reading_of(word(request, at + 4))
+}
+
+fn readings_of(request: &[u8; REQUEST]) -> [Reading; CHANNELS] {
+    let none = Reading::Break;
+    let mut readings = [none; CHANNELS];
+    let mut k: usize = 0;
+    while k < CHANNELS {
+        let r = reading_at(request, k);
+        readings[k] = r;
+        k += 1;
+    }
+    readings
+}
+
 fn list_of(request: &[u8; REQUEST]) -> [i32; LIST] {
     let mut numbers = [0i32; LIST];
     let mut k: usize = 0;
@@ -62,7 +95,7 @@ fn list_of(request: &[u8; REQUEST]) -> [i32; LIST] {
     numbers
 }
 
-// What a beat is lent: the mode, the input word, the numbers.
+// What a beat is lent beside them: the mode, the input word, the positions.
 fn is_automatic(request: &[u8; REQUEST]) -> bool {
     word(request, 4) == 1
 }
@@ -87,11 +120,13 @@ fn beat_over(
 ) -> Beaten {
     let from: usize = 0;
     let bytes = least(word(request, 12) as usize, buffer.len());
+    let readings = readings_of(request);
     beat(
         set,
         state,
         is_automatic(request),
         input_of(request),
+        readings,
         list,
         &mut buffer[from..bytes],
     )

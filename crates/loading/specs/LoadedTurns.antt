@@ -15,7 +15,7 @@ use Rattle.engine.specs.Set.{startOf, soundLines, withoutMark, withEnd}
 use Rattle.engine.specs.Sound.{isSound}
 use Rattle.engine.specs.Action.{World}
 use Rattle.engine.specs.Turn.{beatIn, turnsFrom}
-use Rattle.engine.specs.Beat.{bufferSize, areInputs, Given, beatBegun, wholeBeat}
+use Rattle.engine.specs.Beat.{bufferSize, areInputs, Given, samplesIn, beatBegun, wholeBeat}
 use Rattle.soundness.specs.Call.{Call, afterAll}
 use Rattle.turn_trees.specs.TurnTree.{namesOf, curveNamed, turnsTree}
 use Rattle.turn_trees.specs.SoundTurns.{TreesFrom, TreesOf, CurvesOf, sound-turns, beat-by-trees}
@@ -94,17 +94,17 @@ module _ (t : List ℕ) (q : Kept) (h : outcome t ≡ taken q) where
         ∙ rw (names-to unmarked unmarked-keeps ls (curveNamed ds) cancelled)
 
     -- A BEAT that is not refused
-    pub loaded-beat-by-trees : (st : State) (g : Given) → isSound (loadSet t) st ≡ true → ltb (length (g .buffer)) bufferSize ≡ false → areInputs (g .lent) ≡ true →
+    pub loaded-beat-by-trees : (st : State) (g : Given) → isSound (loadSet t) st ≡ true → ltb (length (g .buffer)) bufferSize ≡ false → areInputs (g .lent) ≡ true → samplesIn st g .good ≡ true →
         wholeBeat (loadSet t) st g
         ≡ (turnsTree (namesOf ls (curveNamed ds) (st .cancelled)) (g .automatic) ls 0 (beatBegun st g) >>= λ u. good (record { world = u .world; entries = beatIn (g .automatic) ∷ u .entries }))
-    loaded-beat-by-trees st g a b c =
+    loaded-beat-by-trees st g a b c d =
         let n = load-size t in
-        beat-by-trees (loadSet t) (map unmarkedTree ls) (curveNamed ds) st g (omega arith) load-trees load-curves a b c
+        beat-by-trees (loadSet t) (map unmarkedTree ls) (curveNamed ds) st g (omega arith) load-trees load-curves a b c d
         ∙ rw (turns-to unmarked unmarked-keeps (namesOf (map unmarkedTree ls) (curveNamed ds) (st .cancelled)) (g .automatic) ls 0 (beatBegun st g), names-to unmarked unmarked-keeps ls (curveNamed ds) (st .cancelled))
 
     -- SO AFTER ANY CALLS from the load on
     pub beat-after-calls : (cs : List Call) (g : Given) → ltb (length (g .buffer)) bufferSize ≡ false → areInputs (g .lent) ≡ true →
-        let st : State = afterAll (loadSet t) (loadAnswer t .state) cs in
+        let st : State = afterAll (loadSet t) (loadAnswer t .state) cs in samplesIn st g .good ≡ true →
         wholeBeat (loadSet t) st g
         ≡ (turnsTree (namesOf ls (curveNamed ds) (st .cancelled)) (g .automatic) ls 0 (beatBegun st g) >>= λ u. good (record { world = u .world; entries = beatIn (g .automatic) ∷ u .entries }))
-    beat-after-calls cs g b c = loaded-beat-by-trees (afterAll (loadSet t) (loadAnswer t .state) cs) g (load-always-sound t cs) b c
+    beat-after-calls cs g b c d = loaded-beat-by-trees (afterAll (loadSet t) (loadAnswer t .state) cs) g (load-always-sound t cs) b c d

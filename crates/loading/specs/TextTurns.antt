@@ -10,7 +10,7 @@ use Rattle.tokens.specs.Descent.{good, _>>=_}
 use Rattle.grammar.specs.Tree.{Line, treeNumber, Definition}
 use Rattle.engine.specs.declared.state.State.{State}
 use Rattle.engine.specs.Turn.{beatIn}
-use Rattle.engine.specs.Beat.{bufferSize, areInputs, Given, beatBegun, wholeBeat}
+use Rattle.engine.specs.Beat.{bufferSize, areInputs, Given, samplesIn, beatBegun, wholeBeat}
 use Rattle.soundness.specs.Call.{Call, afterAll}
 use Rattle.soundness.specs.AnswerCodes.{OneOf}
 use Rattle.turn_trees.specs.TurnTree.{namesOf, curveNamed, turnsTree}
@@ -58,8 +58,8 @@ module _ (t : List ℕ) (ds : List Definition) (xs : List Line) (takes : Takes t
 
   -- A BEAT that is not refused, after any calls from the load on
   pub beat-of-text : (cs : List Call) (g : Given) → ltb (length (g .buffer)) bufferSize ≡ false → areInputs (g .lent) ≡ true →
-      let st : State = afterAll (loadSet t) (loadAnswer t .state) cs in
+      let st : State = afterAll (loadSet t) (loadAnswer t .state) cs in samplesIn st g .good ≡ true →
       let ls : List Line = risingTrees xs in
       wholeBeat (loadSet t) st g
       ≡ (turnsTree (namesOf ls (curveNamed ds) (st .cancelled)) (g .automatic) ls 0 (beatBegun st g) >>= λ u. good (record { world = u .world; entries = beatIn (g .automatic) ∷ u .entries }))
-  beat-of-text cs g b c = beat-after-calls t (keptOf t) (takes-rows t ds xs takes) (risingTrees xs) rows-trees ds (curves-definitions t ds xs takes) cs g b c
+  beat-of-text cs g b c d = beat-after-calls t (keptOf t) (takes-rows t ds xs takes) (risingTrees xs) rows-trees ds (curves-definitions t ds xs takes) cs g b c d

@@ -8,6 +8,9 @@ use Rattle.values.specs.Time.{millisOf, grownTimer, writtenTimer}
 use Rattle.values.specs.Fifo.{fits, appendAnswer, appended, shifted, removeAnswer, removed, oldestOf, newestOf, sumFirst, sumAll, totalOf, countOf, cleared, emptyAnswer, emptied}
 use Rattle.engine.specs.Order.{fourBytes, orderBytes}
 use Rattle.values.specs.Complement.{twosComplement}
+use lib.Ieee.{nanBits, ofBits}
+use Rattle.couplers.specs.Conversion.{nearestEven, signedThousandths, thousandthsOf, readingOf}
+use Rattle.couplers.specs.Channel.{sampledFault, freshChannels, isChannel, areChannels, allGood, valuesSampled, channelsSampled, sampledAll}
 use Rattle.tokens.specs.Descent.{isIndex, indexOf, isIndexed, indexAt, joined, more, readProduct, readSum, readRest, readExpression, readClose, readVariable, readTruth, operandFrom, readOperand, sumAt, expressionAt}
 use Rattle.tokens.specs.Index.{isInside}
 use Rattle.working.specs.Variables.{cellOf, beatCount, fifoValue, fifoAt, variableValue}
@@ -43,7 +46,7 @@ use Rattle.grammar.specs.TreeNames.{actionsNames, namesIn, eachKnown}
 use Rattle.grammar.specs.TreeOf.{factorsGuess, productGuess, termsGuess, sumGuess, sumsGuess, expressionGuess, operandFirst, operandGuess, actionGuess, actionsGuess, conditionGuess, lineGuess, sameTokens, ifWritten, treeOf}
 use Rattle.reader.specs.Load.{faultOf, lineBelow, tokensFault, faultBelow, keptWith, rowsFrom, firstNot, named, outcome, loadAnswer, loadSet}
 use Rattle.transcript.specs.Input.{beatLines, cut, inputOf}
-use Rattle.transcript.specs.BeatLine.{lentNumber, lentNumbers, modeOf, allDigits, wholeOf, fieldsLent, lineLent}
+use Rattle.transcript.specs.BeatLine.{lentNumber, allHex, hexValue, lentReading, eachOf, lentPositions, modeOf, allDigits, wholeOf, fieldsLent, lineLent}
 use Rattle.text.specs.Digits.{digitsUp, signedText}
 use Rattle.transcript.specs.Output.{spaced, fourOf, loadLine, errorLine, codeLine, orderLine, orderLines, endLine}
 use Rattle.transcript.specs.Tally.{answerOf, bufferOf, beatText}
@@ -53,7 +56,7 @@ abbrev prints : String → List ℕ
 prints t = synrun (bytes t)
 
 example :
-    map prints ("ID=1 EVERY $A_IN[1]==1 DO $AC_MARKER[0]=$AC_MARKER[0]+1 M=7\n*\nA 1\nA 1\nA 0\nA 1\n" ∷ "" ∷ "*" ∷ "*\r" ∷ "ID=1 DO FA[X]=$A_INA[1]\r\n*\r\nA 0 5\r\nM 007 -0\r\nA 0 -1\nA 0  1\nA" ∷ [])
+    map prints ("ID=1 EVERY $A_IN[1]==1 DO $AC_MARKER[0]=$AC_MARKER[0]+1 M=7\n*\nA 1\nA 1\nA 0\nA 1\n" ∷ "" ∷ "*" ∷ "*\r" ∷ "ID=1 DO FA[X]=$A_INA[1]\r\n*\r\nA 0 3BA3D70A\r\nM 007 80000000\r\nA 0 BF800000\nA 0  1\nA" ∷ [])
     ≡ map bytes ("C 1 0 1\nO 1 4 0 7\nC 2 0 0\nC 3 0 0\nC 4 0 1\nO 1 4 0 7\nEND 4 0 2\n" ∷ "END 0 0 0\n" ∷ "END 0 0 0\n" ∷ "L 3 1\n" ∷ "C 1 0 1\nO 1 2 1 5\nC 2 0 0\nC 3 34 0\nE 4\n" ∷ [])
-unfolding inRange valued sumOf differenceOf productOf quotientOf negationOf lessThan equalTo wholeUnits nearestUnits markerOf outputOf feedOf signOf millisOf grownTimer writtenTimer fits appendAnswer appended shifted removeAnswer removed oldestOf newestOf sumFirst sumAll totalOf countOf cleared emptyAnswer emptied twosComplement fourBytes orderBytes isIndex indexOf isIndexed indexAt joined more readProduct readSum readRest readExpression readClose readVariable readTruth operandFrom readOperand sumAt expressionAt isInside cellOf beatCount fifoValue fifoAt variableValue lower opensTooMany wantingFault numberFault readFault joinSights sight isWritable writeFault codeFault idFault callFault countFault numberOf isRemoval assignedAt assignmentAt commandAt actionAt movesAt actionsAt lineParts bodyAt restAt lineAt joinLogic joinTruths joinValues valueOver conditionValue rightValue emptySet linesFrom linesRead rankIn namesKnown allKnown namedLines soundLines powerOn grownCells inputCells beatCells allRanged isCell areCells allZero isFifoSound isFlag areFlags stateSound isSound changeAnswer changed changeFifo writeFifo writeCell writeInside writeTo driveOrder alarmOf lockOf takenAt assignmentOf driveOf commandOf actionOf actionsOf tries acts remembers takesTurn doTurn tryTurn turnOf turnsFrom areInputs beatBegun beatEnded wholeBeat beatAnswer beatBuffer foundAt found called lockedCall lockCall unlockCall cancelCall resetCancelled zeroed resetState resetCall run wordToken written isFit numberToken wordFirst behindPoint numberWith numberFirst signFirst firstToken tokensFrom tokensOf split withoutReturn withoutComment bodies firstBody boundsAt isBlank numbered tokenLines numbersOf total leastFrom leastAbove rising withoutMark withLine placed setOf factorsGuess productGuess termsGuess sumGuess sumsGuess expressionGuess operandFirst operandGuess actionGuess actionsGuess conditionGuess lineGuess sameTokens ifWritten treeOf operandTokens actionTokens actionsTokens conditionTokens lineTokens operandMeaning rightFault isRemovalTree assignedFault actionFault actionsFault movesOf partsFault lineFault isAmong areApart movesFault actionsNames namesIn eachKnown faultOf tokensFault faultBelow rowsFrom firstNot named outcome loadAnswer loadSet beatLines cut inputOf lentNumber lentNumbers modeOf allDigits wholeOf fieldsLent lineLent digitsUp fourOf signedText loadLine errorLine codeLine orderLine orderLines endLine answerOf bufferOf beatText beatsText loadedText synrun areFifos spaced unindexedAt curvesSound curveSlots lineBelow keptWith
+unfolding inRange valued sumOf differenceOf productOf quotientOf negationOf lessThan equalTo wholeUnits nearestUnits markerOf outputOf feedOf signOf millisOf grownTimer writtenTimer fits appendAnswer appended shifted removeAnswer removed oldestOf newestOf sumFirst sumAll totalOf countOf cleared emptyAnswer emptied twosComplement fourBytes orderBytes isIndex indexOf isIndexed indexAt joined more readProduct readSum readRest readExpression readClose readVariable readTruth operandFrom readOperand sumAt expressionAt isInside cellOf beatCount fifoValue fifoAt variableValue lower opensTooMany wantingFault numberFault readFault joinSights sight isWritable writeFault codeFault idFault callFault countFault numberOf isRemoval assignedAt assignmentAt commandAt actionAt movesAt actionsAt lineParts bodyAt restAt lineAt joinLogic joinTruths joinValues valueOver conditionValue rightValue emptySet linesFrom linesRead rankIn namesKnown allKnown namedLines soundLines powerOn grownCells inputCells beatCells allRanged isCell areCells allZero isFifoSound isFlag areFlags stateSound isSound changeAnswer changed changeFifo writeFifo writeCell writeInside writeTo driveOrder alarmOf lockOf takenAt assignmentOf driveOf commandOf actionOf actionsOf tries acts remembers takesTurn doTurn tryTurn turnOf turnsFrom areInputs beatBegun beatEnded wholeBeat beatAnswer beatBuffer foundAt found called lockedCall lockCall unlockCall cancelCall resetCancelled zeroed resetState resetCall run wordToken written isFit numberToken wordFirst behindPoint numberWith numberFirst signFirst firstToken tokensFrom tokensOf split withoutReturn withoutComment bodies firstBody boundsAt isBlank numbered tokenLines numbersOf total leastFrom leastAbove rising withoutMark withLine placed setOf factorsGuess productGuess termsGuess sumGuess sumsGuess expressionGuess operandFirst operandGuess actionGuess actionsGuess conditionGuess lineGuess sameTokens ifWritten treeOf operandTokens actionTokens actionsTokens conditionTokens lineTokens operandMeaning rightFault isRemovalTree assignedFault actionFault actionsFault movesOf partsFault lineFault isAmong areApart movesFault actionsNames namesIn eachKnown faultOf tokensFault faultBelow rowsFrom firstNot named outcome loadAnswer loadSet beatLines cut inputOf lentNumber modeOf allDigits wholeOf fieldsLent lineLent digitsUp fourOf signedText loadLine errorLine codeLine orderLine orderLines endLine answerOf bufferOf beatText beatsText loadedText synrun areFifos spaced unindexedAt curvesSound curveSlots lineBelow keptWith allHex hexValue lentReading eachOf lentPositions nanBits ofBits readingOf thousandthsOf signedThousandths nearestEven sampledFault freshChannels isChannel areChannels allGood valuesSampled channelsSampled sampledAll
 example = refl

@@ -1,9 +1,9 @@
--- Which codes a call may answer, by document 01's names for them (Codes of `values`). Definitions only.
+-- Which codes a call may answer, by their names (Codes of `values`). Definitions only.
 use mathlib.Core.Path.{_≡_}
 use mathlib.Core.Logic.{_⊎_}
 use mathlib.Core.List.{List, [], _∷_}
 use Prim.Native.Nat.{ℕ}
-use Rattle.values.specs.Codes.{shortBuffer, wrongNumbers, unsound, outOfRange, zeroDivisor, fifoEmpty, fifoFull, notAllowed, unknownLine}
+use Rattle.values.specs.Codes.{shortBuffer, wrongNumbers, unsound, faultyChannel, outOfRange, zeroDivisor, fifoEmpty, fifoFull, notAllowed, unknownLine}
 
 -- x is one of some
 abbrev pub OneOf : {A : Type 0} → A → List A → Type 0
@@ -20,7 +20,7 @@ synfctCodes = outOfRange ∷ fifoEmpty ∷ fifoFull ∷ notAllowed ∷ []
 
 -- what may stop a beat: its checks, and what may end its turns
 abbrev pub beatCodes : List ℕ
-beatCodes = shortBuffer ∷ wrongNumbers ∷ turnCodes
+beatCodes = shortBuffer ∷ wrongNumbers ∷ faultyChannel ∷ turnCodes
 
 -- what may refuse a host's call
 abbrev pub hostCodes : List ℕ

@@ -18,7 +18,7 @@ use Rattle.engine.specs.declared.named_line.Found.{Found}
 use Rattle.engine.specs.Set.{rankIn, soundLines}
 use Rattle.engine.specs.Sound.{isSound}
 use Rattle.engine.specs.Turn.{Turned}
-use Rattle.engine.specs.Beat.{bufferSize, areInputs, Given, allTurns, beatBegun, wholeBeat, turnedAnswer, beatAnswer}
+use Rattle.engine.specs.Beat.{bufferSize, areInputs, Given, samplesIn, allTurns, beatBegun, wholeBeat, turnedAnswer, beatAnswer}
 use Rattle.engine.specs.NamedLine.{foundAt, found}
 use Rattle.engine.specs.Calls.{withLocked, withCancelled, called, lockedCall, lockCall, unlockCall, cancelCall, resetCall}
 use Rattle.soundness.specs.AnswerCodes.{OneOf, beatCodes, hostCodes}
@@ -42,10 +42,10 @@ not-0 (x ∷ xs) c w (inr h) e = not-0 xs c (both (ltb 0 x) (without0 xs) w .1) 
 
 turn-code : {A : Type 0} (x : Answer A) → StopsBy TurnCode x → StopsBy BeatCode x
 turn-code (good a) h = tt
-turn-code (stop c) h = inr (inr h)
+turn-code (stop c) h = inr (inr (inr h))
 
 module _ (s : List ℕ) (st : State) (g : Given) where
-  -- a beat stops by 20, 21, 22 or an alarm of 30 to 34
+  -- a beat stops by 20 to 23 or an alarm of 30 to 34
   beat-stops : StopsBy BeatCode (wholeBeat s st g)
   unfolding wholeBeat
   beat-stops =
@@ -54,20 +54,22 @@ module _ (s : List ℕ) (st : State) (g : Given) where
       either P (isSound s st)
       (λ e. either P (ltb (length (g .buffer)) bufferSize) (λ e. inl refl) λ e.
       either P (areInputs (g .lent))
+      (λ e. either P (samplesIn st g .good)
       (λ e. stops-then BeatCode turns _ (turn-code turns (turns-by s (soundLines s .numbers) (st .cancelled) (g .automatic) (soundLines s .items) (soundLines s .count) 0 (beatBegun st g))) (λ t. tt))
+      (λ e. inr (inr (inl refl))))
       (λ e. inr (inl refl)))
-      (λ e. inr (inr (inl refl)))
+      (λ e. inr (inr (inr (inl refl))))
 
   -- A BEAT THAT STOPPED NEVER HAS 0
   pub stopped-not-0 : (c : ℕ) → wholeBeat s st g ≡ stop c → c ≢ 0
   stopped-not-0 c e = not-0 beatCodes c refl (rw e at beat-stops)
 
-  -- A BEAT ANSWERS 0, 20, 21, 22 or an alarm of 30 to 34
+  -- A BEAT ANSWERS 0, 20 to 23 or an alarm of 30 to 34
   pub beat-code : OneOf (beatAnswer s st g .code) (0 ∷ beatCodes)
   unfolding beatAnswer
   beat-code = by-answer (wholeBeat s st g) beat-stops
     where
-      by-answer : (x : Answer Turned) → StopsBy BeatCode x → OneOf (turnedAnswer st x .code) (0 ∷ beatCodes)
+      by-answer : (x : Answer Turned) → StopsBy BeatCode x → OneOf (turnedAnswer st (samplesIn st g .channels) x .code) (0 ∷ beatCodes)
       by-answer (good t) h = inl refl
       by-answer (stop c) h = inr h
 
@@ -76,7 +78,7 @@ module _ (s : List ℕ) (st : State) (g : Given) where
   unfolding beatAnswer
   ended-well e = by-answer (wholeBeat s st g) refl e
     where
-      by-answer : (x : Answer Turned) → wholeBeat s st g ≡ x → turnedAnswer st x .code ≡ 0 → (t : Turned) × (wholeBeat s st g ≡ good t)
+      by-answer : (x : Answer Turned) → wholeBeat s st g ≡ x → turnedAnswer st (samplesIn st g .channels) x .code ≡ 0 → (t : Turned) × (wholeBeat s st g ≡ good t)
       by-answer (good t) p e = (t, p)
       by-answer (stop c) p e = absurd (stopped-not-0 c p e)
 

@@ -59,7 +59,7 @@ locked-keeps s st n b h =
     let e = state-right s st h in
     called-keeps s st (found s st n) (λ k. withLocked st k b) h (found-named s st n) λ k l c.
     right-state s (withLocked st k b) (set-sound s st h)
-    (record { cells = e .cells; flags = lock-keeps (soundLines s .count) (st .locked) (st .cancelled) (st .memory) (e .flags) k l b c })
+    (record { cells = e .cells; channels = e .channels; flags = lock-keeps (soundLines s .count) (st .locked) (st .cancelled) (st .memory) (e .flags) k l b c })
 
 -- lock keeps a sound state sound
 pub lockCall-keeps : (s : List ℕ) (st : State) (n : ℕ) → isSound s st ≡ true → isSound s (lockCall s st n .state) ≡ true
@@ -78,7 +78,7 @@ cancelCall-keeps s st n h =
     let e = state-right s st h in
     called-keeps s st (found s st n) (λ k. withCancelled st k) h (found-named s st n) λ k l c.
     right-state s (withCancelled st k) (set-sound s st h)
-    (record { cells = e .cells; flags = cancel-keeps (soundLines s .count) (st .locked) (st .cancelled) (st .memory) (e .flags) k l })
+    (record { cells = e .cells; channels = e .channels; flags = cancel-keeps (soundLines s .count) (st .locked) (st .cancelled) (st .memory) (e .flags) k l })
 
 -- ---- reset
 
@@ -152,6 +152,7 @@ resetCall-keeps s st h =
     right-state s _ (set-sound s st h)
     (record {
       cells = cells-swapped (st .r) (st .cells) (zeroed (st .cells)) (e .cells) (zeroed-right (st .cells) (e .cells .right)) (zeroed-count (st .cells));
+      channels = e .channels;
       flags = reset-flags (soundLines s .count) (soundLines s .items) (st .locked) (st .cancelled) (st .memory) (e .flags);
     })
 

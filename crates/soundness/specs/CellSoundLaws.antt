@@ -21,6 +21,7 @@ use Rattle.tokens.specs.Token.{maxLines}
 use Rattle.working.specs.Variables.{fifos, runAt, markerAt, paramAt, timerAt, countAt, stateCells, run, asCount, countIn}
 use Rattle.engine.specs.declared.state.State.{State}
 use Rattle.engine.specs.Set.{soundLines}
+use Rattle.couplers.specs.Channel.{channelCount, freshChannels, isChannel, areChannels}
 use Rattle.engine.specs.State.{powerOn}
 use Rattle.engine.specs.Sound.{allRanged, isOutput, isCell, areCells, allZero, isFifoSound, areFifos, isFlag, areFlags, stateSound, isSound}
 use Rattle.engine.specs.Write.{withRun}
@@ -191,6 +192,7 @@ pub record CellsSound (r c : List ℤ) : Type 0 where
 -- a sound state
 pub record StateRight (count : ℕ) (st : State) : Type 0 where
   pub cells : CellsSound (st .r) (st .cells)
+  pub channels : areChannels (st .channels) channelCount ≡ true
   pub flags : FlagsRight count (st .locked) (st .cancelled) (st .memory)
 
 each-below : (P : ℕ → Type 0) → P 0 → P 1 → P 2 → P 3 → (k : ℕ) → k < fifos → P k
@@ -206,6 +208,7 @@ unfolding stateSound areFifos
 sound-right count st h =
     let h1 = both (allRanged (st .r)) _ h .1 in
     let h2 = both (areCells (st .cells) 0) _ h1 .1 in
+    let h3 = both (areFifos (st .r) (st .cells) fifos 0) _ h2 .1 in
     let f0 = both (areFifos (st .r) (st .cells) fifos 0) _ h2 .0 in
     let f1 = both (isFifoSound (st .r) (st .cells) 0) _ f0 .1 in
     let f2 = both (isFifoSound (st .r) (st .cells) 1) _ f1 .1 in
@@ -220,7 +223,8 @@ sound-right count st h =
             (fifo-each (st .r) (st .cells) 2 (both (isFifoSound (st .r) (st .cells) 2) _ f2 .0))
             (fifo-each (st .r) (st .cells) 3 (both (isFifoSound (st .r) (st .cells) 3) _ f3 .0));
       };
-      flags = flags-each count (st .locked) (st .cancelled) (st .memory) (both (areFifos (st .r) (st .cells) fifos 0) _ h2 .1);
+      channels = both (areChannels (st .channels) channelCount) _ h3 .0;
+      flags = flags-each count (st .locked) (st .cancelled) (st .memory) (both (areChannels (st .channels) channelCount) _ h3 .1);
     }
 
 -- and what makes it true
@@ -234,7 +238,7 @@ right-sound count st h =
     (and-true (each-fifo (st .r) (st .cells) 1 (h .cells .unused 1 (omega arith)))
     (and-true (each-fifo (st .r) (st .cells) 2 (h .cells .unused 2 (omega arith)))
     (and-true (each-fifo (st .r) (st .cells) 3 (h .cells .unused 3 (omega arith))) refl))))
-    (each-flags count (st .locked) (st .cancelled) (st .memory) (h .flags))))
+    (and-true (h .channels) (each-flags count (st .locked) (st .cancelled) (st .memory) (h .flags)))))
 
 -- a set and a state are sound: the set is
 pub set-sound : (s : List ℕ) (st : State) → isSound s st ≡ true → soundLines s .sound ≡ true
@@ -289,7 +293,7 @@ flag-beyond count k a b c l h = let e = rw (le-ltb k count l) at h in by-flags a
 
 -- the state at power-on is sound for any number of lines
 pub power-on-sound : (n : ℕ) → stateSound n powerOn ≡ true
-unfolding stateSound powerOn allRanged areCells areFifos isFifoSound allZero isCell inRange outputOf wholeUnits equalTo lessThan
+unfolding stateSound powerOn freshChannels areChannels isChannel allRanged areCells areFifos isFifoSound allZero isCell inRange outputOf wholeUnits equalTo lessThan
 power-on-sound n =
     each-flags n (replicate maxLines false) (replicate maxLines false) (replicate maxLines false) (λ k l. rw (same-each maxLines k false) (flag-none n k))
 

@@ -19,12 +19,15 @@ use Rattle.values.specs.FifoLaws.{PlacesRanged, zero-in-range, InRange}
 use Rattle.values.specs.Numbers.{clash}
 use Rattle.tokens.specs.Token.{WHEN, WHENEVER, FROM, EVERY, isKeyword, setSize, maxActions}
 use Rattle.tokens.specs.Descent.{Answer, good, stop}
+use Rattle.couplers.specs.Channel.{channelCount}
+use Rattle.couplers.specs.ChannelLaws.{samples-in-range, samples-length, samples-sound}
 use Rattle.working.specs.Operators.{isYes}
 use Rattle.working.specs.Working.{conditionValue}
+use Rattle.couplers.specs.declared.channel.Channel.{Channel}
 use Rattle.engine.specs.declared.state.State.{State}
 use Rattle.engine.specs.declared.calls.Called.{Called}
 use Rattle.engine.specs.Set.{startOf, lineOf, soundLines}
-use Rattle.working.specs.Variables.{timerCount, rCount, timerAt, stateCells, bitCount, numberCount, inputCount}
+use Rattle.working.specs.Variables.{timerCount, rCount, timerAt, stateCells, bitCount, positionCount, inputCount}
 use Rattle.engine.specs.State.{powerOn}
 use Rattle.engine.specs.Cells.{inputCell, inputCells, beatCells}
 use Rattle.engine.specs.Timers.{grownCells}
@@ -33,7 +36,7 @@ use Rattle.engine.specs.Action.{World, Did, fromValueOrAlarm}
 use Rattle.engine.specs.Actions.{actionsOf}
 use Rattle.engine.specs.Turn.{Entry, Turned, remembered, counted, takesTurn, doTurn, tryTurn, turnOf, turnsFrom}
 use Rattle.engine.specs.Keyword.{tries, remembers}
-use Rattle.engine.specs.Beat.{bufferSize, areInputs, Given, beatBegun, beatEnded, allTurns, wholeBeat, turnedAnswer, beatAnswer}
+use Rattle.engine.specs.Beat.{bufferSize, areInputs, Given, samplesIn, beatBegun, beatEnded, allTurns, wholeBeat, turnedAnswer, beatAnswer}
 use Rattle.engine.specs.Calls.{lockCall, unlockCall, cancelCall}
 use Rattle.engine.specs.InputLaws.{length-inputs, inputs-length}
 use Rattle.soundness.specs.Call.{Call, doBeat, doLock, doUnlock, doCancel, doReset, stateAfter, codeAfter, afterAll}
@@ -149,20 +152,24 @@ grown-sound r runs c (suc n) l h =
 
 lent-ranged : (lent : List ℤ) → areInputs lent ≡ true → PlacesRanged lent
 unfolding areInputs
-lent-ranged lent h = ranged-each lent (both (eqb (length lent) numberCount) _ h .1)
+lent-ranged lent h = ranged-each lent (both (eqb (length lent) positionCount) _ h .1)
 
 -- the cells of a beat that begins from a sound state
-pub begun-cells : (r c : List ℤ) (word : ℕ) (lent : List ℤ) (runs : List Bool) → length r ≡ rCount → length c ≡ stateCells → areInputs lent ≡ true → CellsSound r c → BeatSound r (beatCells word lent runs c)
+pub begun-cells : (r c : List ℤ) (word : ℕ) (values lent : List ℤ) (runs : List Bool) → length r ≡ rCount → length c ≡ stateCells → length values ≡ channelCount → PlacesRanged values → areInputs lent ≡ true → CellsSound r c →
+    BeatSound r (beatCells word values lent runs c)
 unfolding beatCells
-begun-cells r c word lent runs lr lc a h = record {
-  long = lr;
-  sized = omega (arith, length-append (inputCells word bitCount) (lent ++ grownCells runs c timerCount), length-append lent (grownCells runs c timerCount), length-inputs word bitCount, inputs-length lent a, grown-length runs c timerCount);
-  ranged = append-each InRange (inputCells word bitCount) (lent ++ grownCells runs c timerCount) (inputs-ranged word bitCount)
-      (append-each InRange lent (grownCells runs c timerCount) (lent-ranged lent a) (λ i. cell-ranged i _ (grown-sound r runs c timerCount (omega arith) h .right i)));
-  state =
-      let e : length (inputCells word bitCount ++ lent) ≡ inputCount = omega (arith, length-append (inputCells word bitCount) lent, length-inputs word bitCount, inputs-length lent a) in
-      rw (← append-assoc (inputCells word bitCount) lent (grownCells runs c timerCount), drop-at (inputCells word bitCount ++ lent) (grownCells runs c timerCount) inputCount e) (grown-sound r runs c timerCount (omega arith) h);
-}
+begun-cells r c word values lent runs lr lc lv v a h =
+    let bits = inputCells word bitCount in
+    let grown = grownCells runs c timerCount in
+    record {
+      long = lr;
+      sized = omega (arith, length-append bits (values ++ (lent ++ grown)), length-append values (lent ++ grown), length-append lent grown, length-inputs word bitCount, inputs-length lent a, grown-length runs c timerCount);
+      ranged = append-each InRange bits (values ++ (lent ++ grown)) (inputs-ranged word bitCount)
+          (append-each InRange values (lent ++ grown) v (append-each InRange lent grown (lent-ranged lent a) (λ i. cell-ranged i _ (grown-sound r runs c timerCount (omega arith) h .right i))));
+      state =
+          let e : length (bits ++ (values ++ lent)) ≡ inputCount = omega (arith, length-append bits (values ++ lent), length-append values lent, length-inputs word bitCount, inputs-length lent a) in
+          rw (← append-assoc values lent grown, ← append-assoc bits (values ++ lent) grown, drop-at (bits ++ (values ++ lent)) grown inputCount e) (grown-sound r runs c timerCount (omega arith) h);
+    }
 
 -- ---- the beat
 
@@ -173,34 +180,36 @@ pub record Whole (s : List ℕ) (st : State) : Type 0 where
   pub sized : length (st .cells) ≡ stateCells
 
 -- a beat that goes well leaves one, and it stops by no 22
-beat-holds : (s : List ℕ) (st : State) (g : Given) → length s ≤ setSize → Whole s st → Holds (λ t. Whole s (beatEnded st (t .world))) (wholeBeat s st g)
+beat-holds : (s : List ℕ) (st : State) (g : Given) → length s ≤ setSize → Whole s st → Holds (λ t. Whole s (beatEnded st (samplesIn st g .channels) (t .world))) (wholeBeat s st g)
 unfolding wholeBeat beatBegun beatEnded
 beat-holds s st g l h =
     let y = h .sound in
     ifNot P (isSound s st) (λ e. clash (cc)) λ e.
     either P (ltb (length (g .buffer)) bufferSize) (λ b z. omega arith) λ b.
     ifNot P (areInputs (g .lent)) (λ a z. omega arith) λ a.
-    let vars = begun-cells (st .r) (st .cells) (g .word) (g .lent) (st .runs) (h .long) (h .sized) a (state-right s st e .cells) in
-    holds-then (λ (t : Turned). WorldSound (soundLines s .count) (st .cancelled) (t .world)) (λ t. Whole s (beatEnded st (t .world)))
+    ifNot P (samplesIn st g .good) (λ c z. omega arith) λ c.
+    let vars =
+    begun-cells (st .r) (st .cells) (g .word) (samplesIn st g .values) (g .lent) (st .runs) (h .long) (h .sized) (samples-length (st .channels) (g .readings)) (samples-in-range (st .channels) (g .readings)) a (state-right s st e .cells) in
+    holds-then (λ (t : Turned). WorldSound (soundLines s .count) (st .cancelled) (t .world)) (λ t. Whole s (beatEnded st (samplesIn st g .channels) (t .world)))
     (allTurns s (soundLines s) st g) _
     (turns-fine s (set-sound s st e) l (st .cancelled) (g .automatic) (soundLines s .count) 0 (beatBegun st g) (omega arith) (record { vars = vars; flags = state-right s st e .flags })) λ t f.
     record {
-      sound = right-state s (beatEnded st (t .world)) (set-sound s st e) (record { cells = f .vars .state; flags = f .flags });
+      sound = right-state s (beatEnded st (samplesIn st g .channels) (t .world)) (set-sound s st e) (record { cells = f .vars .state; channels = samples-sound (st .channels) (g .readings) (state-right s st e .channels); flags = f .flags });
       long = f .vars .long;
       sized = omega (arith, length-drop inputCount (t .world .vars .cells), f .vars .sized);
     }
   where
     P : Answer Turned → Type 0
-    P = Holds (λ t. Whole s (beatEnded st (t .world)))
+    P = Holds (λ t. Whole s (beatEnded st (samplesIn st g .channels) (t .world)))
 
-answered-whole : (s : List ℕ) (st : State) (x : Answer Turned) → Whole s st → Holds (λ t. Whole s (beatEnded st (t .world))) x → Whole s (turnedAnswer st x .state) × Not22 (turnedAnswer st x .code)
-answered-whole s st (good t) h e = (e, λ z. omega arith)
-answered-whole s st (stop k) h e = (h, e)
+answered-whole : (s : List ℕ) (st : State) (kept : List Channel) (x : Answer Turned) → Whole s st → Holds (λ t. Whole s (beatEnded st kept (t .world))) x → Whole s (turnedAnswer st kept x .state) × Not22 (turnedAnswer st kept x .code)
+answered-whole s st kept (good t) h e = (e, λ z. omega arith)
+answered-whole s st kept (stop k) h e = (h, e)
 
 -- a beat leaves a sound state of its size, whatever it answers, and that is not 22
 pub beat-answers : (s : List ℕ) (st : State) (g : Given) → length s ≤ setSize → Whole s st → Whole s (beatAnswer s st g .state) × Not22 (beatAnswer s st g .code)
 unfolding beatAnswer
-beat-answers s st g l h = answered-whole s st (wholeBeat s st g) h (beat-holds s st g l h)
+beat-answers s st g l h = answered-whole s st (samplesIn st g .channels) (wholeBeat s st g) h (beat-holds s st g l h)
 
 -- ---- call after call
 

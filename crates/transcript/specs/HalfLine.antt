@@ -1,29 +1,38 @@
--- A beat line read byte by byte, as the code does; that this comes to what BeatLine says is shown in the crate `sessions`. Behind that the words for fields that the code reads whole. Definitions only.
+-- A beat line read byte by byte, as the code does; that this comes to what BeatLine says is shown in the crate `sessions`. Behind that the words for digits that the code reads at once. Definitions only.
 use mathlib.Core.Path.{_≡_}
-use mathlib.Core.Logic.{_⊎_}
-use mathlib.Core.Bool.{Bool, true, false, _&&_, _||_}
+use mathlib.Core.Bool.{Bool, true, false, cond, _&&_, _||_}
 use mathlib.Core.List.{List, [], _∷_}
 use mathlib.Core.Option.{Option, none, some}
-use Prim.Native.Nat.{ℕ, _+_, _-_, _*_, _≤_, _<_, min}
+use Prim.Native.Nat.{ℕ, _+_, _-_, _*_, _%_, _≤_, min}
 use lib.Dec.{eqb, leb, ltb}
 use lib.IntN.{ℤ, pos}
-use lib.ListN.{getD, set, replicate}
-use Rattle.working.specs.Variables.{numberCount}
+use lib.ListN.{set, replicate}
+use Rattle.couplers.specs.declared.reading.Reading.{Reading}
+use Rattle.couplers.specs.declared.reading.Reading.the-variants.{Break, Short}
+use Rattle.couplers.specs.Conversion.{readingOf}
+use Rattle.couplers.specs.Channel.{channelCount}
+use Rattle.working.specs.Variables.{positionCount}
 use Rattle.text.specs.Byte.{CR, SPACE, isDigit}
 use Rattle.transcript.specs.declared.beat_line.HalfLine.{HalfLine}
-use Rattle.transcript.specs.declared.beat_line.Under.{Under}
-use Rattle.transcript.specs.BeatLine.{Lent, minus}
+use Rattle.transcript.specs.declared.beat_line.Sent.{Sent}
+use Rattle.transcript.specs.BeatLine.{Lent, minus, isHex, hexDigit, sending, leftOff}
 
--- fields are counted from 0: the mode, the input word, the numbers
+-- fields are counted from 0: the mode, the input word, the readings, the positions
+abbrev pub firstPosition : ℕ
+firstPosition = channelCount + 2
+
 abbrev pub lastField : ℕ
-lastField = numberCount + 1
+lastField = firstPosition + positionCount - 1
+
+unfoldable pub isReading : ℕ → Bool
+isReading field = leb 2 field && ltb field firstPosition
 
 -- before its first byte
 abbrev pub noHalfLine : HalfLine
-noHalfLine = record { field = 0; stage = 0; automatic = false; word = 0; negative = false; value = 0; numbers = replicate numberCount (pos 0) }
+noHalfLine = record { field = 0; stage = 0; automatic = false; word = 0; negative = false; value = 0; sent = replicate channelCount leftOff; positions = replicate positionCount (pos 0) }
 
 abbrev pub withStage : HalfLine → ℕ → HalfLine
-withStage r s = record { field = r .field; stage = s; automatic = r .automatic; word = r .word; negative = r .negative; value = r .value; numbers = r .numbers }
+withStage r s = record { field = r .field; stage = s; automatic = r .automatic; word = r .word; negative = r .negative; value = r .value; sent = r .sent; positions = r .positions }
 
 abbrev pub illFormed : HalfLine → HalfLine
 illFormed r = withStage r 3
@@ -32,14 +41,32 @@ illFormed r = withStage r 3
 abbrev pub highest : ℕ
 highest = 10000000000
 
+-- the digits of a reading stand behind a 1, so that zeros before the others count: the value of B, the first of eight digits, and one beyond these, for S
+abbrev pub breakValue : ℕ
+breakValue = 27
+
+abbrev pub eightDigits : ℕ
+eightDigits = 4294967296
+
+abbrev pub shortValue : ℕ
+shortValue = 8589934592
+
+-- the reading that a value says
+unfoldable pub readingBy : ℕ → Reading
+readingBy v = cond (eqb v breakValue) Break (cond (leb shortValue v) Short (readingOf (v % eightDigits)))
+
 -- the greatest value of the field under way
 unfoldable pub greatest : HalfLine → ℕ
-greatest r = elim (eqb (r .field) 1) [ true ↦ 65535 | false ↦ elim (r .negative) [ true ↦ 2147483648 | false ↦ 2147483647 ] ]
+greatest r = elim (eqb (r .field) 1) [ true ↦ 65535 | false ↦ elim (isReading (r .field)) [ true ↦ shortValue | false ↦ elim (r .negative) [ true ↦ 2147483648 | false ↦ 2147483647 ] ] ]
 
 -- the number of the field under way
 abbrev pub signed : Bool → ℕ → ℤ
 signed true n = minus n
 signed false n = pos n
+
+-- what a line holds behind a field that is over: this input word, these readings, these positions
+abbrev pub withHeld : HalfLine → ℕ → List Sent → List ℤ → HalfLine
+withHeld r w rs ps = record { field = r .field; stage = r .stage; automatic = r .automatic; word = w; negative = false; value = 0; sent = rs; positions = ps }
 
 -- the line with the value of the field under way
 unfoldable pub withField : HalfLine → HalfLine
@@ -47,8 +74,12 @@ withField r =
     elim (leb (r .value) (greatest r)) [
       | true ↦
           elim (eqb (r .field) 1) [
-            | true ↦ record { field = r .field; stage = r .stage; automatic = r .automatic; word = r .value; negative = false; value = 0; numbers = r .numbers }
-            | false ↦ record { field = r .field; stage = r .stage; automatic = r .automatic; word = r .word; negative = false; value = 0; numbers = set (r .numbers) (r .field - 2) (signed (r .negative) (r .value)) }
+            | true ↦ withHeld r (r .value) (r .sent) (r .positions)
+            | false ↦
+                elim (isReading (r .field)) [
+                  | true ↦ withHeld r (r .word) (set (r .sent) (r .field - 2) (sending (readingBy (r .value)))) (r .positions)
+                  | false ↦ withHeld r (r .word) (r .sent) (set (r .positions) (r .field - firstPosition) (signed (r .negative) (r .value)))
+                ]
           ]
       | false ↦ illFormed r
     ]
@@ -65,7 +96,7 @@ closed r =
 unfoldable pub spaceAfter : HalfLine → HalfLine
 spaceAfter r =
     elim (eqb (r .stage) 2 && ltb (r .field) lastField) [
-      | true ↦ record { field = r .field + 1; stage = 0; automatic = r .automatic; word = r .word; negative = r .negative; value = r .value; numbers = r .numbers }
+      | true ↦ record { field = r .field + 1; stage = 0; automatic = r .automatic; word = r .word; negative = r .negative; value = r .value; sent = r .sent; positions = r .positions }
       | false ↦ illFormed r
     ]
 
@@ -73,32 +104,51 @@ spaceAfter r =
 unfoldable pub modeByte : HalfLine → ℕ → HalfLine
 modeByte r b =
     elim (eqb (r .stage) 0 && (eqb b 65 || eqb b 77)) [
-      | true ↦ record { field = r .field; stage = 2; automatic = eqb b 65; word = r .word; negative = r .negative; value = r .value; numbers = r .numbers }
+      | true ↦ record { field = r .field; stage = 2; automatic = eqb b 65; word = r .word; negative = r .negative; value = r .value; sent = r .sent; positions = r .positions }
       | false ↦ illFormed r
     ]
 
--- a minus before the digits of a number, not of the input word
+-- a minus before the digits of a position, not of the input word
 unfoldable pub minusByte : HalfLine → HalfLine
 minusByte r =
     elim (eqb (r .stage) 0 && leb 2 (r .field)) [
-      | true ↦ record { field = r .field; stage = 1; automatic = r .automatic; word = r .word; negative = true; value = r .value; numbers = r .numbers }
+      | true ↦ record { field = r .field; stage = 1; automatic = r .automatic; word = r .word; negative = true; value = r .value; sent = r .sent; positions = r .positions }
       | false ↦ illFormed r
     ]
 
 unfoldable pub digitByte : HalfLine → ℕ → HalfLine
-digitByte r b = record { field = r .field; stage = 2; automatic = r .automatic; word = r .word; negative = r .negative; value = min highest (r .value * 10 + (b - 48)); numbers = r .numbers }
+digitByte r b = record { field = r .field; stage = 2; automatic = r .automatic; word = r .word; negative = r .negative; value = min highest (r .value * 10 + (b - 48)); sent = r .sent; positions = r .positions }
 
--- a byte of a field
-unfoldable pub fieldByte : HalfLine → ℕ → HalfLine
-fieldByte r b =
-    elim (eqb (r .field) 0) [
-      | true ↦ modeByte r b
-      | false ↦
-          elim (isDigit b) [
-            | true ↦ digitByte r b
-            | false ↦ elim (eqb b 45) [ true ↦ minusByte r | false ↦ illFormed r ]
-          ]
+-- a byte of the input word or a position
+unfoldable pub numberByte : HalfLine → ℕ → HalfLine
+numberByte r b = elim (isDigit b) [ true ↦ digitByte r b | false ↦ elim (eqb b 45) [ true ↦ minusByte r | false ↦ illFormed r ] ]
+
+-- a reading that says v may end there: B, or eight digits
+unfoldable pub readingStage : ℕ → ℕ
+readingStage v = elim (eqb v breakValue || leb eightDigits v) [ true ↦ 2 | false ↦ 1 ]
+
+abbrev pub withReading : HalfLine → ℕ → HalfLine
+withReading r v = record { field = r .field; stage = readingStage v; automatic = r .automatic; word = r .word; negative = r .negative; value = v; sent = r .sent; positions = r .positions }
+
+-- the digits so far, behind a 1
+unfoldable pub digitsSoFar : HalfLine → ℕ
+digitsSoFar r = elim (eqb (r .stage) 0) [ true ↦ 1 | false ↦ r .value ]
+
+-- a digit of a reading, if it has not eight
+unfoldable pub hexByte : HalfLine → ℕ → HalfLine
+hexByte r b = elim (ltb (digitsSoFar r) eightDigits) [ true ↦ withReading r (digitsSoFar r * 16 + hexDigit b) | false ↦ illFormed r ]
+
+-- a byte of a reading
+unfoldable pub readingByte : HalfLine → ℕ → HalfLine
+readingByte r b =
+    elim (isHex b) [
+      | true ↦ hexByte r b
+      | false ↦ elim (eqb b 83 && eqb (r .stage) 0) [ true ↦ withReading r shortValue | false ↦ illFormed r ]
     ]
+
+-- a byte of a field, by what it is
+unfoldable pub fieldByte : HalfLine → ℕ → HalfLine
+fieldByte r b = elim (eqb (r .field) 0) [ true ↦ modeByte r b | false ↦ elim (isReading (r .field)) [ true ↦ readingByte r b | false ↦ numberByte r b ] ]
 
 -- the next byte of the line
 unfoldable pub readByte : HalfLine → ℕ → HalfLine
@@ -129,39 +179,23 @@ withoutCR r = elim (eqb (r .stage) 4) [ true ↦ withStage r 2 | false ↦ r ]
 unfoldable pub readLent : HalfLine → Option Lent
 readLent r =
     elim (eqb (closed r .stage) 2 && leb 1 (r .field)) [
-      | true ↦ some (record { automatic = closed r .automatic; word = closed r .word; numbers = closed r .numbers })
+      | true ↦ some (record { automatic = closed r .automatic; word = closed r .word; sent = closed r .sent; positions = closed r .positions })
       | false ↦ none
     ]
 
--- ---- whole fields
-
--- a line at the beginning of a field
-abbrev pub atField : Bool → ℕ → ℕ → List ℤ → HalfLine
-atField automatic word field numbers = record { field = field; stage = 0; automatic = automatic; word = word; negative = false; value = 0; numbers = numbers }
-
--- a line with its field under way
-abbrev pub withUnder : Bool → ℕ → Under → List ℤ → HalfLine
-withUnder automatic word u numbers = record { field = u .field; stage = u .stage; automatic = automatic; word = word; negative = u .negative; value = u .value; numbers = numbers }
+-- ---- digits read at once
 
 -- a line with digits of its field
 abbrev pub withValue : HalfLine → ℕ → HalfLine
-withValue r v = record { field = r .field; stage = 2; automatic = r .automatic; word = r .word; negative = r .negative; value = v; numbers = r .numbers }
+withValue r v = record { field = r .field; stage = 2; automatic = r .automatic; word = r .word; negative = r .negative; value = v; sent = r .sent; positions = r .positions }
 
--- a space ends the field under way, and another may follow
-pub record IsOver (t : List ℕ) (u : Under) : Type 0 where
-  pub ended : u .stage ≡ 2
-  pub early : u .field < lastField
-  pub space : getD t (u .end) 0 ≡ SPACE
-  pub fits : (r : HalfLine) → r .field ≡ u .field → r .negative ≡ u .negative → u .value ≤ greatest r
+-- the input word or a position is under way
+pub record IsNumber (r : HalfLine) : Type 0 where
+  pub behindMode : 1 ≤ r .field
+  pub kind : isReading (r .field) ≡ false
+  pub goesOn : r .stage ≤ 2
 
--- a line is at its beginning, and nothing is left over
-pub record IsFresh (r : HalfLine) : Type 0 where
-  pub first : r .field ≡ 0
-  pub unread : r .stage ≡ 0
-  pub unsigned : r .negative ≡ false
-  pub empty : r .value ≡ 0
-
--- a mode and a space stand first
-pub record HasMode (t : List ℕ) : Type 0 where
-  pub mode : (getD t 0 0 ≡ 65) ⊎ (getD t 0 0 ≡ 77)
-  pub space : getD t 1 0 ≡ SPACE
+-- a reading is
+pub record InReading (r : HalfLine) : Type 0 where
+  pub kind : isReading (r .field) ≡ true
+  pub goesOn : r .stage ≤ 2

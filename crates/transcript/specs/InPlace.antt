@@ -1,9 +1,10 @@
--- How the code holds a session while it works a piece of input: the intake and the counts by value, the state by its arrays. Definitions only.
+-- How the code holds a session while it works a piece of input: the intake, the counts and the channels by value, the rest of the state by its arrays. Definitions only.
 use mathlib.Core.Bool.{Bool}
 use mathlib.Core.List.{List}
 use Prim.Native.Nat.{ℕ, _+_}
 use lib.IntN.{ℤ}
 use lib.ListN.{drop}
+use Rattle.couplers.specs.declared.channel.Channel.{Channel}
 use Rattle.working.specs.Variables.{inputCount}
 use Rattle.engine.specs.declared.state.State.{State}
 use Rattle.transcript.specs.declared.intake.Intake.{Intake}
@@ -12,21 +13,21 @@ use Rattle.transcript.specs.declared.totals.Counts.{Counts}
 use Rattle.transcript.specs.declared.totals.Totals.{Totals}
 use Rattle.transcript.specs.Totals.{oneIf}
 
--- the totals without their state
+-- the totals, of their state the channels only
 abbrev pub countsOf : Totals → Counts
-countsOf n = record { lines = n .lines; beats = n .beats; coded = n .coded; orders = n .orders }
+countsOf n = record { channels = n .state .channels; lines = n .lines; beats = n .beats; coded = n .coded; orders = n .orders }
 
--- and with one
+-- and with a state
 abbrev pub totalsOf : Counts → State → Totals
 totalsOf n x = record { state = x; lines = n .lines; beats = n .beats; coded = n .coded; orders = n .orders }
 
--- the counts with a line and its beat, by its code and its orders
-abbrev pub countsAfter : Counts → ℕ → ℕ → Counts
-countsAfter n code orders = record { lines = n .lines + 1; beats = record { 0 = n .beats .0 + 1 }; coded = n .coded + oneIf code; orders = n .orders + orders }
+-- the counts with a line and its beat, by its code, its orders and what the channels then keep
+abbrev pub countsAfter : Counts → ℕ → ℕ → List Channel → Counts
+countsAfter n code orders kept = record { channels = kept; lines = n .lines + 1; beats = record { 0 = n .beats .0 + 1 }; coded = n .coded + oneIf code; orders = n .orders + orders }
 
--- the state in its arrays: R, the cells of a beat, which timers run, locks, cancels, memory
-abbrev pub stateIn : List ℤ → List ℤ → List Bool → List Bool → List Bool → List Bool → State
-stateIn r c runs locked cancelled memory = record { r = r; cells = drop inputCount c; runs = runs; locked = locked; cancelled = cancelled; memory = memory }
+-- the state in its arrays: R, the cells of a beat, which timers run, what the channels keep, locks, cancels, memory
+abbrev pub stateIn : List ℤ → List ℤ → List Bool → List Channel → List Bool → List Bool → List Bool → State
+stateIn r c runs channels locked cancelled memory = record { r = r; cells = drop inputCount c; runs = runs; channels = channels; locked = locked; cancelled = cancelled; memory = memory }
 
 -- the session
 abbrev pub sessionIn : Intake → Counts → State → Session

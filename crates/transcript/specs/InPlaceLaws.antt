@@ -6,6 +6,7 @@ use mathlib.Core.Logic.{inl, inr}
 use Prim.Native.Nat.{_≤_}
 use lib.IntN.{ℤ}
 use lib.ListN.{drop}
+use Rattle.couplers.specs.declared.channel.Channel.{Channel}
 use Rattle.working.specs.Variables.{inputCount}
 use Rattle.engine.specs.declared.state.State.{State}
 use Rattle.engine.specs.Cells.{spreadCells}
@@ -30,14 +31,14 @@ FitCounts n = (x : State) → FitTotals (totalsOf n x)
 abbrev pub LivesOn : Intake → Counts → Type 0
 LivesOn i n = (x : State) → Lives (sessionIn i n x)
 
-pub fit-counts : {n : Counts} {x : State} → FitTotals (totalsOf n x) → FitCounts n
-fit-counts f y = record { beats = f .beats; lines = f .lines; coded = f .coded; orders = f .orders }
+pub fit-counts : (n : Counts) {x : State} → FitTotals (totalsOf n x) → FitCounts n
+fit-counts n f y = record { beats = f .beats; lines = f .lines; coded = f .coded; orders = f .orders }
 
-pub lives-on : {i : Intake} {n : Counts} {x : State} → Lives (sessionIn i n x) → LivesOn i n
-lives-on {i} {n} {x} v y = record { intake = v .intake; totals = go (v .totals) }
+pub lives-on : {i : Intake} (n : Counts) {x : State} → Lives (sessionIn i n x) → LivesOn i n
+lives-on {i} n {x} v y = record { intake = v .intake; totals = go (v .totals) }
   where
     go : LiveTotals (sessionIn i n x) → LiveTotals (sessionIn i n y)
-    go (inl f) = inl (fit-counts f y)
+    go (inl f) = inl (fit-counts n f y)
     go (inr o) = inr o
 
 pub fit-on : (i : Intake) (n : Counts) (x : State) → isFit (sessionIn i n x) ≡ true → (y : State) → isFit (sessionIn i n y) ≡ true
@@ -52,10 +53,10 @@ pub record MayCome (b : Brought) (n : Counts) : Type 0 where
 -- ---- taken apart and put together
 
 -- the state by its arrays, its cells spread
-pub totals-apart : (n : Totals) {k : Counts} {c : List ℤ} → let x = n .state in k ≡ countsOf n → c ≡ spreadCells (x .cells) → n ≡ totalsOf k (stateIn (x .r) c (x .runs) (x .locked) (x .cancelled) (x .memory))
+pub totals-apart : (n : Totals) {k : Counts} {c : List ℤ} → let x = n .state in k ≡ countsOf n → c ≡ spreadCells (x .cells) → n ≡ totalsOf k (stateIn (x .r) c (x .runs) (k .channels) (x .locked) (x .cancelled) (x .memory))
 totals-apart n e f = rw e (ap (totalsOf (countsOf n)) (sym (state-apart (n .state) [] f)))
 
 -- and from its arrays, where d is its part of the cells
-pub totals-together : (c : List ℤ) {n : Counts} {y : Totals} {r d : List ℤ} {runs locked cancelled memory : List Bool} → y ≡ totalsOf n (record { r = r; cells = d; runs = runs; locked = locked; cancelled = cancelled; memory = memory }) → d ≡ drop inputCount c →
-    y ≡ totalsOf n (stateIn r c runs locked cancelled memory)
-totals-together c e f = rw (e, f)
+pub totals-together : (c : List ℤ) (n : Counts) {y : Totals} {r d : List ℤ} {channels : List Channel} {runs locked cancelled memory : List Bool} → y ≡ totalsOf n (record { r = r; cells = d; runs = runs; channels = channels; locked = locked; cancelled = cancelled; memory = memory }) → d ≡ drop inputCount c →
+    y ≡ totalsOf n (stateIn r c runs channels locked cancelled memory)
+totals-together c n e f = rw (e, f)

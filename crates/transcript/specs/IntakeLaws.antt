@@ -14,7 +14,8 @@ use Rattle.transcript.specs.declared.set_text.Place.{Place}
 use Rattle.transcript.specs.declared.beat_line.HalfLine.{HalfLine}
 use Rattle.transcript.specs.declared.intake.Intake.{Intake}
 use Rattle.transcript.specs.SetText.{keptSize, starEnds, placeOn, placeEnd, lastSize}
-use Rattle.transcript.specs.HalfLine.{lastField, noHalfLine, withField, closed, spaceAfter, modeByte, minusByte, digitByte, fieldByte, readByte, readOn, greatest, isUntouched, withoutCR}
+use Rattle.transcript.specs.BeatLine.{isHex}
+use Rattle.transcript.specs.HalfLine.{lastField, noHalfLine, isReading, eightDigits, withField, closed, spaceAfter, modeByte, minusByte, digitByte, numberByte, digitsSoFar, hexByte, readingByte, fieldByte, readByte, readOn, greatest, isUntouched, withoutCR}
 use Rattle.transcript.specs.Intake.{TEXT, BEATS, OVER, withPhase, withPlace, withHalfLine, intakeFits, bytesTaken, bytesKept, Arrived, nothingCame, textWhole, textLineOver, textLineKept, beatLineOver, lineOver, lineKept, inputOver}
 use Rattle.transcript.specs.IntakeAnswers.{sizeIn}
 
@@ -29,7 +30,7 @@ closed-field r =
     let P : HalfLine → Type 0 = λ y. y .field ≡ r .field in
     either P (eqb (r .stage) 2)
     (λ e. either P (eqb (r .field) 0) (λ g. refl) λ g.
-    either P (leb (r .value) (greatest r)) (λ h. either P (eqb (r .field) 1) (λ k. refl) (λ k. refl)) (λ h. refl))
+    either P (leb (r .value) (greatest r)) (λ h. either P (eqb (r .field) 1) (λ k. refl) (λ k. either P (isReading (r .field)) (λ d. refl) (λ d. refl))) (λ h. refl))
     (λ e. refl)
 
 space-narrow : (r : HalfLine) → Narrow r → Narrow (spaceAfter r)
@@ -39,10 +40,18 @@ space-narrow r n =
     (λ e. let h = ltb-true (r .field) lastField (both (eqb (r .stage) 2) (ltb (r .field) lastField) e .1) in omega arith)
     (λ e. n)
 
+reading-narrow : (r : HalfLine) (b : ℕ) → Narrow r → Narrow (readingByte r b)
+unfolding readingByte hexByte
+reading-narrow r b n =
+    either Narrow (isHex b)
+    (λ e. either Narrow (ltb (digitsSoFar r) eightDigits) (λ g. n) (λ g. n))
+    (λ e. either Narrow (eqb b 83 && eqb (r .stage) 0) (λ g. n) (λ g. n))
+
 field-narrow : (r : HalfLine) (b : ℕ) → Narrow r → Narrow (fieldByte r b)
-unfolding fieldByte modeByte minusByte digitByte
+unfolding fieldByte modeByte numberByte minusByte digitByte
 field-narrow r b n =
     either Narrow (eqb (r .field) 0) (λ e. either Narrow (eqb (r .stage) 0 && (eqb b 65 || eqb b 77)) (λ g. n) (λ g. n)) λ e.
+    either Narrow (isReading (r .field)) (λ d. reading-narrow r b n) λ d.
     either Narrow (isDigit b) (λ g. n) λ g.
     either Narrow (eqb b 45) (λ h. either Narrow (eqb (r .stage) 0 && leb 2 (r .field)) (λ k. n) (λ k. n)) (λ h. n)
 

@@ -6,6 +6,7 @@ use native.Mathlib.Omega.{arith}
 use lib.Dec.{eqb, ltb}
 use lib.ListN.{length, getD, length-append}
 use Rattle.values.specs.Choice.{either, ifNot}
+use Rattle.couplers.specs.declared.channel.Channel.{Channel}
 use Rattle.engine.specs.Order.{maxOrders, orderSize}
 use Rattle.engine.specs.OrderLaws.{eight-bytes}
 use Rattle.engine.specs.declared.order.Order.{Order}
@@ -26,7 +27,7 @@ use Rattle.engine.specs.Drive.{driveOrder}
 use Rattle.engine.specs.Write.{writeTo}
 use Rattle.engine.specs.Turn.{Entry, Turned, worked, remembered, counted, takesTurn, doTurn, tryTurn, turnOf, turnsFrom}
 use Rattle.engine.specs.Keyword.{tries, acts, remembers}
-use Rattle.engine.specs.Beat.{bufferSize, areInputs, Given, beatBegun, allTurns, wholeBeat, turnedAnswer, beatAnswer}
+use Rattle.engine.specs.Beat.{samplesIn, bufferSize, areInputs, Given, beatBegun, allTurns, wholeBeat, turnedAnswer, beatAnswer}
 
 -- ---- the bytes of orders that are added
 
@@ -146,17 +147,19 @@ bytes-within s st g =
     either P (isSound s st)
     (λ e. either P (ltb (length (g .buffer)) bufferSize) (λ b. tt) λ b.
     either P (areInputs (g .lent))
-    (λ h. ok-then (λ (t : Turned). Adds (beatBegun st g) (turnBytes * soundLines s .count) (t .world)) (λ (t : Turned). length (t .world .orders) ≤ bufferSize)
+    (λ h. either P (samplesIn st g .good)
+    (λ v. ok-then (λ (t : Turned). Adds (beatBegun st g) (turnBytes * soundLines s .count) (t .world)) (λ (t : Turned). length (t .world .orders) ≤ bufferSize)
     (allTurns s (soundLines s) st g) _
     (turns-add s (soundLines s .numbers) (st .cancelled) (g .automatic) (soundLines s .items) (soundLines s .count) 0 (beatBegun st g))
     (λ t a. let f = lines-lined s .few in omega arith))
+    (λ v. tt))
     (λ h. tt))
     (λ e. tt)
 
-answered-within : (st : State) (a : Answer Turned) → Ok (λ (t : Turned). length (t .world .orders) ≤ bufferSize) a → turnedAnswer st a .orders ≤ maxOrders
-answered-within st (good t) h = omega arith
-answered-within st (stop k) h = omega arith
+answered-within : (st : State) (kept : List Channel) (a : Answer Turned) → Ok (λ (t : Turned). length (t .world .orders) ≤ bufferSize) a → turnedAnswer st kept a .orders ≤ maxOrders
+answered-within st kept (good t) h = omega arith
+answered-within st kept (stop k) h = omega arith
 
 pub orders-within : (s : List ℕ) (st : State) (g : Given) → beatAnswer s st g .orders ≤ maxOrders
 unfolding beatAnswer
-orders-within s st g = answered-within st (wholeBeat s st g) (bytes-within s st g)
+orders-within s st g = answered-within st (samplesIn st g .channels) (wholeBeat s st g) (bytes-within s st g)

@@ -1,7 +1,9 @@
 -- A beat of a session, counted, and what is printed of it (document 01, "On both sides of each edge"). Definitions only.
-use mathlib.Core.List.{List, _++_}
+use mathlib.Core.List.{List, _++_, map}
 use Prim.Native.Nat.{ℕ, _+_}
 use lib.ListN.{replicate}
+use Rattle.couplers.specs.declared.reading.Reading.{Reading}
+use Rattle.transcript.specs.declared.beat_line.Sent.{Sent}
 use Rattle.transcript.specs.BeatLine.{Lent}
 use Rattle.engine.specs.declared.one_beat.Beaten.{Beaten}
 use Rattle.engine.specs.Beat.{bufferSize, Given, beatAnswer, beatBuffer}
@@ -13,9 +15,13 @@ use Rattle.transcript.specs.Totals.{counting}
 abbrev pub counted : Totals → Beaten → Totals
 counted n x = counting n (x .code) (x .orders) (x .state)
 
+-- the readings that are sent
+abbrev pub readingsIn : List Sent → List Reading
+readingsIn rs = map (λ (x : Sent). x .reading) rs
+
 -- what a line gives to its beat: what it lends, and a buffer of zeros for the orders
 abbrev pub givenBy : Lent → Given
-givenBy l = record { automatic = l .automatic; word = l .word; lent = l .numbers; buffer = replicate bufferSize 0 }
+givenBy l = record { automatic = l .automatic; word = l .word; readings = readingsIn (l .sent); lent = l .positions; buffer = replicate bufferSize 0 }
 
 -- a beat of the set s
 unfoldable pub answerOf : List ℕ → Totals → Lent → Beaten

@@ -1,29 +1,35 @@
-// A beat line: from its first byte on fields that stand whole are read at once, what is left byte by byte, for a line has no greatest length and comes in parts.
+// A beat line, read byte by byte, for it has no greatest length and comes in parts; digits that stand together are read at once.
 ghost use mathlib.Core.Path.{_≡_};
 ghost use mathlib.Core.Bool.{true, false};
-ghost use mathlib.Core.Bool.{Bool};
-ghost use mathlib.Core.List.{List};
-ghost use lib.IntN.{ℤ};
-ghost use Prim.Native.Nat.{ℕ, _+_, _*_, _≤_, _<_, min};
+ghost use Prim.Native.Nat.{_+_, _*_, _≤_, _<_, min};
 ghost use lib.ListN.{length, getD, set, drop};
 ghost use Rattle.text.specs.Byte.{isDigit};
-ghost use Rattle.transcript.specs.HalfLine.{noHalfLine, withStage, illFormed, highest, greatest, signed, withField, closed, spaceAfter, modeByte, minusByte, digitByte, fieldByte, readByte, readOn, isUntouched, withoutCR, readLent, atField, withUnder, withValue, IsOver, IsFresh, HasMode};
+ghost use Rattle.transcript.specs.BeatLine.{isHex, hexDigit, sending, leftOff};
+ghost use Rattle.transcript.specs.HalfLine.{noHalfLine, withStage, illFormed, highest, isReading, readingBy, greatest, signed, withField, closed, spaceAfter, modeByte, minusByte, digitByte, numberByte, readingStage, digitsSoFar, hexByte, readingByte, fieldByte, readByte, readOn, isUntouched, withoutCR, readLent, withReading, eightDigits, withValue, IsNumber, InReading};
 ghost use Rattle.transcript.specs.MaybeLent.{maybeLent};
 ghost use mathlib.Core.Option.{none};
+use couplers::channel::CHANNELS;
+use couplers::reading::Reading;
+use couplers::reading::reading_of;
 use text::bytes::CR;
 use text::bytes::SPACE;
 use text::bytes::is_digit;
-use working::variables::NUMBERS;
+use working::variables::POSITIONS;
 
 const A: u8 = 65;
 
 const M: u8 = 77;
 
+const S: u8 = 83;
+
 const MINUS: u8 = 45;
 
-// The last field, and the greatest input word and numbers.
-pub const LAST_FIELD: u8 = NUMBERS as u8 + 1;
+// Fields are counted from 0: the mode, the input word, the readings, the positions.
+const FIRST_POSITION: u8 = CHANNELS as u8 + 2;
 
+pub const LAST_FIELD: u8 = FIRST_POSITION + POSITIONS as u8 - 1;
+
+// The greatest input word and positions.
 const WORD_TOP: u64 = 65535;
 
 const POSITIVE_TOP: u64 = 2147483647;
@@ -31,6 +37,13 @@ const POSITIVE_TOP: u64 = 2147483647;
 const NEGATIVE_TOP: u64 = 2147483648;
 // More than any field may say; a value is never beyond it.
 const HIGHEST: u64 = 10000000000;
+
+// The digits of a reading stand behind a 1, so that zeros before the others count: the value of B, the first of eight digits, and one beyond these, for S.
+const BREAK_VALUE: u64 = 27;
+
+const EIGHT_DIGITS: u64 = 4294967296;
+
+const SHORT_VALUE: u64 = 8589934592;
 
 // The stages of a field: nothing of it, its minus, what may end it; the line is ill-formed; a CR stands behind it.
 const NOTHING: u8 = 0;
@@ -43,7 +56,12 @@ const ILL: u8 = 3;
 
 const RETURN: u8 = 4;
 
-// A beat line so far. Fields are counted from 0: the mode, the input word, the numbers. `value` has the digits of the field under way.
+// What a channel sends.
+pub struct Sent {
+    pub reading: Reading,
+}
+
+// A beat line so far. `value` has the digits of the field under way.
 pub struct HalfLine {
     pub field: u8,
     pub stage: u8,
@@ -51,7 +69,8 @@ pub struct HalfLine {
     pub word: u16,
     pub negative: bool,
     pub value: u64,
-    pub numbers: [i32; NUMBERS],
+    pub sent: [Sent; CHANNELS],
+    pub positions: [i32; POSITIONS],
 }
 
 // What a beat line lends, if it is well-formed.
@@ -59,20 +78,12 @@ pub struct MaybeLent {
     pub good: bool,
     pub automatic: bool,
     pub word: u16,
-    pub numbers: [i32; NUMBERS],
+    pub sent: [Sent; CHANNELS],
+    pub positions: [i32; POSITIONS],
 }
 
 // A value, and the place behind its digits.
 struct Digits {
-    value: u64,
-    end: usize,
-}
-
-// The field under way, and the place behind what of it is read.
-struct Under {
-    field: u8,
-    stage: u8,
-    negative: bool,
     value: u64,
     end: usize,
 }
@@ -83,9 +94,18 @@ struct Begun {
     end: usize,
 }
 
+// A reading that is left off.
+fn left_off() -> Sent
+    ensures { λ x. ⌜ x ≡ leftOff ⌝ }
+{
+    let r = reading_of(0);
+    Sent { reading: r }
+}
+
 pub fn no_half_line() -> HalfLine
     ensures { λ x. ⌜ x ≡ noHalfLine ⌝ }
 {
+    let none = left_off();
     HalfLine {
         field: 0,
         stage: NOTHING,
@@ -93,7 +113,8 @@ pub fn no_half_line() -> HalfLine
         word: 0,
         negative: false,
         value: 0,
-        numbers: [0i32; NUMBERS],
+        sent: [none; CHANNELS],
+        positions: [0i32; POSITIONS],
     }
 }
 
@@ -113,12 +134,24 @@ fn ill_formed(r: HalfLine) -> HalfLine
 
 // ---- the end of a field
 
+fn is_reading(field: u8) -> bool
+    ensures { λ x. ⌜ x ≡ isReading field ⌝ }
+{
+    if field < 2 {
+        return false;
+    }
+    field < FIRST_POSITION
+}
+
 // The greatest value of a field, with a minus or without.
 fn greatest_value(field: u8, negative: bool) -> u64
     ensures { λ x. ⌜ ((r : HalfLine) → r .field ≡ field → r .negative ≡ negative → x ≡ greatest r) ⌝ }
 {
     if field == 1 {
         return WORD_TOP;
+    }
+    if is_reading(field) {
+        return SHORT_VALUE;
     }
     if negative { NEGATIVE_TOP } else { POSITIVE_TOP }
 }
@@ -146,16 +179,41 @@ fn signed_value(negative: bool, n: u64) -> i32
     n as i32
 }
 
-// A number at a place, if there is such a place.
-fn put_number(numbers: &mut [i32], at: usize, v: i32)
-    ensures { λ x. ⌜ now (numbers .exit) ≡ set (now (numbers .entry)) at v ⌝ }
+// The reading that a value says.
+fn reading_by(v: u64) -> Reading
+    ensures { λ x. ⌜ x ≡ readingBy v ⌝ }
 {
-    if at < numbers.len() {
-        numbers[at] = v;
+    if v == BREAK_VALUE {
+        return Reading::Break;
+    }
+    if SHORT_VALUE <= v {
+        return Reading::Short;
+    }
+    reading_of((v % EIGHT_DIGITS) as u32)
+}
+
+// A position at a place, if there is such a place.
+fn put_position(positions: &mut [i32], at: usize, v: i32)
+    ensures { λ x. ⌜ now (positions .exit) ≡ set (now (positions .entry)) at v ⌝ }
+{
+    if at < positions.len() {
+        positions[at] = v;
     }
 }
 
-// The value of the field under way becomes the input word or a number.
+// What the channels send with a reading at a place, if there is such a place.
+fn with_sent(sent: [Sent; CHANNELS], at: usize, r: Reading) -> [Sent; CHANNELS]
+    ensures { λ x. ⌜ x ≡ set sent at (sending r) ⌝ }
+{
+    let mut x = sent;
+    if at < CHANNELS {
+        let s = Sent { reading: r };
+        x[at] = s;
+    }
+    x
+}
+
+// The value of the field under way becomes the input word, a reading or a position.
 fn with_field(r: HalfLine) -> HalfLine
     requires { ⌜ 1 ≤ r .field ⌝ }
     ensures { λ x. ⌜ x ≡ withField r ⌝ }
@@ -173,10 +231,19 @@ fn with_field(r: HalfLine) -> HalfLine
         x.word = value as u16;
         return x;
     }
-    let at = (field - 2) as usize;
-    let mut numbers = r.numbers;
-    put_number(&mut numbers, at, signed_value(negative, value));
-    x.numbers = numbers;
+    if is_reading(field) {
+        let sent = r.sent;
+        let next = with_sent(sent, (field - 2) as usize, reading_by(value));
+        x.sent = next;
+        return x;
+    }
+    let mut positions = r.positions;
+    put_position(
+        &mut positions,
+        (field - FIRST_POSITION) as usize,
+        signed_value(negative, value),
+    );
+    x.positions = positions;
     x
 }
 
@@ -236,7 +303,7 @@ fn mode_byte(r: HalfLine, b: u8) -> HalfLine
     x
 }
 
-// A minus before the digits of a number, not of the input word.
+// A minus before the digits of a position, not of the input word.
 fn minus_byte(r: HalfLine) -> HalfLine
     ensures { λ x. ⌜ x ≡ minusByte r ⌝ }
 {
@@ -277,14 +344,10 @@ fn digit_byte(r: HalfLine, b: u8) -> HalfLine
     x
 }
 
-// A byte of a field.
-fn field_byte(r: HalfLine, b: u8) -> HalfLine
-    ensures { λ x. ⌜ x ≡ fieldByte r b ⌝ }
+// A byte of the input word or a position.
+fn number_byte(r: HalfLine, b: u8) -> HalfLine
+    ensures { λ x. ⌜ x ≡ numberByte r b ⌝ }
 {
-    let field = r.field;
-    if field == 0 {
-        return mode_byte(r, b);
-    }
     if is_digit(b) {
         return digit_byte(r, b);
     }
@@ -292,6 +355,102 @@ fn field_byte(r: HalfLine, b: u8) -> HalfLine
         return minus_byte(r);
     }
     ill_formed(r)
+}
+
+// A digit of a number of bits.
+fn is_hex(b: u8) -> bool
+    ensures { λ x. ⌜ x ≡ isHex b ⌝ }
+{
+    if is_digit(b) {
+        return true;
+    }
+    if b < 65 {
+        return false;
+    }
+    b <= 70
+}
+
+fn hex_digit(b: u8) -> u64
+    requires { ⌜ isHex b ≡ true ⌝ }
+    ensures { λ x. ⌜ (x ≡ hexDigit b) × (x ≤ 15) ⌝ }
+{
+    if is_digit(b) {
+        return (b - 48) as u64;
+    }
+    (b - 55) as u64
+}
+
+// A reading that says v may end there, or not yet.
+fn reading_stage(v: u64) -> u8
+    ensures { λ x. ⌜ x ≡ readingStage v ⌝ }
+{
+    if v == BREAK_VALUE {
+        return ENDABLE;
+    }
+    if EIGHT_DIGITS <= v { ENDABLE } else { SIGN }
+}
+
+fn with_reading(r: HalfLine, v: u64) -> HalfLine
+    ensures { λ x. ⌜ x ≡ withReading r v ⌝ }
+{
+    let mut x = r;
+    x.stage = reading_stage(v);
+    x.value = v;
+    x
+}
+
+// The digits so far, behind a 1.
+fn digits_so_far(r: HalfLine) -> u64
+    ensures { λ x. ⌜ x ≡ digitsSoFar r ⌝ }
+{
+    let stage = r.stage;
+    if stage == NOTHING {
+        return 1;
+    }
+    r.value
+}
+
+// A digit of a reading, if it has not eight.
+fn hex_byte(r: HalfLine, b: u8) -> HalfLine
+    requires { ⌜ isHex b ≡ true ⌝ }
+    ensures { λ x. ⌜ x ≡ hexByte r b ⌝ }
+{
+    let v = digits_so_far(r);
+    if EIGHT_DIGITS <= v {
+        return ill_formed(r);
+    }
+    with_reading(r, v * 16 + hex_digit(b))
+}
+
+// A byte of a reading.
+fn reading_byte(r: HalfLine, b: u8) -> HalfLine
+    ensures { λ x. ⌜ x ≡ readingByte r b ⌝ }
+{
+    if is_hex(b) {
+        return hex_byte(r, b);
+    }
+    if b != S {
+        return ill_formed(r);
+    }
+    let stage = r.stage;
+    if stage != NOTHING {
+        return ill_formed(r);
+    }
+    with_reading(r, SHORT_VALUE)
+}
+
+// A byte of a field, by what it is.
+fn field_byte(r: HalfLine, b: u8) -> HalfLine
+    ensures { λ x. ⌜ x ≡ fieldByte r b ⌝ }
+{
+    let field = r.field;
+    if field == 0 {
+        return mode_byte(r, b);
+    }
+    if is_reading(field) {
+        return reading_byte(r, b);
+    }
+    number_byte(r, b)
 }
 
 // The next byte of the line.
@@ -314,7 +473,7 @@ fn read_byte(r: HalfLine, b: u8) -> HalfLine
     ill_formed(r)
 }
 
-// ---- whole fields
+// ---- digits read at once
 
 // The byte at a place, 0 past the end.
 fn byte_at(part: &[u8], at: usize) -> u8
@@ -326,13 +485,13 @@ fn byte_at(part: &[u8], at: usize) -> u8
     0
 }
 
-// The digits from a place on, where one stands, and the place behind them.
-fn read_digits(part: &[u8], at: usize) -> Digits
+// The digits of the input word or a position behind a value, from a place on where one stands.
+fn read_digits(part: &[u8], at: usize, before: u64) -> Digits
     requires { ⌜ isDigit (getD (now part) at 0) ≡ true ⌝ }
     ensures { λ x. ⌜ (at < x .end) × (x .end ≤ length (now (part .entry))) ⌝ }
-    ensures { λ x. ⌜ ((r : HalfLine) → 1 ≤ r .field → r .stage ≤ 2 → r .value ≡ 0 → readOn (withValue r (x .value)) (drop (x .end) (now (part .entry))) ≡ readOn r (drop at (now (part .entry)))) ⌝ }
+    ensures { λ x. ⌜ ((r : HalfLine) → IsNumber r → r .value ≡ before → readOn (withValue r (x .value)) (drop (x .end) (now (part .entry))) ≡ readOn r (drop at (now (part .entry)))) ⌝ }
 {
-    let mut value = grown(0, (part[at] - 48) as u64);
+    let mut value = grown(before, (part[at] - 48) as u64);
     let mut end = at + 1;
     while end < part.len() {
         let b = part[end];
@@ -351,169 +510,109 @@ fn read_digits(part: &[u8], at: usize) -> Digits
     }
 }
 
-// Whether a field is a number that begins with a minus and a digit.
-fn is_negative(part: &[u8], at: usize, field: u8) -> bool
-    requires { ⌜ at ≤ length (now part) ⌝ }
-    ensures { λ x. ⌜ (x ≡ true → (2 ≤ field) × (getD (now (part .entry)) at 0 ≡ 45) × (isDigit (getD (now (part .entry)) (at + 1) 0) ≡ true)) ⌝ }
+// The digits of a reading behind those so far, from a place on where one stands, up to the eighth.
+fn read_hex(part: &[u8], at: usize, before: u64) -> Digits
+    requires { ⌜ (isHex (getD (now part) at 0) ≡ true) × (before < eightDigits) ⌝ }
+    ensures { λ x. ⌜ (at < x .end) × (x .end ≤ length (now (part .entry))) ⌝ }
+    ensures { λ x. ⌜ ((r : HalfLine) → InReading r → digitsSoFar r ≡ before → readOn (withReading r (x .value)) (drop (x .end) (now (part .entry))) ≡ readOn r (drop at (now (part .entry)))) ⌝ }
 {
-    if field < 2 {
-        return false;
+    let mut value = before * 16 + hex_digit(part[at]);
+    let mut end = at + 1;
+    while end < part.len() {
+        let b = part[end];
+        if !is_hex(b) {
+            return Digits {
+                value: value,
+                end: end,
+            };
+        }
+        if EIGHT_DIGITS <= value {
+            return Digits {
+                value: value,
+                end: end,
+            };
+        }
+        value = value * 16 + hex_digit(b);
+        end += 1;
     }
-    if byte_at(part, at) != MINUS {
-        return false;
+    Digits {
+        value: value,
+        end: end,
     }
-    is_digit(byte_at(part, at + 1))
 }
 
-// A field that begins at a place: its digits, if one stands there, of a number behind a minus too.
-fn read_field(part: &[u8], at: usize, field: u8) -> Under
-    requires { ⌜ (1 ≤ field) × (at ≤ length (now part)) ⌝ }
-    ensures { λ x. ⌜ (x .field ≡ field) × (at ≤ x .end) × (x .end ≤ length (now (part .entry))) ⌝ }
-    ensures { λ x. ⌜ ((automatic : Bool) (word : ℕ) (numbers : List ℤ) → readOn (withUnder automatic word x numbers) (drop (x .end) (now (part .entry))) ≡ readOn (atField automatic word field numbers) (drop at (now (part .entry)))) ⌝ }
+// A reading under way with its digits from a place on.
+fn reading_run(part: &[u8], r: HalfLine, at: usize) -> Begun
+    requires { ⌜ InReading r × (at ≤ length (now part)) ⌝ }
+    ensures { λ x. ⌜ (at ≤ x .end) × (x .end ≤ length (now (part .entry))) ⌝ }
+    ensures { λ x. ⌜ readOn (x .half) (drop (x .end) (now (part .entry))) ≡ readOn r (drop at (now (part .entry))) ⌝ }
 {
     let b = byte_at(part, at);
-    if is_digit(b) {
-        let d = read_digits(part, at);
-        return Under {
-            field: field,
-            stage: ENDABLE,
-            negative: false,
-            value: d.value,
-            end: d.end,
-        };
+    if !is_hex(b) {
+        return Begun { half: r, end: at };
     }
-    if is_negative(part, at, field) {
-        let d = read_digits(part, at + 1);
-        return Under {
-            field: field,
-            stage: ENDABLE,
-            negative: true,
-            value: d.value,
-            end: d.end,
-        };
+    let before = digits_so_far(r);
+    if EIGHT_DIGITS <= before {
+        return Begun { half: r, end: at };
     }
-    Under {
-        field: field,
-        stage: NOTHING,
-        negative: false,
-        value: 0,
-        end: at,
-    }
-}
-
-// Whether a space ends the field under way, and another may follow.
-fn is_over(part: &[u8], u: Under) -> bool
-    ensures { λ x. ⌜ (x ≡ true → IsOver (now (part .entry)) u) ⌝ }
-{
-    let stage = u.stage;
-    if stage != ENDABLE {
-        return false;
-    }
-    let field = u.field;
-    if LAST_FIELD <= field {
-        return false;
-    }
-    if byte_at(part, u.end) != SPACE {
-        return false;
-    }
-    u.value <= greatest_value(field, u.negative)
-}
-
-// The numbers from a place on, each with the space behind it; the answer is the field under way behind them.
-fn read_numbers(part: &[u8], at: usize, numbers: &mut [i32; NUMBERS]) -> Under
-    requires { ⌜ at ≤ length (now part) ⌝ }
-    ensures { λ x. ⌜ x .end ≤ length (now (part .entry)) ⌝ }
-    ensures { λ x. ⌜ ((automatic : Bool) (word : ℕ) → readOn (withUnder automatic word x (now (numbers .exit))) (drop (x .end) (now (part .entry))) ≡ readOn (atField automatic word 2 (now (numbers .entry))) (drop at (now (part .entry)))) ⌝ }
-{
-    let mut u = read_field(part, at, 2);
-    while is_over(part, u) {
-        let field = u.field;
-        let v = signed_value(u.negative, u.value);
-        put_number(numbers, (field - 2) as usize, v);
-        u = read_field(part, u.end + 1, field + 1);
-    }
-    u
-}
-
-// Whether a line is at its beginning, with nothing left over.
-fn is_fresh(r: HalfLine) -> bool
-    ensures { λ x. ⌜ (x ≡ true → IsFresh r) ⌝ }
-{
-    if !is_untouched(r) {
-        return false;
-    }
-    let value = r.value;
-    if value != 0 {
-        return false;
-    }
-    let negative = r.negative;
-    !negative
-}
-
-// Whether a mode and a space stand first.
-fn has_mode(part: &[u8]) -> bool
-    ensures { λ x. ⌜ (x ≡ true → HasMode (now (part .entry))) ⌝ }
-{
-    if byte_at(part, 1) != SPACE {
-        return false;
-    }
-    let b = byte_at(part, 0);
-    if b == A {
-        return true;
-    }
-    b == M
-}
-
-// A line with its field under way.
-fn line_with(automatic: bool, word: u16, u: Under, numbers: [i32; NUMBERS]) -> Begun
-    ensures { λ x. ⌜ (x .half ≡ withUnder automatic word u numbers) × (x .end ≡ u .end) ⌝ }
-{
+    let d = read_hex(part, at, before);
     Begun {
-        half: HalfLine {
-            field: u.field,
-            stage: u.stage,
-            automatic: automatic,
-            word: word,
-            negative: u.negative,
-            value: u.value,
-            numbers: numbers,
-        },
-        end: u.end,
+        half: with_reading(r, d.value),
+        end: d.end,
     }
 }
 
-// A line from its first byte on: its mode, and the fields that can be read at once.
-fn read_first(part: &[u8], r: HalfLine) -> Begun
-    ensures { λ x. ⌜ x .end ≤ length (now (part .entry)) ⌝ }
-    ensures { λ x. ⌜ readOn (x .half) (drop (x .end) (now (part .entry))) ≡ readOn r (now (part .entry)) ⌝ }
+// The input word or a position under way with its digits from a place on.
+fn number_run(part: &[u8], r: HalfLine, at: usize) -> Begun
+    requires { ⌜ IsNumber r × (at ≤ length (now part)) ⌝ }
+    ensures { λ x. ⌜ (at ≤ x .end) × (x .end ≤ length (now (part .entry))) ⌝ }
+    ensures { λ x. ⌜ readOn (x .half) (drop (x .end) (now (part .entry))) ≡ readOn r (drop at (now (part .entry))) ⌝ }
 {
-    if !is_fresh(r) {
-        return Begun { half: r, end: 0 };
+    let b = byte_at(part, at);
+    if !is_digit(b) {
+        return Begun { half: r, end: at };
     }
-    if !has_mode(part) {
-        return Begun { half: r, end: 0 };
+    let d = read_digits(part, at, r.value);
+    let mut x = r;
+    x.stage = ENDABLE;
+    x.value = d.value;
+    Begun {
+        half: x,
+        end: d.end,
     }
-    let automatic = byte_at(part, 0) == A;
-    let mut numbers = r.numbers;
-    let word = read_field(part, 2, 1);
-    if !is_over(part, word) {
-        return line_with(automatic, r.word, word, numbers);
-    }
-    let u = read_numbers(part, word.end + 1, &mut numbers);
-    let w = word.value;
-    line_with(automatic, w as u16, u, numbers)
 }
 
-// Bytes of the line, none of them an LF: a line that begins there field by field, what is left byte by byte.
+// A line with the digits of its field from a place on.
+fn read_run(part: &[u8], r: HalfLine, at: usize) -> Begun
+    requires { ⌜ at ≤ length (now part) ⌝ }
+    ensures { λ x. ⌜ (at ≤ x .end) × (x .end ≤ length (now (part .entry))) ⌝ }
+    ensures { λ x. ⌜ readOn (x .half) (drop (x .end) (now (part .entry))) ≡ readOn r (drop at (now (part .entry))) ⌝ }
+{
+    let stage = r.stage;
+    if ILL <= stage {
+        return Begun { half: r, end: at };
+    }
+    let field = r.field;
+    if field == 0 {
+        return Begun { half: r, end: at };
+    }
+    if is_reading(field) {
+        return reading_run(part, r, at);
+    }
+    number_run(part, r, at)
+}
+
+// Bytes of the line, none of them an LF: behind each that is read by itself the digits that follow it at once.
 pub fn read_bytes(part: &[u8], r: HalfLine) -> HalfLine
     ensures { λ x. ⌜ x ≡ readOn r (now (part .entry)) ⌝ }
 {
-    let first = read_first(part, r);
-    let mut x = first.half;
-    let mut i = first.end;
+    let mut x = r;
+    let mut i: usize = 0;
     while i < part.len() {
-        x = read_byte(x, part[i]);
-        i += 1;
+        let f = read_run(part, read_byte(x, part[i]), i + 1);
+        let next = f.half;
+        x = next;
+        i = f.end;
     }
     x
 }
@@ -546,11 +645,13 @@ pub fn without_cr(r: HalfLine) -> HalfLine
 pub fn nothing_lent() -> MaybeLent
     ensures { λ x. ⌜ x ≡ maybeLent none ⌝ }
 {
+    let none = left_off();
     MaybeLent {
         good: false,
         automatic: false,
         word: 0,
-        numbers: [0i32; NUMBERS],
+        sent: [none; CHANNELS],
+        positions: [0i32; POSITIONS],
     }
 }
 
@@ -567,11 +668,13 @@ pub fn read_lent(r: HalfLine) -> MaybeLent
     if field < 1 {
         return nothing_lent();
     }
-    let numbers = c.numbers;
+    let sent = c.sent;
+    let positions = c.positions;
     MaybeLent {
         good: true,
         automatic: c.automatic,
         word: c.word,
-        numbers: numbers,
+        sent: sent,
+        positions: positions,
     }
 }

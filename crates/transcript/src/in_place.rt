@@ -85,7 +85,7 @@ fn work_beat(
     at: usize,
 ) -> Ended
     requires { ⌜ (now lines ≡ linesWritten (now set)) × (FitCounts counts × (at ≤ lastStart)) ⌝ }
-    ensures { λ x. ⌜ ((t : List ℕ) → IsFed (beatOf (machineOf t (now (set .entry)) (sessionIn intake counts (stateIn (now (r .entry)) (now (cells .entry)) (now (runs .entry)) (now (locked .entry)) (now (cancelled .entry)) (now (memory .entry))))) (lentIn lent)) (machineOf t (now (set .entry)) (sessionIn (x .intake) (x .counts) (stateIn (now (r .exit)) (now (cells .exit)) (now (runs .exit)) (now (locked .exit)) (now (cancelled .entry)) (now (memory .exit))))) (now (out .entry)) at (now (out .exit)) (x .end)) ⌝ }
+    ensures { λ x. ⌜ ((t : List ℕ) → IsFed (beatOf (machineOf t (now (set .entry)) (sessionIn intake counts (stateIn (now (r .entry)) (now (cells .entry)) (now (runs .entry)) (counts .channels) (now (locked .entry)) (now (cancelled .entry)) (now (memory .entry))))) (lentIn lent)) (machineOf t (now (set .entry)) (sessionIn (x .intake) (x .counts) (stateIn (now (r .exit)) (now (cells .exit)) (now (runs .exit)) (x .counts .channels) (now (locked .exit)) (now (cancelled .entry)) (now (memory .exit))))) (now (out .entry)) at (now (out .exit)) (x .end)) ⌝ }
 {
     let t = tally_beat(
         counts,
@@ -136,7 +136,7 @@ fn beat_end(
     at: usize,
 ) -> Ended
     requires { ⌜ (now lines ≡ linesWritten (now set)) × (FitCounts counts × (at ≤ lastStart)) ⌝ }
-    ensures { λ x. ⌜ ((t : List ℕ) → IsFed (beatEnd (machineOf t (now (set .entry)) (sessionIn intake counts (stateIn (now (r .entry)) (now (cells .entry)) (now (runs .entry)) (now (locked .entry)) (now (cancelled .entry)) (now (memory .entry))))) (lentOr lent)) (machineOf t (now (set .entry)) (sessionIn (x .intake) (x .counts) (stateIn (now (r .exit)) (now (cells .exit)) (now (runs .exit)) (now (locked .exit)) (now (cancelled .entry)) (now (memory .exit))))) (now (out .entry)) at (now (out .exit)) (x .end)) ⌝ }
+    ensures { λ x. ⌜ ((t : List ℕ) → IsFed (beatEnd (machineOf t (now (set .entry)) (sessionIn intake counts (stateIn (now (r .entry)) (now (cells .entry)) (now (runs .entry)) (counts .channels) (now (locked .entry)) (now (cancelled .entry)) (now (memory .entry))))) (lentOr lent)) (machineOf t (now (set .entry)) (sessionIn (x .intake) (x .counts) (stateIn (now (r .exit)) (now (cells .exit)) (now (runs .exit)) (x .counts .channels) (now (locked .exit)) (now (cancelled .entry)) (now (memory .exit))))) (now (out .entry)) at (now (out .exit)) (x .end)) ⌝ }
 {
     let good = lent.good;
     if good {
@@ -223,7 +223,7 @@ pub fn work_arrival(
 ) -> Ended
     requires { ⌜ (now lines ≡ linesWritten (now set)) × (MayCome b counts × (at ≤ lastStart)) ⌝ }
     ensures { λ x. ⌜ now (lines .exit) ≡ linesWritten (now (set .exit)) ⌝ }
-    ensures { λ x. ⌜ ((a : Arrived) → b ≡ broughtBy a → IsFed (arrivalWorked (machineOf (now (text .entry)) (now (set .entry)) (sessionIn (a .intake) counts (stateIn (now (r .entry)) (now (cells .entry)) (now (runs .entry)) (now (locked .entry)) (now (cancelled .entry)) (now (memory .entry))))) (a .arrival)) (machineOf (now (text .entry)) (now (set .exit)) (sessionIn (x .intake) (x .counts) (stateIn (now (r .exit)) (now (cells .exit)) (now (runs .exit)) (now (locked .exit)) (now (cancelled .entry)) (now (memory .exit))))) (now (out .entry)) at (now (out .exit)) (x .end)) ⌝ }
+    ensures { λ x. ⌜ ((a : Arrived) → b ≡ broughtBy a → IsFed (arrivalWorked (machineOf (now (text .entry)) (now (set .entry)) (sessionIn (a .intake) counts (stateIn (now (r .entry)) (now (cells .entry)) (now (runs .entry)) (counts .channels) (now (locked .entry)) (now (cancelled .entry)) (now (memory .entry))))) (a .arrival)) (machineOf (now (text .entry)) (now (set .exit)) (sessionIn (x .intake) (x .counts) (stateIn (now (r .exit)) (now (cells .exit)) (now (runs .exit)) (x .counts .channels) (now (locked .exit)) (now (cancelled .entry)) (now (memory .exit))))) (now (out .entry)) at (now (out .exit)) (x .end)) ⌝ }
 {
     let intake = b.intake;
     let ending = b.ending;
@@ -285,7 +285,7 @@ fn line_end(
 ) -> Ended
     requires { ⌜ (now lines ≡ linesWritten (now set)) × (LivesOn intake counts × (at ≤ lastStart)) ⌝ }
     ensures { λ x. ⌜ now (lines .exit) ≡ linesWritten (now (set .exit)) ⌝ }
-    ensures { λ x. ⌜ IsFed (lineEnd (machineOf (now (text .entry)) (now (set .entry)) (sessionIn intake counts (stateIn (now (r .entry)) (now (cells .entry)) (now (runs .entry)) (now (locked .entry)) (now (cancelled .entry)) (now (memory .entry)))))) (machineOf (now (text .exit)) (now (set .exit)) (sessionIn (x .intake) (x .counts) (stateIn (now (r .exit)) (now (cells .exit)) (now (runs .exit)) (now (locked .exit)) (now (cancelled .entry)) (now (memory .exit))))) (now (out .entry)) at (now (out .exit)) (x .end) ⌝ }
+    ensures { λ x. ⌜ IsFed (lineEnd (machineOf (now (text .entry)) (now (set .entry)) (sessionIn intake counts (stateIn (now (r .entry)) (now (cells .entry)) (now (runs .entry)) (counts .channels) (now (locked .entry)) (now (cancelled .entry)) (now (memory .entry)))))) (machineOf (now (text .exit)) (now (set .exit)) (sessionIn (x .intake) (x .counts) (stateIn (now (r .exit)) (now (cells .exit)) (now (runs .exit)) (x .counts .channels) (now (locked .exit)) (now (cancelled .entry)) (now (memory .exit))))) (now (out .entry)) at (now (out .exit)) (x .end) ⌝ }
 {
     let b = end_line(intake, text);
     work_arrival(
@@ -326,7 +326,7 @@ pub fn work_lines(
     out: &mut [u8; OUT],
 ) -> Piece
     requires { ⌜ (now lines ≡ linesWritten (now set)) × ((y : State) → isFit (sessionIn intake counts y) ≡ true) ⌝ }
-    ensures { λ x. ⌜ IsWorked (worked (machineOf (now (text .entry)) (now (set .entry)) (sessionIn intake counts (stateIn (now (r .entry)) (now (cells .entry)) (now (runs .entry)) (now (locked .entry)) (now (cancelled .entry)) (now (memory .entry))))) (now (input .entry))) (machineOf (now (text .exit)) (now (set .exit)) (sessionIn (x .intake) (x .counts) (stateIn (now (r .exit)) (now (cells .exit)) (now (runs .exit)) (now (locked .exit)) (now (cancelled .entry)) (now (memory .exit))))) (x .taken) (now (out .entry)) (now (out .exit)) (x .written) ⌝ }
+    ensures { λ x. ⌜ IsWorked (worked (machineOf (now (text .entry)) (now (set .entry)) (sessionIn intake counts (stateIn (now (r .entry)) (now (cells .entry)) (now (runs .entry)) (counts .channels) (now (locked .entry)) (now (cancelled .entry)) (now (memory .entry))))) (now (input .entry))) (machineOf (now (text .exit)) (now (set .exit)) (sessionIn (x .intake) (x .counts) (stateIn (now (r .exit)) (now (cells .exit)) (now (runs .exit)) (x .counts .channels) (now (locked .exit)) (now (cancelled .entry)) (now (memory .exit))))) (x .taken) (now (out .entry)) (now (out .exit)) (x .written) ⌝ }
 {
     let mut kept = intake;
     let mut n = counts;

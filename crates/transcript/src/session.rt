@@ -128,10 +128,12 @@ pub fn step(
         out,
     );
     let kept = kept_cells(&cells);
+    let channels = w.counts.channels;
     let next = State {
         r: r,
         cells: kept,
         runs: runs,
+        channels: channels,
         locked: locked,
         cancelled: cancelled,
         memory: memory,

@@ -5,14 +5,18 @@ ghost use Rattle.values.specs.PutAt.{IsPut};
 ghost use Rattle.engine.specs.ReadLines.{linesWritten};
 ghost use Rattle.transcript.specs.MaybeLent.{lentIn};
 ghost use Rattle.transcript.specs.Output.{lastStart};
-ghost use Rattle.transcript.specs.Tally.{counted, answerOf, beatText};
+ghost use Rattle.transcript.specs.Tally.{readingsIn, counted, answerOf, beatText};
 ghost use Rattle.transcript.specs.InPlace.{totalsOf, stateIn};
 ghost use Rattle.transcript.specs.InPlaceLaws.{FitCounts};
 use crate::beat_line::MaybeLent;
+use crate::beat_line::Sent;
 use crate::printing::code_line;
 use crate::printing::order_lines;
 use crate::totals::Counts;
 use crate::totals::count;
+use couplers::channel::CHANNELS;
+use couplers::reading::Reading;
+use couplers::reading::reading_of;
 use engine::ORDERS;
 use engine::READ;
 use engine::beat_over;
@@ -26,6 +30,22 @@ use working::variables::TIMERS;
 pub struct Tallied {
     pub counts: Counts,
     pub end: usize,
+}
+
+// The readings that are sent.
+fn readings_in(sent: [Sent; CHANNELS]) -> [Reading; CHANNELS]
+    ensures { λ x. ⌜ x ≡ readingsIn sent ⌝ }
+{
+    let zero = reading_of(0);
+    let mut x = [zero; CHANNELS];
+    let mut i: usize = 0;
+    while i < CHANNELS {
+        let s = sent[i];
+        let r = s.reading;
+        x[i] = r;
+        i += 1;
+    }
+    x
 }
 
 // The beat over what a line told: C and an O per order are put, and it is counted. What the order buffer has behind the orders of this beat is not looked at.
@@ -45,10 +65,13 @@ pub fn tally_beat(
     at: usize,
 ) -> Tallied
     requires { ⌜ (now lines ≡ linesWritten (now set)) × (FitCounts counts × (at ≤ lastStart)) ⌝ }
-    ensures { λ x. ⌜ totalsOf (x .counts) (stateIn (now (r .exit)) (now (cells .exit)) (now (runs .exit)) (now (locked .exit)) (now (cancelled .entry)) (now (memory .exit))) ≡ counted (totalsOf counts (stateIn (now (r .entry)) (now (cells .entry)) (now (runs .entry)) (now (locked .entry)) (now (cancelled .entry)) (now (memory .entry)))) (answerOf (now (set .entry)) (totalsOf counts (stateIn (now (r .entry)) (now (cells .entry)) (now (runs .entry)) (now (locked .entry)) (now (cancelled .entry)) (now (memory .entry)))) (lentIn lent)) ⌝ }
-    ensures { λ x. ⌜ IsPut (now (out .entry)) at (beatText (now (set .entry)) (totalsOf counts (stateIn (now (r .entry)) (now (cells .entry)) (now (runs .entry)) (now (locked .entry)) (now (cancelled .entry)) (now (memory .entry)))) (lentIn lent)) (now (out .exit)) (x .end) ⌝ }
+    ensures { λ x. ⌜ totalsOf (x .counts) (stateIn (now (r .exit)) (now (cells .exit)) (now (runs .exit)) (x .counts .channels) (now (locked .exit)) (now (cancelled .entry)) (now (memory .exit))) ≡ counted (totalsOf counts (stateIn (now (r .entry)) (now (cells .entry)) (now (runs .entry)) (counts .channels) (now (locked .entry)) (now (cancelled .entry)) (now (memory .entry)))) (answerOf (now (set .entry)) (totalsOf counts (stateIn (now (r .entry)) (now (cells .entry)) (now (runs .entry)) (counts .channels) (now (locked .entry)) (now (cancelled .entry)) (now (memory .entry)))) (lentIn lent)) ⌝ }
+    ensures { λ x. ⌜ IsPut (now (out .entry)) at (beatText (now (set .entry)) (totalsOf counts (stateIn (now (r .entry)) (now (cells .entry)) (now (runs .entry)) (counts .channels) (now (locked .entry)) (now (cancelled .entry)) (now (memory .entry)))) (lentIn lent)) (now (out .exit)) (x .end) ⌝ }
 {
-    let numbers = lent.numbers;
+    let sent = lent.sent;
+    let readings = readings_in(sent);
+    let positions = lent.positions;
+    let channels = counts.channels;
     let b = beat_over(
         set,
         lines,
@@ -58,16 +81,19 @@ pub fn tally_beat(
         locked,
         cancelled,
         memory,
+        channels,
         lent.automatic,
         lent.word,
-        &numbers,
+        readings,
+        &positions,
         orders,
     );
     let n = b.orders;
     let p = code_line(out, at, counts.beats.0 + 1, b.code, n);
     let end = order_lines(out, p, orders, n);
+    let kept = b.channels;
     Tallied {
-        counts: count(counts, b.code, n),
+        counts: count(counts, b.code, n, kept),
         end: end,
     }
 }

@@ -9,6 +9,8 @@ ghost use Rattle.transcript.specs.InPlace.{countsOf, totalsOf, countsAft
 ghost use Rattle.transcript.specs.InPlaceLaws.{FitCounts};
 use crate::printing::end_line;
 use crate::printing::error_line;
+use couplers::channel::CHANNELS;
+use couplers::channel::Channel;
 use engine::State;
 use engine::power_on;
 use values::time::Beats;
@@ -27,8 +29,9 @@ pub struct Totals {
     pub orders: u32,
 }
 
-// The same without the state, which is held by its arrays while a piece of input is worked.
+// The same, of the state the channels only: the rest is held by its arrays while a piece of input is worked.
 pub struct Counts {
+    pub channels: [Channel; CHANNELS],
     pub lines: u32,
     pub beats: Beats,
     pub coded: u32,
@@ -52,7 +55,9 @@ pub fn counts_of(totals: Totals) -> Counts
     ensures { λ x. ⌜ x ≡ countsOf totals ⌝ }
 {
     let beats = totals.beats;
+    let channels = totals.state.channels;
     Counts {
+        channels: channels,
         lines: totals.lines,
         beats: beats,
         coded: totals.coded,
@@ -97,14 +102,15 @@ fn one_if(code: u8) -> u32
     if code == 0 { 0 } else { 1 }
 }
 
-// The counts with a line and its beat, of this code and so many orders.
-pub fn count(counts: Counts, code: u8, orders: u32) -> Counts
+// The counts with a line and its beat, of this code and so many orders, after which the channels keep this.
+pub fn count(counts: Counts, code: u8, orders: u32, kept: [Channel; CHANNELS]) -> Counts
     requires { ⌜ FitCounts counts × (orders ≤ maxOrders) ⌝ }
-    ensures { λ x. ⌜ x ≡ countsAfter counts code orders ⌝ }
+    ensures { λ x. ⌜ x ≡ countsAfter counts code orders kept ⌝ }
 {
     let beats = counts.beats.0;
     let coded = one_if(code);
     Counts {
+        channels: kept,
         lines: counts.lines + 1,
         beats: Beats(beats + 1),
         coded: counts.coded + coded,

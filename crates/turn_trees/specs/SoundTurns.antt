@@ -23,7 +23,7 @@ use Rattle.engine.specs.Set.{startOf, rankIn, lineOf, curveLine, soundLines}
 use Rattle.engine.specs.Sound.{isSound, stateSound}
 use Rattle.engine.specs.Action.{World}
 use Rattle.engine.specs.Turn.{beatIn, turnsFrom}
-use Rattle.engine.specs.Beat.{bufferSize, areInputs, Given, beatBegun, wholeBeat}
+use Rattle.engine.specs.Beat.{bufferSize, areInputs, Given, samplesIn, beatBegun, wholeBeat}
 use Rattle.engine.specs.SetLinesLaws.{lines-lined}
 use Rattle.soundness.specs.SetSoundLaws.{lines-known, rank-inside}
 use Rattle.turn_trees.specs.TurnTree.{namesOf, turnsTree}
@@ -140,9 +140,9 @@ module _ (s : List ℕ) (size : length s ≤ setSize) (sound : soundLines s .sou
 
 -- A BEAT THAT IS NOT REFUSED is the turns of the trees of its set, by rising number, from the world in which it begins
 pub beat-by-trees : (s : List ℕ) (ls : List Line) (curves : ℕ → Curve) (st : State) (g : Given) → length s ≤ setSize → TreesOf s ls → CurvesOf s curves →
-    isSound s st ≡ true → ltb (length (g .buffer)) bufferSize ≡ false → areInputs (g .lent) ≡ true →
+    isSound s st ≡ true → ltb (length (g .buffer)) bufferSize ≡ false → areInputs (g .lent) ≡ true → samplesIn st g .good ≡ true →
     wholeBeat s st g ≡ (turnsTree (namesOf ls curves (st .cancelled)) (g .automatic) ls 0 (beatBegun st g) >>= λ t. good (record { world = t .world; entries = beatIn (g .automatic) ∷ t .entries }))
 unfolding wholeBeat isSound
-beat-by-trees s ls curves st g size trees same a b c =
+beat-by-trees s ls curves st g size trees same a b c d =
     let sound = both (soundLines s .sound) (stateSound (soundLines s .count) st) a .0 in
-    chosen _ _ _ a ∙ refused _ _ _ b ∙ chosen _ _ _ c ∙ rw (sound-turns s size sound ls trees curves same (st .cancelled) (g .automatic) (beatBegun st g))
+    chosen _ _ _ a ∙ refused _ _ _ b ∙ chosen _ _ _ c ∙ chosen _ _ _ d ∙ rw (sound-turns s size sound ls trees curves same (st .cancelled) (g .automatic) (beatBegun st g))

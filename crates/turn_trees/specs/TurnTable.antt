@@ -19,11 +19,13 @@ use Rattle.values.specs.Fifo.{fits, appendAnswer, appended, shifted, removeAnsw
 use Rattle.tokens.specs.Token.{SAME, ATLEAST, MORE, MINUS, PLUS, TIMES, OVER, ID, IDS, WHEN, WHENEVER, EVERY, IN, MARKER, R, FIFO1, POS, LOCK, UNLOCK, X, maxLines}
 use Rattle.tokens.specs.Descent.{Answer, good, stop, _>>=_}
 use Rattle.tokens.specs.Index.{isInside}
-use Rattle.working.specs.Variables.{numberCount, cellOf, beatCount, fifoValue, fifoAt, variableValue}
+use Rattle.working.specs.Variables.{positionCount, cellOf, beatCount, fifoValue, fifoAt, variableValue}
 use Rattle.working.specs.Operators.{joinLogic, joinTruths, joinValues}
 use Rattle.working.specs.Working.{valueOver}
 use Rattle.engine.specs.Order.{fourBytes, orderBytes}
 use Rattle.engine.specs.Set.{rankIn}
+use Rattle.couplers.specs.Conversion.{nearestEven, signedThousandths, thousandthsOf}
+use Rattle.couplers.specs.Channel.{freshChannels, zeroReadings, allGood, valuesSampled, sampledAll}
 use Rattle.engine.specs.State.{powerOn}
 use Rattle.engine.specs.Timers.{grownCells}
 use Rattle.engine.specs.Cells.{inputCells, beatCells}
@@ -123,11 +125,11 @@ turnCases =
 abbrev pub outcomeOf : Case → Answer Shown
 outcomeOf c =
     let names = namesOf fiveLines (curveNamed oneCurve) (replicate maxLines false) in
-    turnsTree names (c .automatic) fiveLines 0 (beatBegun powerOn (record { automatic = c .automatic; word = c .inputs; lent = replicate numberCount (pos 0); buffer = [] })) >>= shown
+    turnsTree names (c .automatic) fiveLines 0 (beatBegun powerOn (record { automatic = c .automatic; word = c .inputs; readings = zeroReadings; lent = replicate positionCount (pos 0); buffer = [] })) >>= shown
 
 abbrev pub expected : Case → Answer Shown
 expected c = c .outcome
 
 pub turn-table : map outcomeOf turnCases ≡ map expected turnCases
-unfolding turnCases fiveLines oneCurve curveNamed curveIn curveAssigned curveOf polynomialOf _times_ _plus_ limitedTo turnsTree turnTree takesTree tryTree doTree actionsTree actionTree lockTree assignTree conditionTree takenTree isRemovalTree operandMeaning valueOver variableValue isInside cellOf beatCount fifoValue fifoAt joinLogic joinTruths joinValues inRange valued sumOf differenceOf productOf quotientOf lessThan equalTo nearestUnits markerOf fits appendAnswer appended shifted removeAnswer removed countOf changeAnswer changed changeFifo writeFifo writeCell writeInside writeTo driveOrder twosComplement fourBytes orderBytes rankIn powerOn grownCells inputCells beatCells beatBegun acts remembers tries
+unfolding turnCases fiveLines oneCurve curveNamed curveIn curveAssigned curveOf polynomialOf _times_ _plus_ limitedTo turnsTree turnTree takesTree tryTree doTree actionsTree actionTree lockTree assignTree conditionTree takenTree isRemovalTree operandMeaning valueOver variableValue isInside cellOf beatCount fifoValue fifoAt joinLogic joinTruths joinValues inRange valued sumOf differenceOf productOf quotientOf lessThan equalTo nearestUnits markerOf fits appendAnswer appended shifted removeAnswer removed countOf changeAnswer changed changeFifo writeFifo writeCell writeInside writeTo driveOrder twosComplement fourBytes orderBytes rankIn powerOn freshChannels thousandthsOf signedThousandths nearestEven allGood valuesSampled sampledAll grownCells inputCells beatCells beatBegun acts remembers tries
 turn-table = refl

@@ -61,13 +61,17 @@ twoMoves = 14
 abbrev pub shortBuffer : ℕ
 shortBuffer = 20
 
--- not 14 numbers, or one out of range
+-- not six positions, or one out of range
 abbrev pub wrongNumbers : ℕ
 wrongNumbers = 21
 
 -- set or state not sound
 abbrev pub unsound : ℕ
 unsound = 22
+
+-- a channel is faulty and never was good, or already had 25 faulty beats in a row
+abbrev pub faultyChannel : ℕ
+faultyChannel = 23
 
 -- print buffer under 4,096 bytes, or too short for the print
 abbrev pub shortPrint : ℕ

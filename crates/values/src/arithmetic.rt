@@ -59,7 +59,7 @@ fn size_of(v: i32) -> u64
 }
 
 // A size with its sign put back, as a value, or alarm 30.
-fn signed(negative: bool, size: u64) -> Worked
+pub fn signed(negative: bool, size: u64) -> Worked
     ensures { λ r. ⌜ r ≡ valued (signedNumber negative size) ⌝ }
 {
     if (TOP as u64) < size {

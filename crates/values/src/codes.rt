@@ -45,11 +45,14 @@ pub const TWO_MOVES: u8 = 14;
 // Order buffer under 2,048 bytes.
 pub const SHORT_BUFFER: u8 = 20;
 
-// Not 14 numbers, or one out of range.
+// Not six positions, or one out of range.
 pub const WRONG_NUMBERS: u8 = 21;
 
 // Set or state not sound.
 pub const UNSOUND: u8 = 22;
+
+// A channel is faulty and never was good, or already had 25 faulty beats in a row.
+pub const FAULTY_CHANNEL: u8 = 23;
 
 // Print buffer under 4,096 bytes, or too short for the print.
 pub const SHORT_PRINT: u8 = 24;

@@ -47,18 +47,21 @@ countAt = timerAt + timerCount
 abbrev pub stateCells : ℕ
 stateCells = countAt + fifos
 
--- the input cells of a beat: a bit each of the input word, then the numbers that the host lends, analogues and from the place `imAt` on positions
+-- the input cells of a beat: a bit each of the input word, the analogues, and from the place `imAt` on the positions
 abbrev pub bitCount : ℕ
 bitCount = 16
 
-abbrev pub numberCount : ℕ
-numberCount = 14
+abbrev pub analogueCount : ℕ
+analogueCount = 8
+
+abbrev pub positionCount : ℕ
+positionCount = 6
 
 abbrev pub imAt : ℕ
-imAt = 24
+imAt = bitCount + analogueCount
 
 abbrev pub inputCount : ℕ
-inputCount = bitCount + numberCount
+inputCount = imAt + positionCount
 
 -- the cells of a beat: those of its inputs, then those of the state
 abbrev pub cellCount : ℕ

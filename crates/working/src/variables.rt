@@ -39,14 +39,16 @@ pub const TIMER_AT: usize = 80;
 pub const COUNT_AT: usize = TIMER_AT + TIMERS;
 
 pub const STATE_CELLS: usize = COUNT_AT + FIFOS;
-// The input cells of a beat: a bit each of the input word, then the numbers that the host lends, analogues and from the place IM_AT on positions.
+// The input cells of a beat: a bit each of the input word, the analogues, and from the place IM_AT on the positions.
 pub const BITS: usize = 16;
 
-pub const NUMBERS: usize = 14;
+pub const ANALOGUES: usize = 8;
 
-const IM_AT: usize = 24;
+pub const POSITIONS: usize = 6;
 
-pub const INPUTS: usize = BITS + NUMBERS;
+pub const IM_AT: usize = BITS + ANALOGUES;
+
+pub const INPUTS: usize = IM_AT + POSITIONS;
 // The cells of a beat: those of its inputs, then those of the state.
 pub const CELLS: usize = INPUTS + STATE_CELLS;
 

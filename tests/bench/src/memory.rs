@@ -24,7 +24,8 @@ pub struct World {
 
 impl World {
     pub fn inputs(&self) -> Inputs<'_> {
-        Inputs { mode: Mode::Automatic, word: self.word, numbers: &self.numbers }
+        let analogues = std::array::from_fn(|channel| Value::from(self.numbers[channel]));
+        Inputs { mode: Mode::Automatic, word: self.word, analogues, positions: &self.numbers[8..] }
     }
 
     pub fn memory(&self) -> Memory {

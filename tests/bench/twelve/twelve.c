@@ -1,5 +1,5 @@
 // The lines of twelve.set and told.set written by hand: what synrun prints for them, alarms and their undoing included, as a limit of what a beat can cost.
-// The set text before the line `*` is skipped; beat lines must be well-formed and end at LF. While input 16 is low this is twelve.set alone.
+// The set text before the line `*` is skipped; beat lines must be well-formed, without faulty readings, and end at LF. While input 16 is low this is twelve.set alone.
 #include <stdint.h>
 #include <stdlib.h>
 #include <string.h>
@@ -7,6 +7,8 @@
 
 enum { STATIONS = 12, PIECE = 1000, LENGTH = 9000, TOP = 1000000000 };
 enum { BEATS = 1000000, OUT = 1 << 16, LONGEST = 1024 };
+// The readings of a beat line, and the hex digits of one.
+enum { READINGS = 8, DIGITS = 8 };
 enum { OUT_OF_RANGE = 21, TOO_LARGE = 30 };
 
 // The pieces of each station, and their length, in thousandths; place 0 is not used.
@@ -83,6 +85,7 @@ static int beat(struct counters *c, int64_t k, const char **at, int64_t *orders)
     const char *p = *at;
     int automatic = *p++ == 'A', code = 0;
     uint32_t inputs = number(&p);
+    for (int i = 0; i < READINGS && *p == ' '; i++) p += 1 + DIGITS;
     while (*p == ' ') {
         int64_t n = number(&p);
         if (n < -TOP || n > TOP) code = OUT_OF_RANGE;

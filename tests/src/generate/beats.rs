@@ -1,19 +1,39 @@
 //! Random beat lines, well-formed and not.
 
+use crate::control::POSITIONS;
 use crate::random::Random;
+use crate::reading::CHANNELS;
 
-const ILL_FORMED: [&str; 34] = [
-    "", " ", "A", "M", "A ", "A  1", " A 1", "A 1 ", "A 65536", "A -1", "A -0", "A +1", "A 1 +1", "A 1 1.0",
-    "A 1 --1", "A 1 -", "A 1 2147483648", "A 1 -2147483649", "A 1 0 0 0 0 0 0 0 0 0 0 0 0 0 0 0", "B 1",
-    "a 1", "AM 1", "*", "A 1;c", "A\t1", "A 1 1a", "A1", "; comment", "A 1\r", "A 99999999999999999999",
-    "A 1 99999999999999999999", "0 1", "A 1  1", "A 1 0x1",
+const ILL_FORMED: [&str; 46] = [
+    "", " ", "A", "M", "A ", "A  1", " A 1", "A 1 ", "A 65536", "A -1", "A -0", "A +1", "A 1 1.0", "A 1 -",
+    "A 1 1", "A 1 0", "A 1 -0", "A 1 0000000", "A 1 000000000", "A 1 3f800000", "A 1 0000000G",
+    "A 1 -0000000", "A 1 b", "A 1 BB", "A 1 SB", "A 1 B S s", "A 1 B B B B B B B B B",
+    "A 1 S S S S S S S S 00000000 1a", "A 1 S S S S S S S S 2147483648", "A 1 S S S S S S S S -2147483649",
+    "A 1 S S S S S S S S --1", "A 1 S S S S S S S S 1 2 3 4 5 6 7",
+    "A 1 S S S S S S S S 99999999999999999999", "B 1", "S 1", "a 1", "AM 1", "*", "A 1;c", "A\t1", "A1",
+    "; comment", "A 1\r", "A 99999999999999999999", "0 1", "A 1  00000000",
 ];
-const ODD_BUT_GOOD: [&str; 8] = [
-    "A 0001", "A 1 -0", "M 65535 -007", "A 00000000000000000000015 00000000000000000000000003",
-    "A 3 1 2 3 4 5 6 7 8 9 10 11 12 13 14", "M 0", "A 1 -1000000000 1000000000", "A 65535",
+const ODD_BUT_GOOD: [&str; 9] = [
+    "A 0001",
+    "A 1 80000000",
+    "M 65535 BF800000",
+    "A 00000000000000000000015 00000000",
+    "M 0",
+    "A 65535",
+    "A 1 C9742400 49742400",
+    "A 3 BBBBBBBB 3BBBBBBB 00000001 807FFFFF 3D800000 BE400000 447A0000 40000000",
+    "A 3 3F800000 40000000 40400000 3D800000 B S 3E400000 3A83126F 9 -10 0011 -0 -007 14",
 ];
 const EDGES: [i64; 8] =
     [1_000_000_000, -1_000_000_000, 1_000_000_001, -1_000_000_001, 2_147_483_647, -2_147_483_648, 0, 1];
+/// Numbers of volts by their bits: zeros, those below the normal numbers, those beside a half of a thousandth, the ends of the
+/// range with their neighbours, and what counts as a break.
+const EDGE_BITS: [u32; 30] = [
+    0x0000_0000, 0x8000_0000, 0x0000_0001, 0x8000_0001, 0x007F_FFFF, 0x807F_FFFF, 0x0080_0000, 0x3A03_126E,
+    0x3A03_126F, 0x3D7F_FFFF, 0x3D80_0000, 0x3D80_0001, 0x3E3F_FFFF, 0x3E40_0000, 0xBE40_0001, 0xBEA0_0000,
+    0x4974_23FF, 0x4974_2400, 0x4974_2401, 0xC974_23FF, 0xC974_2400, 0xC974_2401, 0x7F7F_FFFF, 0x7F80_0000,
+    0xFF80_0000, 0x7FC0_0000, 0x7F80_0001, 0xFFBF_FFFF, 0xFFFF_FFFF, 0x4B00_0000,
+];
 
 /// Beats of a long input, at least.
 const LONG: i64 = 1000;
@@ -25,6 +45,8 @@ pub struct Inputs {
     /// For thousands of beats: the mode stays for a while too, and the last four bits only flash.
     steady: bool,
     manual: bool,
+    /// For how many beats more each channel is faulty.
+    faulty: [usize; CHANNELS],
 }
 
 impl Inputs {
@@ -59,19 +81,62 @@ impl Inputs {
         usize::from(self.steady && random.chance(14)) << (12 + random.below(4))
     }
 
-    /// The fields of a beat line after the mode, with up to `most` numbers.
+    /// The fields of a beat line after the mode, with readings and up to `most` positions.
     pub fn next(&mut self, random: &mut Random, most: usize) -> String {
         let flashing = self.switch(random);
-        let count = if random.chance(40) { random.below(most + 1) } else { 0 };
+        self.switch_faults(random);
+        let given = if random.chance(40) { random.below(CHANNELS + most + 1) } else { 0 };
+        let count = given.max(self.faulty.iter().rposition(|left| *left > 0).map_or(0, |last| last + 1));
         let mut fields = (self.word | flashing).to_string();
-        for _ in 0..count {
-            fields.push_str(&format!(" {}", lent_number(random)));
+        for place in 0..count {
+            let field = match self.faulty.get_mut(place) {
+                None => position(random).to_string(),
+                Some(0) => reading(random),
+                Some(left) => {
+                    *left -= 1;
+                    fault(random)
+                }
+            };
+            fields.push_str(&format!(" {field}"));
         }
         fields
     }
+
+    /// Now and then a channel becomes faulty, for a few beats or for about as many as are bridged.
+    fn switch_faults(&mut self, random: &mut Random) {
+        if random.below(1000) < 25 {
+            let beats = random.weighted(&[(50, 1), (16, 3), (6, 24), (9, 25), (9, 26), (10, 28)]);
+            let channel = if random.chance(80) { random.below(3) } else { random.below(CHANNELS) };
+            self.faulty[channel] = beats;
+        }
+    }
 }
 
-fn lent_number(random: &mut Random) -> i64 {
+/// A reading that is mostly good: eighths, thousandths and numbers beside them, now and then an edge or any number.
+fn reading(random: &mut Random) -> String {
+    let bits = match random.below(400) {
+        0..=3 => random.pick(&EDGE_BITS),
+        4..=29 => (random.between(-1_000_000_000, 1_000_000_000) as f32 / 1000.0).to_bits(),
+        30..=119 => (random.between(-6000, 6000) as f32 / 1000.0).to_bits(),
+        120..=199 => (random.between(-96, 96) as f32 / 16.0).to_bits(),
+        200..=219 => (random.between(-96, 96) as f32 / 16.0).to_bits() ^ 1,
+        _ => (random.between(-48, 48) as f32 / 8.0).to_bits(),
+    };
+    format!("{bits:08X}")
+}
+
+/// A wire fault, or a number that counts as one.
+fn fault(random: &mut Random) -> String {
+    match random.below(20) {
+        0..=9 => "B".into(),
+        10..=16 => "S".into(),
+        17 => random.pick(&["7F800000", "FF800000", "7FC00000", "7F800001", "FFFFFFFF", "7FBFFFFF"]).into(),
+        18 => random.pick(&["49742401", "C9742401", "7F7FFFFF", "FF7FFFFF", "4B000000"]).into(),
+        _ => format!("{:08X}", 0x7F80_0001 + random.below(0x7F_FFFF)),
+    }
+}
+
+fn position(random: &mut Random) -> i64 {
     match random.below(300) {
         0 => random.pick(&EDGES),
         1..=20 => random.between(-1_000_000_000, 1_000_000_000),
@@ -95,7 +160,7 @@ pub fn script(random: &mut Random, long: bool) -> Vec<u8> {
         let line = match random.below(60) {
             _ if spoiled == Some(beat) => random.pick(&ILL_FORMED).to_string(),
             0 => random.pick(&ODD_BUT_GOOD).to_string(),
-            _ => format!("{} {}", inputs.mode(random), inputs.next(random, 14)),
+            _ => format!("{} {}", inputs.mode(random), inputs.next(random, POSITIONS)),
         };
         text.push_str(&line);
         text.push_str(end);

@@ -4,6 +4,7 @@ use super::beats::Inputs;
 use super::curve_damage;
 use super::filled::{filled, operands, GROWN};
 use super::{random_set, RandomSet};
+use crate::control::POSITIONS;
 use crate::host_line::LONGEST_PRINT;
 use crate::load::TEXT;
 use crate::print::BUFFER;
@@ -12,11 +13,12 @@ use crate::random::Random;
 const BUFFERS: [usize; 8] = [2048, 2048, 2047, 0, 4096, 2049, 2055, 2040];
 const PRINT_BUFFERS: [usize; 12] =
     [4096, 4096, 4096, 4095, 4095, 4097, 4098, 4104, 0, 1, LONGEST_PRINT, LONGEST_PRINT];
-const LISTS: [usize; 7] = [14, 14, 14, 13, 15, 0, 32];
-const ILL_FORMED: [&str; 27] = [
-    "", "Q", "L", "L 256", "L -1", "R 1", "B A 0 4097 14", "B A 0 2048 33", "V Q 0 0", "V M 32 0", "V O 0 0",
-    "V L 0 2", "S C 1 1", "T 0 0 #", "N 1000000", "D 0", "P", "P 8193", "P -1", "P 4096 1", "F 0 2 1",
-    "F 4 2 1", "F 1 99 1", "F 1 2 #", "S F 0 0", "S F 4 0", "S F 1 4",
+const LISTS: [usize; 8] = [6, 6, 6, 6, 5, 7, 0, 16];
+const ILL_FORMED: [&str; 33] = [
+    "", "Q", "L", "L 256", "L -1", "R 1", "B A 0 4097 6", "B A 0 2048 17", "V Z 0 0", "V M 32 0", "V O 0 0",
+    "V L 0 2", "S C 1 1", "T 0 0 #", "N 1000000", "D 0", "P", "P 8193", "P -1", "P 4096 1", "B A 0 2048 6 1",
+    "V K 0 1", "V K 1 2", "V B 1 7FC00000", "V B 9 00000000", "V Q 1 256",
+    "F 0 2 1", "F 4 2 1", "F 1 99 1", "F 1 2 #", "S F 0 0", "S F 4 0", "S F 1 4",
 ];
 /// Lines that are ill-formed if the set does not have the curve.
 const OF_NO_CURVE: [&str; 4] = ["F 1 4 0", "F 3 15 1", "S F 1 2", "S F 2 3"];
@@ -26,6 +28,12 @@ const RAW: [i64; 16] = [
     -1_000_000_001, 2_147_483_647, -2_147_483_648,
 ];
 const COUNTS: [i64; 8] = [0, 1, 2, 5, 15, 16, 17, 255];
+/// Faulty beats in a row, and the bits of readings that convert and of those that do not.
+const FAULTS: [i64; 8] = [0, 1, 24, 24, 25, 25, 26, 255];
+const BITS: [&str; 10] = [
+    "00000000", "80000000", "00000001", "3D800000", "49742400", "C9742400", "49742401", "C9742401",
+    "7F7FFFFF", "FF800000",
+];
 /// Tokens put in another's place; no keyword, so that no memory changes its meaning.
 const TOKENS: [&str; 26] = [
     "DO", "TRUE", "NOT", "AND", "OR", "(", ")", "[", "]", "=", "==", "<", "+", "-", "*", "/", "0", "1",
@@ -111,7 +119,7 @@ impl Session<'_> {
     }
 
     pub fn beat(&mut self) {
-        let line = format!("{} {}", self.inputs.mode(self.random), self.inputs.next(self.random, 14));
+        let line = format!("{} {}", self.inputs.mode(self.random), self.inputs.next(self.random, POSITIONS));
         self.add(line);
     }
 
@@ -119,8 +127,8 @@ impl Session<'_> {
         let buffer = self.random.pick(&BUFFERS);
         let list = self.random.pick(&LISTS);
         let inputs = self.inputs.next(self.random, list);
-        let (word, numbers) = inputs.split_once(' ').unwrap_or((&inputs, ""));
-        let line = format!("B {} {word} {buffer} {list} {numbers}", self.inputs.mode(self.random));
+        let (word, given) = inputs.split_once(' ').unwrap_or((&inputs, ""));
+        let line = format!("B {} {word} {buffer} {list} {given}", self.inputs.mode(self.random));
         self.add(line.trim_end());
     }
 
@@ -217,6 +225,9 @@ impl Session<'_> {
         let flag = self.random.below(2) as i64;
         let rank =
             if self.random.chance(95) { self.random.below(self.set.lines.len().max(1)) } else { 31 } as i64;
+        if self.random.chance(22) {
+            return self.channel_damage();
+        }
         let (letter, index, value) = match self.random.below(14) {
             0 => ("O", self.random.between(1, 16), raw),
             1..=2 => ("M", self.random.between(0, 3), raw),
@@ -232,6 +243,24 @@ impl Session<'_> {
             _ => ("L", rank, 1),
         };
         self.add(format!("V {letter} {index} {value}"));
+    }
+
+    /// A channel's record becomes another, in whole or in part, and its last good reading is mostly asked for.
+    fn channel_damage(&mut self) {
+        let channel = self.random.between(1, 8);
+        let (known, faults) = (self.random.below(4).min(1), self.random.pick(&FAULTS));
+        let bits = self.random.pick(&BITS);
+        let mut places = vec![format!("V K {channel} {known}"), format!("V B {channel} {bits}")];
+        places.push(format!("V Q {channel} {faults}"));
+        if self.random.chance(50) {
+            let place = self.random.below(places.len());
+            places = vec![places.swap_remove(place)];
+        }
+        places.into_iter().for_each(|place| self.add(place));
+        if self.random.chance(70) {
+            let readings = vec!["00000000"; channel as usize - 1].join(" ");
+            self.add(format!("A 0 {readings} B").replace("  ", " "));
+        }
     }
 
     fn set_damage(&mut self) {

@@ -24,9 +24,9 @@ reset-spec =
     (λ c. sym (reset-unsound _ _ (sound-as _ _ _ (c .before .before .before .sound-lines .ensures) (not-false _ (c .before .before .if1 .left)) _ (c .before .is-state-sound .ensures) ∙ not-true _ (c .if2 .taken))))
     (λ c. search needs)
     (λ c κs. omega (arith, whole c))
-    (λ c κs. rw (c .before .before .before .before .before .before .before .before .before .sound-lines .ensures) (sound-count _))
+    (λ c κs. rw (c .before .before .before .before .before .before .before .before .before .before .sound-lines .ensures) (sound-count _))
     (λ c.
-    let d = c .before .before .before .before in
+    let d = c .before .before .before .before .before in
     let b = d .before .before .before in
     let a = b .before .before in
     sym (reset-sound _ _ (sound-as _ _ _ (a .before .sound-lines .ensures) (not-false _ (a .if1 .left)) _ (b .before .is-state-sound .ensures) ∙ not-false _ (b .if2 .left)) _ (a .before .sound-lines .ensures) _ (d .zero-cells .ensures) _ (c .cancel-ids .ensures))))

@@ -7,7 +7,6 @@ use Rattle.tokens.specs.Descent.{Answer}
 use Rattle.engine.specs.ReadLines.{linesIn}
 use Rattle.engine.specs.Action.{World}
 use Rattle.engine.specs.Turn.{Turned}
-use Rattle.engine.specs.Beat.{beatBegun}
 use Rattle.engine.specs.Held.{Held, heldIn, turnsHeld}
 use Rattle.engine.specs.WriteAnswers.{varsOf}
 use Rattle.engine.specs.ActionAnswers.{worldOf}
@@ -22,17 +21,16 @@ start c = c .before .before .before .before .before .before .before .before .bef
 
 -- what is held before
 abbrev before : tie.After-turns → Held
-before c = let a = start c .args in heldIn (now (a .r)) (now (a .cells)) (now (a .runs)) (now (a .locked)) (now (a .memory)) (now (a .orders))
+before c = let a = start c .args in heldIn (now (a .r)) (now (a .cells)) (now (a .runs)) (a .before) (now (a .locked)) (now (a .memory)) (now (a .orders))
 
 -- all turns, the world that they left, and that they came to it
 abbrev all : tie.After-turns → Answer Turned
-all c = let a = start c .args in turnsHeld (now (a .set)) (linesIn (now (a .lines))) (now (a .cancelled)) (before c) (a .automatic) (a .inputs) (now (a .lent))
+all c = let a = start c .args in turnsHeld (now (a .set)) (linesIn (now (a .lines))) (now (a .cancelled)) (before c) (a .automatic) (a .inputs) (now (a .values)) (now (a .lent))
 
 abbrev world : tie.After-turns → World
 world c = let o = c .turns .last .1 .1 .1 .1 in worldOf (varsOf (o .0) (o .1 .0) (o .1 .1 .0)) (o .1 .1 .1 .0) (o .1 .1 .1 .1 .0) (o .1 .1 .1 .1 .1 .0) (c .turns .result .progress)
 
 came : (c : tie.After-turns) → IsTurned (c .turns .result) (world c) (all c)
-unfolding beatBegun
 came c = rw (c .before .before .before .before .before .before .before .begin-cells .ensures) at (c .turns .ensures .0)
 
 pub all-turns-spec : {M : Type 1} → statement M
@@ -45,9 +43,9 @@ all-turns-spec =
     (λ c.
     let i = c .before in
     let d = i .before in
-    refuses (before d) (all d) (c .refused .ensures) (turned-stop (d .turns .result) (world d) (all d) (came d) (not-true _ (i .if1 .taken))))
+    refuses (before d) (start d .args .kept) (all d) (c .refused .ensures) (turned-stop (d .turns .result) (world d) (all d) (came d) (not-true _ (i .if1 .taken))))
     (λ c. search needs)
-    (λ c κs. let d = c .before .before .before .before .before in (omega (arith, d .turns .ensures .1 .0), start d .pre .1 .1))
+    (λ c κs. let d = c .before .before .before .before .before in (omega (arith, d .turns .ensures .1 .0), start d .pre .1 .1 .1))
     (λ c κs. omega (arith, c .before .before .before .before .before .before .before .before .turns .ensures .1 .0))
     (λ c. search needs)
     (λ c.
@@ -59,6 +57,6 @@ all-turns-spec =
     let n = p .copy-orders .ensures in
     let v = varsOf (o .0) (o .1 .0) (o .1 .1 .0) in
     let f = d .turns .result .progress in (
-      answers (before d) (all d) v (o .1 .1 .1 .0) (o .1 .1 .1 .1 .0) (o .1 .1 .1 .1 .1 .0) f _ (w .1) (n .1) (c .finished .ensures),
-      leaves (before d) (all d) v (o .1 .1 .1 .0) (o .1 .1 .1 .1 .0) (o .1 .1 .1 .1 .1 .0) f _ (w .1) (n .1) (n .0),
+      answers (before d) (start d .args .kept) (all d) v (o .1 .1 .1 .0) (o .1 .1 .1 .1 .0) (o .1 .1 .1 .1 .1 .0) f _ (w .1) (n .1) (c .finished .ensures),
+      leaves (before d) (start d .args .kept) (all d) v (o .1 .1 .1 .0) (o .1 .1 .1 .1 .0) (o .1 .1 .1 .1 .1 .0) f _ (w .1) (n .1) (c .finished .ensures) (n .0),
     )))

@@ -4,6 +4,7 @@ use borrow.Author.Tests.{not-true, not-false}
 use mathlib.Core.Path.{_≡_, sym, _∙_}
 use mathlib.Core.Bool.{true}
 use denote.Ref.{now}
+use Rattle.couplers.specs.Channel.{channelCount, areChannels}
 use Rattle.working.specs.Variables.{fifos}
 use Rattle.engine.specs.Sound.{allRanged, areCells, areFifos, stateSound}
 use Rattle.engine.proofs.sound.is_held_sound.Statement.{statement}
@@ -19,6 +20,9 @@ ok2 c = sym (c .before .are-cells .ensures) ∙ not-false _ (c .if2 .left)
 ok3 : (c : tie.Else3) → let a = c .before .before .before .before .before .before .before .args in areFifos (now (a .r)) (now (a .cells)) fifos 0 ≡ true
 ok3 c = sym (c .before .are-fifos .ensures) ∙ not-false _ (c .if3 .left)
 
+ok4 : (c : tie.Else4) → areChannels (c .before .before .before .before .before .before .before .before .before .args .channels) channelCount ≡ true
+ok4 c = sym (c .before .are-channels .ensures) ∙ not-false _ (c .if4 .left)
+
 pub is-held-sound-spec : {M : Type 1} → statement M
 unfolding stateSound
 is-held-sound-spec =
@@ -31,4 +35,13 @@ is-held-sound-spec =
     (λ c κs. search needs)
     (λ c runs. simp (stateSound, ok1 (c .before .before .before .before), ok2 (c .before .before), sym (c .before .are-fifos .ensures) ∙ not-true _ (c .if3 .taken)))
     (λ c κs. search needs)
-    (λ c runs. let f = c .before in let e = f .before .before in simp (stateSound, ok1 (e .before .before), ok2 e, ok3 f) (c .are-flags .ensures)))
+    (λ c runs.
+    let f = c .before .before in
+    let e = f .before .before in
+    simp (stateSound, ok1 (e .before .before), ok2 e, ok3 f, sym (c .before .are-channels .ensures) ∙ not-true _ (c .if4 .taken)))
+    (λ c κs. search needs)
+    (λ c runs.
+    let d = c .before in
+    let f = d .before .before in
+    let e = f .before .before in
+    simp (stateSound, ok1 (e .before .before), ok2 e, ok3 f, ok4 d) (c .are-flags .ensures)))

@@ -7,10 +7,10 @@ use Rattle.hosting.proofs.requests.list_of.Statement.{statement}
 use Rattle.hosting.proofs.requests.list_of.Tie as tie
 
 abbrev Inv-loop : tie.InvT-loop
-Inv-loop request numbers₀ k₀ numbers k = length numbers ≡ 32
+Inv-loop request numbers₀ k₀ numbers k = length numbers ≡ 16
 
 abbrev μ-loop : tie.MeasureT-loop
-μ-loop request numbers₀ k₀ numbers k = 32 - k
+μ-loop request numbers₀ k₀ numbers k = 16 - k
 
 pub list-of-spec : {M : Type 1} → statement M
 list-of-spec =

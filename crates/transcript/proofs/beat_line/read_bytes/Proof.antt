@@ -1,4 +1,4 @@
--- `beat_line::read_bytes` meets its contract: what stands first is read whole; in the loop the bytes from place `i` on come to what all of them come to.
+-- `beat_line::read_bytes` meets its contract: in the loop the bytes from place `i` on come to what all of them come to.
 use borrow.Author.Needs.{needs}
 use native.Mathlib.Omega.{arith}
 use mathlib.Core.Path.{_≡_, refl, sym, _∙_}
@@ -10,7 +10,7 @@ use Rattle.transcript.proofs.beat_line.read_bytes.Statement.{statement}
 use Rattle.transcript.proofs.beat_line.read_bytes.Tie as tie
 
 abbrev Inv-loop : tie.InvT-loop
-Inv-loop part x₀ i₀ x i = (readOn x (drop i part) ≡ readOn x₀ (drop i₀ part)) × (i ≤ length part)
+Inv-loop part x₀ i₀ x i = (readOn x (drop i part) ≡ readOn x₀ part) × (i ≤ length part)
 
 abbrev μ-loop : tie.MeasureT-loop
 μ-loop part x₀ i₀ x i = length part - i
@@ -21,11 +21,15 @@ read-bytes-spec =
     (tie.spec
     Inv-loop
     μ-loop
-    (λ c κs. search needs)
-    (λ c. (refl, c .before .read-first .ensures .0))
+    (λ c. (refl, omega arith))
     (λ c. omega arith)
     (λ c κs. search needs)
     (λ c. omega arith)
-    (λ c. omega arith)
-    (λ c. let b = c .before .before .before in (read-next _ _ (b .loop .i) (omega arith) (c .read-byte .ensures) ∙ b .loop .inv .0, omega arith))
-    (λ c. let b = c .before in sym (read-none _ _ (b .loop .i) (omega arith)) ∙ b .loop .inv .0 ∙ b .before .before .read-first .ensures .1))
+    (λ c κs. omega arith)
+    (λ c. omega (arith, c .before .read-run .ensures .0))
+    (λ c.
+    let u = c .before in
+    let b = u .before in
+    let l = b .before .before .before in
+    (u .read-run .ensures .1 ∙ read-next _ _ (l .loop .i) (omega arith) (b .read-byte .ensures) ∙ l .loop .inv .0, u .read-run .ensures .0 .1))
+    (λ c. let b = c .before in sym (read-none _ _ (b .loop .i) (omega arith)) ∙ b .loop .inv .0))

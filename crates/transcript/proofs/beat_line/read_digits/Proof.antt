@@ -10,17 +10,17 @@ use denote.Ref.{now}
 use Rattle.tokens.specs.BetweenLaws.{inside}
 use Rattle.text.specs.Byte.{isDigit}
 use Rattle.transcript.specs.declared.beat_line.HalfLine.{HalfLine}
-use Rattle.transcript.specs.HalfLine.{highest, readOn, withValue}
-use Rattle.transcript.proofs.BeatLineLaws.{digit-stands, digit-read}
+use Rattle.transcript.specs.HalfLine.{highest, readOn, withValue, IsNumber}
+use Rattle.transcript.proofs.BeatLineLaws.{digit-stands, digit-read, number-on}
 use Rattle.transcript.proofs.beat_line.read_digits.Statement.{statement}
 use Rattle.transcript.proofs.beat_line.read_digits.Tie as tie
 
 abbrev Inv-loop : tie.InvT-loop
-Inv-loop part at value₀ end₀ value end =
-    ((r : HalfLine) → 1 ≤ r .field → r .stage ≤ 2 → r .value ≡ 0 → readOn (withValue r value) (drop end part) ≡ readOn r (drop at part)) × (at < end) × (end ≤ length part)
+Inv-loop part at before value₀ end₀ value end =
+    ((r : HalfLine) → IsNumber r → r .value ≡ before → readOn (withValue r value) (drop end part) ≡ readOn r (drop at part)) × (at < end) × (end ≤ length part)
 
 abbrev μ-loop : tie.MeasureT-loop
-μ-loop part at value₀ end₀ value end = length part - end
+μ-loop part at before value₀ end₀ value end = length part - end
 
 loop-holds : tie.Need-loop-holds Inv-loop μ-loop
 loop-holds c =
@@ -28,7 +28,7 @@ loop-holds c =
     let t = now (s .args .part) in
     let i = s .args .at in
     let l = digit-stands t i (s .pre) in
-    (λ r h g z. digit-read r h g t i (s .pre) (c .grown .ensures ∙ ap (λ (v : ℕ). min highest (v * 10 + (getD t i 0 - 48))) (sym z)), omega arith, omega arith)
+    (λ r n z. digit-read r n t i (s .pre) (c .grown .ensures ∙ ap (λ (v : ℕ). min highest (v * 10 + (getD t i 0 - 48))) (sym z)), omega arith, omega arith)
 
 -- the byte that is read in the loop is a digit
 digit : (c : tie.Else1 Inv-loop μ-loop) → isDigit (getD (now (c .before .before .before .before .before .before .before .before .args .part)) (c .before .before .before .before .loop .end) 0) ≡ true
@@ -45,7 +45,7 @@ loop-again : tie.Need-loop-again Inv-loop μ-loop
 loop-again c =
     let l = c .before .before .before .before .before .loop in
     let t = now (c .before .before .before .before .before .before .before .before .before .args .part) in
-    (λ r h g z. digit-read (withValue r (l .value)) h (omega arith) t (l .end) (digit (c .before)) (c .grown2 .ensures) ∙ l .inv .0 r h g z, omega arith, omega arith)
+    (λ r n z. digit-read (withValue r (l .value)) (number-on r n (l .value)) t (l .end) (digit (c .before)) (c .grown2 .ensures) ∙ l .inv .0 r n z, omega arith, omega arith)
 
 pub read-digits-spec : {M : Type 1} → statement M
 read-digits-spec =

@@ -15,4 +15,4 @@ read-lent-spec =
     (λ c. c .nothing-lent .ensures ∙ ap maybeLent (sym (unended _ (c .before .before .close .ensures) (c .before .if1 .taken))))
     (λ c κs. search needs)
     (λ c. c .nothing-lent2 .ensures ∙ ap maybeLent (sym (no-word _ (c .before .before .before .close .ensures) (c .before .if2 .taken))))
-    (λ c. ap maybeLent (sym (lends _ (c .before .before .before .close .ensures) (c .before .before .if1 .left) (c .before .if2 .left)))))
+    (λ c. ap maybeLent (sym (lends _ (c .before .before .before .before .close .ensures) (c .before .before .before .if1 .left) (c .before .before .if2 .left)))))

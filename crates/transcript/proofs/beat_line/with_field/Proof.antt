@@ -2,12 +2,13 @@
 use borrow.Author.Needs.{needs}
 use native.Mathlib.Omega.{arith}
 use borrow.Author.Tests.{eq-eqb, le-leb, lt-leb}
-use mathlib.Core.Path.{refl, _∙_}
+use mathlib.Core.Path.{_≡_, refl, sym, _∙_}
+use mathlib.Core.Bool.{true, false}
 use Prim.Native.Nat.{_≤_, _<_}
 use mir.Syntax.{w32}
 use Rattle.values.specs.SignedLaws.{back}
-use Rattle.transcript.specs.HalfLine.{greatest, withField}
-use Rattle.transcript.proofs.BeatLineLaws.{word-bound, negative-bound, positive-bound, with-number}
+use Rattle.transcript.specs.HalfLine.{isReading, greatest, withField}
+use Rattle.transcript.proofs.BeatLineLaws.{word-bound, negative-bound, positive-bound, position-from, with-sent, with-position}
 use Rattle.transcript.proofs.beat_line.with_field.Statement.{statement}
 use Rattle.transcript.proofs.beat_line.with_field.Tie as tie
 
@@ -16,6 +17,12 @@ beyond c = rw (← c .before .greatest-value .ensures (c .before .before .args .
 
 within : (c : tie.Else1) → c .before .before .args .r .value ≤ greatest (c .before .before .args .r)
 within c = rw (← c .before .greatest-value .ensures (c .before .before .args .r) refl refl) (c .if1 .left)
+
+is : (c : tie.Then3) → isReading (c .before .before .before .before .before .args .r .field) ≡ true
+is c = sym (c .before .is-reading .ensures) ∙ c .if3 .taken
+
+not : (c : tie.Else3) → isReading (c .before .before .before .before .before .args .r .field) ≡ false
+not c = sym (c .before .is-reading .ensures) ∙ c .if3 .left
 
 pub with-field-spec : {M : Type 1} → statement M
 unfolding withField
@@ -27,12 +34,28 @@ with-field-spec =
     (λ c. simp (withField, lt-leb _ _ (beyond (c .before)), c .ill-formed .ensures))
     (λ c. omega (arith, word-bound _ (within (c .before)) (c .if2 .taken)))
     (λ c. simp (withField, le-leb _ _ (within (c .before)), eq-eqb _ _ (c .if2 .taken)))
+    (λ c κs. search needs)
     (λ c. search needs)
     (λ c. search needs)
+    (λ c κs. search needs)
+    (λ c κs. search needs)
+    (λ c.
+    let d = c .before .before .before in
+    let i = d .before .before in
+    with-sent _ (within (i .before)) (i .if2 .left) (is d) (c .before .reading-by .ensures) (c .with-sent .ensures))
     (λ c. search needs)
-    (λ c κs. let i = c .before .before in (negative-bound _ (within (i .before)) (i .if2 .left), positive-bound _ (within (i .before)) (i .if2 .left)))
+    (λ c.
+    let d = c .before .before in
+    let i = d .before .before in
+    position-from _ (i .before .before .before .pre) (i .if2 .left) (not d))
+    (λ c. search needs)
+    (λ c κs.
+    let d = c .before .before in
+    let i = d .before .before in
+    (negative-bound _ (within (i .before)) (i .if2 .left) (not d), positive-bound _ (within (i .before)) (i .if2 .left) (not d)))
     (λ c κs. search needs)
     (λ c.
     let s = c .before .before in
-    let i = s .before .before .before in
-    with-number _ (within (i .before)) (i .if2 .left) refl (back w32 (record { sfits = s .signed-value .ok }) ∙ s .signed-value .ensures) (c .before .put-number .ensures)))
+    let d = s .before .before .before in
+    let i = d .before .before in
+    with-position _ (within (i .before)) (i .if2 .left) (not d) refl (back w32 (record { sfits = s .signed-value .ok }) ∙ s .signed-value .ensures) (c .before .put-position .ensures)))

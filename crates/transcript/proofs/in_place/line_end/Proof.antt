@@ -18,7 +18,7 @@ line-end-spec =
     let s = l .before .before .before in
     let v = s .pre .1 .0 powerOn in
     let b = l .end-line .ensures .0 in
-    (s .pre .0, (record { kept = line-told (s .args .intake) (v .intake) b; counts = λ h. fit-counts (line-totals {x = sessionIn (s .args .intake) (s .args .counts) powerOn} v b h) }, s .pre .1 .1)))
+    (s .pre .0, (record { kept = line-told (s .args .intake) (v .intake) b; counts = λ h. fit-counts (s .args .counts) (line-totals {x = sessionIn (s .args .intake) (s .args .counts) powerOn} v b h) }, s .pre .1 .1)))
     (λ c. search needs)
     (λ c.
     let w = c .before .before in

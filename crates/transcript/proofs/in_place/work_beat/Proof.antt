@@ -11,7 +11,7 @@ use Rattle.transcript.proofs.in_place.work_beat.Tie as tie
 
 -- the session before the beat
 abbrev before : tie.Start → Session
-before s = let a = s .args in sessionIn (a .intake) (a .counts) (stateIn (now (a .r)) (now (a .cells)) (now (a .runs)) (now (a .locked)) (now (a .cancelled)) (now (a .memory)))
+before s = let a = s .args in sessionIn (a .intake) (a .counts) (stateIn (now (a .r)) (now (a .cells)) (now (a .runs)) (a .counts .channels) (now (a .locked)) (now (a .cancelled)) (now (a .memory)))
 
 pub work-beat-spec : {M : Type 1} → statement M
 work-beat-spec =

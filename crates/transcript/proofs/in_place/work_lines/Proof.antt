@@ -15,7 +15,7 @@ use Rattle.transcript.proofs.in_place.work_lines.Tie as tie
 
 abbrev Inv-loop : tie.InvT-loop
 Inv-loop text₀ set₀ lines₀ r₀ cells₀ runs₀ locked₀ cancelled memory₀ orders₀ input out₀ kept₀ n₀ i₀ at₀ text set lines r cells runs locked memory orders out kept n i at =
-    Going input (worked (machineOf text₀ set₀ (sessionIn kept₀ n₀ (stateIn r₀ cells₀ runs₀ locked₀ cancelled memory₀))) input) out₀ (machineOf text set (sessionIn kept n (stateIn r cells runs locked cancelled memory))) i out at × (lines ≡ linesWritten set)
+    Going input (worked (machineOf text₀ set₀ (sessionIn kept₀ n₀ (stateIn r₀ cells₀ runs₀ (n₀ .channels) locked₀ cancelled memory₀))) input) out₀ (machineOf text set (sessionIn kept n (stateIn r cells runs (n .channels) locked cancelled memory))) i out at × (lines ≡ linesWritten set)
 
 abbrev μ-loop : tie.MeasureT-loop
 μ-loop text₀ set₀ lines₀ r₀ cells₀ runs₀ locked₀ cancelled memory₀ orders₀ input out₀ kept₀ n₀ i₀ at₀ text set lines r cells runs locked memory orders out kept n i at = length input - i
@@ -42,7 +42,7 @@ work-lines-spec =
     let e = t .before .before .before in
     let i = e .before .before .loop .inv in
     let k = e .before .loop-test .taken in
-    (i .1, (lives-on (going-lives (i .0) k (e .run-end .ensures) (taken-in _ _ _ _ (t .take-in .ensures .0) (t .take-in .ensures .1))), k)))
+    (i .1, (lives-on (e .before .before .loop .n) (going-lives (i .0) k (e .run-end .ensures) (taken-in _ _ _ _ (t .take-in .ensures .0) (t .take-in .ensures .1))), k)))
     (λ c. omega (arith, c .before .before .before .before .before .before .before .before .before .before .before .before .before .if1 .left, c .before .before .before .before .before .before .before .before .before .before .before .before .before .before .before .before .before .before .before .before .before .good .1 .1 .1 .1 .1 .1 .1 .1 .1 .1 .1 .1 .0))
     (λ c. omega (arith, c .before .before .before .before .before .before .before .before .before .before .before .before .before .if1 .left, c .before .before .before .before .before .before .before .before .before .before .before .before .before .before .before .before .before .run-end .ensures))
     (λ c.

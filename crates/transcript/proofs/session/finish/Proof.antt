@@ -6,6 +6,7 @@ use mathlib.Core.Path.{_≡_, sym, _∙_}
 use mathlib.Core.Bool.{true}
 use Rattle.transcript.specs.Machine.{isFit}
 use Rattle.transcript.specs.Intake.{inputOver}
+use Rattle.transcript.specs.InPlace.{countsOf}
 use Rattle.transcript.specs.InPlaceLaws.{fit-counts, totals-apart}
 use Rattle.transcript.specs.SessionRoomLaws.{fit-parts, arrival-room}
 use Rattle.transcript.proofs.StepLaws.{input-told}
@@ -32,7 +33,7 @@ finish-spec =
     let b = k .before in
     let l = b .before .before .before .before .before .before .before .before .before .before .before .before in
     let f = fit-parts _ (fit (l .before .before .before .before)) in
-    (l .read-lines .ensures, (record { kept = input-told _ (f .intake) (b .end-input .ensures); counts = λ h y. rw (k .counts-of .ensures) (fit-counts (f .totals) y) }, omega arith)))
+    (l .read-lines .ensures, (record { kept = input-told _ (f .intake) (b .end-input .ensures); counts = λ h y. rw (k .counts-of .ensures) (fit-counts (countsOf (l .before .before .before .before .before .before .args .session .totals)) (f .totals) y) }, omega arith)))
     (λ c κs.
     let w = c .before .before .before in
     let b = w .before .before .before .before .before .before .before .before .before .before .before .before in

@@ -29,9 +29,9 @@ step-spec =
     (λ c κs. search needs)
     (λ c κs. search needs)
     (λ c.
-    let w = c .before .before .before .before in
+    let w = c .before .before .before .before .before in
     let k = w .before .before .before .before .before .before .before .before .before .before .before .before in
     let p = k .before .before .before .before .before .before in
     let a = p .before .before .before .before .before .before .before .before .before .before .before .before .args in
     let x = a .session in
-    step-is (step-as (now (a .text)) (now (a .set)) (now (a .input)) (x .intake) (totals-apart (x .totals) (k .counts-of .ensures) (p .spread-cells .ensures)) (totals-together (w .work-lines .last .1 .1 .1 .1 .1 .1 .0) (c .totals-of .ensures) (c .before .before .kept-cells .ensures)) (w .work-lines .ensures))))
+    step-is (step-as (now (a .text)) (now (a .set)) (now (a .input)) (x .intake) (totals-apart (x .totals) (k .counts-of .ensures) (p .spread-cells .ensures)) (totals-together (w .work-lines .last .1 .1 .1 .1 .1 .1 .0) (w .work-lines .result .counts) (c .totals-of .ensures) (c .before .before .before .kept-cells .ensures)) (w .work-lines .ensures))))
