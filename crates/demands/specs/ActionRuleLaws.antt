@@ -11,9 +11,8 @@ use Rattle.values.specs.Choice.{either, ifNot}
 use Rattle.tokens.specs.Token.{END, M, SETAL, LOCK, SYNFCT, isVariable, isDrive, whole, maxLines, isAxis, isCall}
 use Rattle.tokens.specs.Descent.{token, Answer, good, stop, _>>=_, indexAt}
 use Rattle.tokens.specs.ChooseLaws.{through, choose}
-use Rattle.working.specs.Variables.{variableValue}
 use Rattle.working.specs.Operators.{fromWorked}
-use Rattle.working.specs.Working.{rightValue}
+use Rattle.working.specs.Working.{rightValue, variableAt}
 use Rattle.engine.specs.Set.{rankIn, curveLine}
 use Rattle.engine.specs.Action.{World, Note, Did, withVars, fromValueOrAlarm, takenAt, assignmentOf, curveAssigned, synfctOf, lockOf, commandOf, driveOf, actionOf}
 use Rattle.engine.specs.Actions.{actionsOf}
@@ -52,8 +51,7 @@ pub synfct-variables : (s : List ℕ) (x : World) (p : ℕ) (P : Did → Type 0)
 unfolding synfctOf
 synfct-variables s x p P h =
     let w = token s (p + 4) in
-    let u = token s (p + 9) in
-    bind-ok P (fromWorked (variableValue (x .vars .r) (x .vars .cells) u (indexAt s u (p + 9)))) _
+    bind-ok P (fromWorked (variableAt s (x .vars .r) (x .vars .cells) (p + 9))) _
     (λ a q. bind-ok P (curveAssigned (x .vars) (curveLine s (whole (token s (p + 2))) .curve) a w (indexAt s w (p + 4))) _ (λ v q. h v))
 
 module _ (s numbers : List ℕ) (cancelled : List Bool) (number : ℕ) where
@@ -66,8 +64,7 @@ module _ (s numbers : List ℕ) (cancelled : List Bool) (number : ℕ) where
     unfolding synfctOf
     synfct-dress p =
         let w = token s (p + 4) in
-        let u = token s (p + 9) in
-        through (dressDid l m) (fromWorked (variableValue (x .vars .r) (x .vars .cells) u (indexAt s u (p + 9)))) _ _
+        through (dressDid l m) (fromWorked (variableAt s (x .vars .r) (x .vars .cells) (p + 9))) _ _
         (λ a. through (dressDid l m) (curveAssigned (x .vars) (curveLine s (whole (token s (p + 2))) .curve) a w (indexAt s w (p + 4))) _ _ (λ v. refl))
 
     drive-dress : (w p : ℕ) → driveOf s number (dress l m x) w p ≡ (driveOf s number x w p >>= dressDid l m)

@@ -17,7 +17,7 @@ use Rattle.checking.specs.Fault.{joinSights, sight, countFault, isAmong, areApa
 use Rattle.checking.specs.CurveDefinition.{limitsFault, judgedCurve, numberPlace, parameterAt, partAt, partBehind, curveFrom, endedBy, definedBy, isDefining, definitionAt}
 use Rattle.working.specs.Variables.{cellOf, variableValue, markerAt, beatCount}
 use Rattle.working.specs.Operators.{joinTruths, joinValues}
-use Rattle.working.specs.Working.{valueOver, conditionValue, rightValue}
+use Rattle.working.specs.Working.{valueOver, conditionValue, rightValue, variableAt}
 use Rattle.engine.specs.Set.{linesFrom, linesRead, rankIn, namesKnown, curvesSound, allKnown, namedLines, soundLines, emptySet, withoutMark, withLine, countPlace, startPlace, curvePlace, firstPlace, withCount, curvesFrom}
 use Rattle.couplers.specs.Conversion.{nearestEven, signedThousandths, thousandthsOf}
 use Rattle.couplers.specs.Channel.{freshChannels, isChannel, areChannels, allGood, valuesSampled, channelsSampled, sampledAll}
@@ -68,5 +68,5 @@ shownOf cs =
 
 -- 100 at 30, 0 at 80, 120 at 10; 0 at 5, -100 at 6 (document 02); 120 at 0, in the marker, and at 6, appended to the FIFO. The beat after that gives 34, since an output takes no 120, and leaves all as it was
 pub curve-run : shownOf (beat 1 ∷ beat 2 ∷ []) ≡ ((notAllowed, 0) ∷ (0, 3) ∷ [], pos 100000 ∷ pos 0 ∷ pos 120000 ∷ pos 0 ∷ negsuc 99999 ∷ [], pos 120000, pos 120000)
-unfolding inRange valued lessThan equalTo wholeUnits outputOf grownTimer isIndex indexOf isIndexed indexAt joined more readProduct readSum readRest readExpression readVariable operandFrom readOperand sumAt expressionAt isInside cellOf variableValue lower opensTooMany wantingFault numberFault readFault joinSights sight isWritable writeFault idFault countFault isAmong areApart movesFault numberOf isRemoval assignedAt assignmentAt commandAt unindexedAt actionAt movesAt actionsAt lineParts bodyAt restAt lineAt joinTruths joinValues valueOver conditionValue rightValue linesFrom linesRead rankIn namesKnown curvesSound allKnown namedLines soundLines powerOn grownCells inputCells beatCells allRanged isCell areCells allZero isFifoSound areFifos isFlag areFlags stateSound isSound writeCell writeInside writeTo takenAt assignmentOf actionOf actionsOf tries acts remembers takesTurn doTurn tryTurn turnOf turnsFrom areInputs beatBegun beatEnded wholeBeat beatAnswer beatBuffer step runFrom run wordToken written isFit numberToken wordFirst behindPoint numberWith numberFirst signFirst firstToken tokensFrom tokensOf emptySet withoutMark withLine curveFault signOf sumOf productOf _times_ _plus_ polynomialOf limitedTo curveOf limitsFault judgedCurve numberPlace parameterAt partAt partBehind curveFrom endedBy definedBy isDefining definitionAt isGiven isSynfct synfctFault synfctAt curvesFrom curveAssigned synfctOf nearestUnits markerOf beatCount fits appendAnswer appended shifted changeAnswer changed changeFifo writeFifo freshChannels thousandthsOf signedThousandths nearestEven isChannel areChannels allGood valuesSampled channelsSampled sampledAll
+unfolding inRange valued lessThan equalTo wholeUnits outputOf grownTimer isIndex indexOf isIndexed indexAt joined more readProduct readSum readRest readExpression readVariable operandFrom readOperand sumAt expressionAt isInside cellOf variableValue lower opensTooMany wantingFault numberFault readFault joinSights sight isWritable writeFault idFault countFault isAmong areApart movesFault numberOf isRemoval assignedAt assignmentAt commandAt unindexedAt actionAt movesAt actionsAt lineParts bodyAt restAt lineAt joinTruths joinValues valueOver conditionValue rightValue variableAt linesFrom linesRead rankIn namesKnown curvesSound allKnown namedLines soundLines powerOn grownCells inputCells beatCells allRanged isCell areCells allZero isFifoSound areFifos isFlag areFlags stateSound isSound writeCell writeInside writeTo takenAt assignmentOf actionOf actionsOf tries acts remembers takesTurn doTurn tryTurn turnOf turnsFrom areInputs beatBegun beatEnded wholeBeat beatAnswer beatBuffer step runFrom run wordToken written isFit numberToken wordFirst behindPoint numberWith numberFirst signFirst firstToken tokensFrom tokensOf emptySet withoutMark withLine curveFault signOf sumOf productOf _times_ _plus_ polynomialOf limitedTo curveOf limitsFault judgedCurve numberPlace parameterAt partAt partBehind curveFrom endedBy definedBy isDefining definitionAt isGiven isSynfct synfctFault synfctAt curvesFrom curveAssigned synfctOf nearestUnits markerOf beatCount fits appendAnswer appended shifted changeAnswer changed changeFifo writeFifo freshChannels thousandthsOf signedThousandths nearestEven isChannel areChannels allGood valuesSampled channelsSampled sampledAll
 curve-run = refl

@@ -1,5 +1,5 @@
 -- Laws that several proofs cite, each file beside the definitions it is about. Set and state: SetLaws, ReadLaws, SoundTestLaws. The host's calls: NamedLineLaws, CallLaws.
--- Orders and writes: DriveAnswerLaws, WriteAnswerLaws, WriteLaws. Actions: ActionAnswerLaws, ActionLaws, ActionsLaws. Turns: TurnLaws. The beat: TimerLaws, CellLaws, BeatLaws.
+-- Orders and writes: DriveAnswerLaws, WriteAnswerLaws, WriteLaws. Actions: ActionAnswerLaws, ActionLaws, AssignedLaws, ActionsLaws. Turns: TurnLaws. The beat: TimerLaws, CellLaws, BeatLaws.
 pub mod SetLaws
 mod ReadLaws
 mod SoundTestLaws
@@ -10,6 +10,7 @@ mod WriteAnswerLaws
 mod WriteLaws
 mod ActionAnswerLaws
 mod ActionLaws
+mod AssignedLaws
 mod ActionsLaws
 mod TurnLaws
 mod TimerLaws

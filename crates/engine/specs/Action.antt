@@ -15,8 +15,7 @@ use Rattle.engine.specs.declared.order.Kind.the-variants as K
 use Rattle.tokens.specs.Token.{END, M, SETAL, LOCK, SYNFCT, isVariable, isDrive, isCall, isAxis, whole, maxLines}
 use Rattle.tokens.specs.Descent.{token, Answer, good, stop, _>>=_, indexAt}
 use Rattle.checking.specs.Fault.{isRemoval}
-use Rattle.working.specs.Working.{rightValue}
-use Rattle.working.specs.Variables.{variableValue}
+use Rattle.working.specs.Working.{rightValue, variableAt}
 use Rattle.working.specs.Operators.{fromWorked}
 use Rattle.working.specs.declared.walk.ValueOrAlarm.{ValueOrAlarm}
 use Rattle.engine.specs.Set.{rankIn, curveLine}
@@ -109,7 +108,7 @@ synfctWith s x a p =
 
 -- the variable is read first
 unfoldable pub synfctOf : List ℕ → World → ℕ → Answer Did
-synfctOf s x p = fromWorked (variableValue (x .vars .r) (x .vars .cells) (token s (p + 9)) (indexAt s (token s (p + 9)) (p + 9))) >>= λ a. synfctWith s x a p
+synfctOf s x p = fromWorked (variableAt s (x .vars .r) (x .vars .cells) (p + 9)) >>= λ a. synfctWith s x a p
 
 -- POS[axis]=, FA[axis]=, MOV[axis]= and a sum; an index that is no axis is in no sound set
 unfoldable pub driveOf : List ℕ → ℕ → World → ℕ → ℕ → Answer Did

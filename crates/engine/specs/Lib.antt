@@ -1,6 +1,6 @@
 -- In the order in which they are read. Files ending in Answers say how the code holds what a definition gives, files ending in Laws what follows from them.
 -- Set and state: Set, ReadLines, State, Sound. The host's calls: NamedLine, Calls. Orders and writes: Order, Drive, Write.
--- Actions: Action, Actions. Turns: Keyword, Turn. The beat: Timers, Cells, Beat, Held.
+-- Actions: Action, Assigned, Actions. Turns: Keyword, Turn. The beat: Timers, Cells, Beat, Held.
 pub mod Set
 pub mod TableLaws
 pub mod SetCountLaws
@@ -20,6 +20,7 @@ pub mod DriveAnswers
 pub mod Write
 pub mod WriteAnswers
 pub mod Action
+pub mod Assigned
 pub mod ActionAnswers
 pub mod Actions
 pub mod Keyword

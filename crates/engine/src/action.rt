@@ -6,12 +6,15 @@ ghost use mathlib.Core.Bool.{Bool, true, false};
 ghost use Prim.Native.Nat.{ℕ, _+_, _<_};
 ghost use mathlib.Core.List.{List};
 ghost use lib.IntN.{pos};
+ghost use Rattle.values.specs.Curve.{curveOf};
 ghost use Rattle.working.specs.Working.{rightValue};
-ghost use Rattle.engine.specs.Action.{fromValueOrAlarm, alarmOf, did, ordered, takenAt, assignmentOf, curveAssigned, synfctWith, synfctOf, driveOf, lockOf, commandOf, actionOf};
+ghost use Rattle.engine.specs.Action.{fromValueOrAlarm, alarmOf, did, ordered, takenAt, driveOf, lockOf, commandOf, actionOf};
+ghost use Rattle.engine.specs.Assigned.{isAssigned, curveValue, curveTaken, takenFor, targetOf, assignedOf};
 ghost use Rattle.engine.specs.Order.{maxOrders};
 ghost use Rattle.engine.specs.ReadLines.{linesIn};
+ghost use Rattle.engine.specs.Set.{curveLine};
 ghost use Rattle.engine.specs.Write.{Vars};
-ghost use Rattle.engine.specs.WriteAnswers.{varsOf, IsWritten};
+ghost use Rattle.engine.specs.WriteAnswers.{varsOf};
 ghost use Rattle.engine.specs.ActionAnswers.{worldOf, IsWorked, IsTaken, IsDone, Within};
 ghost use Rattle.tokens.specs.Token.{setSize};
 use crate::drive::drive_order;
@@ -23,8 +26,6 @@ use crate::order::put;
 use crate::read::READ;
 use crate::read::rank_of;
 use crate::set::curve_line;
-use crate::write::Wrote;
-use crate::write::not_written;
 use crate::write::take_oldest;
 use crate::write::write;
 use checking::is_removal;
@@ -44,13 +45,12 @@ use tokens::token::token_at;
 use tokens::token::whole_of;
 use values::arithmetic::Worked;
 use values::codes::UNSOUND;
-use values::curve::Curve;
 use values::curve::value_at;
 use working::right_side;
+use working::variable_at;
 use working::variables::CELLS;
 use working::variables::RS;
 use working::variables::TIMERS;
-use working::variables::variable_value;
 
 // What a beat under way holds beside the arrays that are lent: the word of the lines that acted, and the count of orders.
 pub struct Progress {
@@ -64,6 +64,12 @@ pub struct RightSide {
     pub alarm: u8,
     pub value: i32,
     pub next: usize,
+}
+
+// What an action assigns to.
+pub struct Target {
+    pub word: u32,
+    pub index: u32,
 }
 
 // What actions did: the progress and the place behind them, or an alarm.
@@ -136,6 +142,58 @@ fn take(set: &[u32; SIZE], r: &mut [i32; RS], cells: &mut [i32; CELLS], p: usize
     }
 }
 
+// Curve n at x.
+fn curve_at(set: &[u32; SIZE], n: u32, x: i32) -> Worked
+    ensures { λ y. ⌜ y ≡ curveOf (curveLine (now (set .entry)) n .curve) x ⌝ }
+{
+    let line = curve_line(set, n);
+    value_at(line.curve, x)
+}
+
+// What SYNFCT(n,target,variable) at place p assigns: the variable is read, and curve n worked there.
+fn curve_value(set: &[u32; SIZE], r: &[i32; RS], cells: &[i32; CELLS], p: usize) -> Worked
+    requires { ⌜ p < setSize ⌝ }
+    ensures { λ y. ⌜ y ≡ curveValue (now (set .entry)) (now (r .entry)) (now (cells .entry)) p ⌝ }
+{
+    match variable_at(set, r, cells, p + 9) {
+        Worked::Value(x) => curve_at(set, whole_of(token_at(set, p + 2)), x),
+        Worked::Alarm(a) => Worked::Alarm(a),
+    }
+}
+
+// The same, with the place behind it.
+fn take_curve(set: &[u32; SIZE], r: &[i32; RS], cells: &[i32; CELLS], p: usize) -> RightSide
+    requires { ⌜ p < setSize ⌝ }
+    ensures { λ x. ⌜ ((runs : List Bool) → IsTaken x (varsOf (now (r .entry)) (now (cells .entry)) runs) (curveTaken (now (set .entry)) (varsOf (now (r .entry)) (now (cells .entry)) runs) p)) ⌝ }
+{
+    match curve_value(set, r, cells, p) {
+        Worked::Value(y) => RightSide {
+            good: true,
+            alarm: 0,
+            value: y,
+            next: p + 14,
+        },
+        Worked::Alarm(a) => not_taken(a),
+    }
+}
+
+// What the action w at place p assigns.
+fn take_for(
+    set: &[u32; SIZE],
+    r: &mut [i32; RS],
+    cells: &mut [i32; CELLS],
+    w: u32,
+    p: usize,
+) -> RightSide
+    requires { ⌜ p < setSize ⌝ }
+    ensures { λ x. ⌜ ((runs : List Bool) → IsTaken x (varsOf (now (r .exit)) (now (cells .exit)) runs) (takenFor (now (set .entry)) (varsOf (now (r .entry)) (now (cells .entry)) runs) w p)) ⌝ }
+{
+    if w == SYNFCT {
+        return take_curve(set, r, cells, p);
+    }
+    take(set, r, cells, p + 5)
+}
+
 // ---- actions
 
 pub fn did_all(next: usize, progress: Progress) -> Done
@@ -160,7 +218,34 @@ pub fn not_done(alarm: u8, progress: Progress) -> Done
     }
 }
 
-// variable = sum.
+// The target of the action w at place p, where SYNFCT has it behind the number of its curve.
+fn target_of(set: &[u32; SIZE], w: u32, p: usize) -> Target
+    requires { ⌜ p < setSize ⌝ }
+    ensures { λ x. ⌜ x ≡ targetOf (now (set .entry)) w p ⌝ }
+{
+    if w == SYNFCT {
+        let v = token_at(set, p + 4);
+        return Target {
+            word: v,
+            index: index_at(set, v, p + 4),
+        };
+    }
+    Target {
+        word: w,
+        index: index_at(set, w, p),
+    }
+}
+
+fn is_assigned(w: u32) -> bool
+    ensures { λ x. ⌜ x ≡ isAssigned w ⌝ }
+{
+    if is_variable(w) {
+        return true;
+    }
+    w == SYNFCT
+}
+
+// variable = sum, or SYNFCT(n,target,variable): both end in one write, so that the compiler merges it into its one caller.
 fn assign(
     set: &[u32; SIZE],
     r: &mut [i32; RS],
@@ -171,82 +256,20 @@ fn assign(
     p: usize,
 ) -> Done
     requires { ⌜ p < setSize ⌝ }
-    ensures { λ x. ⌜ ((locked memory : List Bool) (out : List ℕ) → IsDone x (worldOf (varsOf (now (r .exit)) (now (cells .exit)) (now (runs .exit))) locked memory out (x .progress)) (assignmentOf (now (set .entry)) (worldOf (varsOf (now (r .entry)) (now (cells .entry)) (now (runs .entry))) locked memory out progress) w p)) × Within 0 x progress ⌝ }
+    ensures { λ x. ⌜ ((locked memory : List Bool) (out : List ℕ) → IsDone x (worldOf (varsOf (now (r .exit)) (now (cells .exit)) (now (runs .exit))) locked memory out (x .progress)) (assignedOf (now (set .entry)) (worldOf (varsOf (now (r .entry)) (now (cells .entry)) (now (runs .entry))) locked memory out progress) w p)) × Within 0 x progress ⌝ }
 {
-    let t = take(set, r, cells, p + 5);
+    let t = take_for(set, r, cells, w, p);
     let good = t.good;
     if !good {
         return not_done(t.alarm, progress);
     }
-    let x = write(r, cells, runs, w, index_at(set, w, p), t.value);
+    let to = target_of(set, w, p);
+    let x = write(r, cells, runs, to.word, to.index, t.value);
     let written = x.good;
     if !written {
         return not_done(x.alarm, progress);
     }
     did_all(t.next, progress)
-}
-
-// A curve at x, its result assigned to w[i] by the target's own rule.
-fn write_curve(
-    r: &mut [i32; RS],
-    cells: &mut [i32; CELLS],
-    runs: &mut [bool; TIMERS],
-    curve: Curve,
-    x: i32,
-    w: u32,
-    i: u32,
-) -> Wrote
-    ensures { λ u. ⌜ IsWritten u (varsOf (now (r .exit)) (now (cells .exit)) (now (runs .exit))) (curveAssigned (varsOf (now (r .entry)) (now (cells .entry)) (now (runs .entry))) curve x w i) ⌝ }
-{
-    match value_at(curve, x) {
-        Worked::Value(y) => write(r, cells, runs, w, i, y),
-        Worked::Alarm(a) => not_written(a),
-    }
-}
-
-// SYNFCT(n,target,variable) where the variable reads x: curve n is worked there, and its result is assigned to the target.
-fn synfct_at(
-    set: &[u32; SIZE],
-    r: &mut [i32; RS],
-    cells: &mut [i32; CELLS],
-    runs: &mut [bool; TIMERS],
-    progress: Progress,
-    x: i32,
-    p: usize,
-) -> Done
-    requires { ⌜ p < setSize ⌝ }
-    ensures { λ d. ⌜ ((locked memory : List Bool) (out : List ℕ) → IsDone d (worldOf (varsOf (now (r .exit)) (now (cells .exit)) (now (runs .exit))) locked memory out (d .progress)) (synfctWith (now (set .entry)) (worldOf (varsOf (now (r .entry)) (now (cells .entry)) (now (runs .entry))) locked memory out progress) x p)) × Within 0 d progress ⌝ }
-{
-    let w = token_at(set, p + 4);
-    let i = index_at(set, w, p + 4);
-    let n = whole_of(token_at(set, p + 2));
-    let line = curve_line(set, n);
-    let u = write_curve(r, cells, runs, line.curve, x, w, i);
-    let written = u.good;
-    if !written {
-        return not_done(u.alarm, progress);
-    }
-    did_all(p + 14, progress)
-}
-
-// SYNFCT(n,target,variable): the variable is read first.
-fn synfct(
-    set: &[u32; SIZE],
-    r: &mut [i32; RS],
-    cells: &mut [i32; CELLS],
-    runs: &mut [bool; TIMERS],
-    progress: Progress,
-    p: usize,
-) -> Done
-    requires { ⌜ p < setSize ⌝ }
-    ensures { λ x. ⌜ ((locked memory : List Bool) (out : List ℕ) → IsDone x (worldOf (varsOf (now (r .exit)) (now (cells .exit)) (now (runs .exit))) locked memory out (x .progress)) (synfctOf (now (set .entry)) (worldOf (varsOf (now (r .entry)) (now (cells .entry)) (now (runs .entry))) locked memory out progress) p)) × Within 0 x progress ⌝ }
-{
-    let v = token_at(set, p + 9);
-    let i = index_at(set, v, p + 9);
-    match variable_value(r, cells, v, i) {
-        Worked::Value(x) => synfct_at(set, r, cells, runs, progress, x, p),
-        Worked::Alarm(a) => not_done(a, progress),
-    }
 }
 
 // An order goes behind those of the beat so far.
@@ -390,14 +413,11 @@ pub fn action(
     if w == END {
         return not_done(UNSOUND, progress);
     }
-    if is_variable(w) {
+    if is_assigned(w) {
         return assign(set, r, cells, runs, progress, w, p);
     }
     if is_drive(w) {
         return drive(set, r, cells, out, progress, number, w, p);
-    }
-    if w == SYNFCT {
-        return synfct(set, r, cells, runs, progress, p);
     }
     command(set, lines, cancelled, locked, out, progress, number, w, p)
 }

@@ -107,7 +107,7 @@ fn written_so() -> Wrote
     }
 }
 
-pub fn not_written(alarm: u8) -> Wrote
+fn not_written(alarm: u8) -> Wrote
     ensures { λ x. ⌜ x ≡ record { good = false; alarm = alarm } ⌝ }
 {
     Wrote {

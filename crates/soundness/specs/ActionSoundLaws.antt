@@ -1,5 +1,5 @@
 -- Laws of actions: those of a line without a fault keep the beat under way sound, end where the check ended, and stop only by an alarm, never by 22. Nothing is assumed.
-use mathlib.Core.Path.{_≡_, refl}
+use mathlib.Core.Path.{_≡_, refl, _∙_}
 use mathlib.Core.Bool.{Bool, true, false, _&&_}
 use mathlib.Core.List.{List}
 use Prim.Native.Nat.{ℕ, _+_, _≤_, _<_}
@@ -9,19 +9,19 @@ use lib.IntN.{ℤ, pos}
 use lib.ListN.{getD}
 use borrow.Author.Tests.{eqb-true, eqb-false, leb-true, le-leb, ltb-true}
 use Rattle.values.specs.Codes.{outside, notAllowed}
-use Rattle.values.specs.Choice.{either, ifNot, eitherBoth, both, and-true}
+use Rattle.values.specs.Choice.{either, ifNot, eitherBoth, both, and-true, chosen}
 use Rattle.values.specs.Value.{inRange, lessThan, feedOf}
 use Rattle.values.specs.Curve.{curveOf}
 use Rattle.values.specs.CurveLaws.{curve-in-range, curve-alarm}
 use Rattle.values.specs.declared.curve.Curve.{Curve}
 use Rattle.values.specs.Numbers.{clash}
-use Rattle.tokens.specs.Token.{END, EQUALS, OPEN, CLOSE, LEFT, RIGHT, IN, IM, POS, FA, MOV, M, SETAL, LOCK, UNLOCK, SYNFCT, X, W, between, isVariable, isAxis, hasAxis, isFifo, isDrive, isCall, isWhole, whole, setSize, maxLines, isLock, isNaming}
+use Rattle.tokens.specs.Token.{END, EQUALS, OPEN, CLOSE, COMMA, LEFT, RIGHT, IN, IM, POS, FA, MOV, M, SETAL, LOCK, UNLOCK, SYNFCT, X, W, between, isVariable, isAxis, hasAxis, isFifo, isDrive, isCall, isWhole, whole, setSize, maxLines, isLock, isNaming}
 use Rattle.tokens.specs.Descent.{token, Answer, good, stop, _>>=_, Read, read, ends, then, isIndex, indexOf, isIndexed, indexAt, sumAt, expressionAt}
 use Rattle.tokens.specs.SingleFault.{lower, curveFault, readFault, writeFault, idFault, callFault}
-use Rattle.checking.specs.Fault.{Sight, wanting, sight, faultFor, isRemoval, assignedAt, assignmentAt, commandAt, isSynfct, synfctFault, synfctAt, unindexedAt, actionAt}
+use Rattle.checking.specs.Fault.{Sight, wanting, sight, faultFor, isRemoval, assignedAt, assignmentAt, commandAt, isGiven, isSynfct, synfctFault, synfctAt, unindexedAt, actionAt}
 use Rattle.working.specs.Variables.{variableValue}
 use Rattle.working.specs.Operators.{fromWorked}
-use Rattle.working.specs.Working.{told, valueOver, rightValue, conditionValue}
+use Rattle.working.specs.Working.{told, valueOver, rightValue, conditionValue, variableAt}
 use Rattle.engine.specs.Set.{curveLine, rankIn, isKnown, isDefined, curvesIn, setTable, soundLines}
 use Rattle.engine.specs.Write.{Vars, changeFifo, writeTo}
 use Rattle.engine.specs.Action.{World, Taken, Did, fromValueOrAlarm, lockOf, takenAt, assignmentOf, curveAssigned, synfctOf, driveOf, commandOf, actionOf}
@@ -104,6 +104,23 @@ module _ (s : List ℕ) where
 
 -- ---- curves
 
+-- a variable that stands at p with its index is what is read there
+pub variable-there : (s : List ℕ) (r c : List ℤ) (p : ℕ) → isVariable (token s p) ≡ true → isIndexed s (token s p) p ≡ true → variableAt s r c p ≡ variableValue r c (token s p) (indexAt s (token s p) p)
+unfolding variableAt
+variable-there s r c p v i = chosen _ _ _ v ∙ chosen _ _ _ i
+
+-- and so stands that of SYNFCT
+synfct-there : (s : List ℕ) (p : ℕ) → isSynfct s p ≡ true → (isVariable (token s (p + 9)) ≡ true) × (isIndexed s (token s (p + 9)) (p + 9) ≡ true)
+unfolding isSynfct isGiven
+synfct-there s p h =
+    let nine : p + 8 + 1 ≡ p + 9 = omega arith in
+    let n = both (eqb (token s (p + 1)) OPEN) _ h .1 in
+    let w = both (isWhole (token s (p + 2))) _ n .1 in
+    let v = both (isGiven s (p + 3)) _ w .1 in
+    let g = both (isGiven s (p + 8)) _ v .0 in
+    let i = both (isVariable (token s (p + 8 + 1))) _ (both (eqb (token s (p + 8)) COMMA) _ g .1) in
+    (rw nine at (i .0), rw nine at (i .1))
+
 -- a variable that the check lets be read has a value in range, or stops by an alarm
 variable-holds : (x : Vars) (w i : ℕ) → VarsSound x → readFault w i ≡ 0 → Holds (λ (v : ℤ). inRange v ≡ true) (fromWorked (variableValue (x .r) (x .cells) w i))
 variable-holds x w i h f =
@@ -177,8 +194,9 @@ module _ (s : List ℕ) (sound : soundLines s .sound ≡ true) (cancelled : List
       let j = indexAt s u (p + 9) in
       let (c, g) = lower-zero (curveFault n) (lower (writeFault w i) (readFault u j)) f in
       let (a, b) = lower-zero (writeFault w i) (readFault u j) g in
-      holds-then (λ (y : ℤ). inRange y ≡ true) (λ (d : Did). (d .next ≡ p + 14) × DidFine d) (fromWorked (variableValue (x .vars .r) (x .vars .cells) u j)) _
-      (variable-holds (x .vars) u j (h .vars) b) λ y r.
+      let t = synfct-there s p e in
+      holds-then (λ (y : ℤ). inRange y ≡ true) (λ (d : Did). (d .next ≡ p + 14) × DidFine d) (fromWorked (variableAt s (x .vars .r) (x .vars .cells) (p + 9))) _
+      (rw (variable-there s (x .vars .r) (x .vars .cells) (p + 9) (t .0) (t .1)) (variable-holds (x .vars) u j (h .vars) b)) λ y r.
       holds-then VarsSound (λ (d : Did). (d .next ≡ p + 14) × DidFine d) (curveAssigned (x .vars) (curveLine s n .curve) y w i) _
       (curve-keeps (x .vars) (curveLine s n .curve) y w i (h .vars) (definition-ranged s _ (curve-defined s sound n d .0)) a) (λ v t. (refl, record { vars = t; flags = h .flags }))
 

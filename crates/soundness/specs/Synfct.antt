@@ -7,7 +7,7 @@ use Rattle.values.specs.declared.arithmetic.Worked.{Worked}
 use Rattle.values.specs.declared.curve.Curve.{Curve}
 use Rattle.tokens.specs.Token.{LEFT, RIGHT, EQUALS, MINUS, NUMBER, whole}
 use Rattle.tokens.specs.Descent.{token, Answer, good, _>>=_, indexAt}
-use Rattle.working.specs.Variables.{variableValue}
+use Rattle.working.specs.Working.{variableAt}
 use Rattle.engine.specs.Set.{curveLine}
 use Rattle.engine.specs.Write.{writeTo}
 use Rattle.engine.specs.Action.{World, Note, Did, withVars, takenAt}
@@ -16,7 +16,7 @@ use Rattle.engine.specs.Action.{World, Note, Did, withVars, takenAt}
 
 -- what the variable reads
 abbrev pub variableRead : List ℕ → World → ℕ → Worked
-variableRead s x p = variableValue (x .vars .r) (x .vars .cells) (token s (p + 9)) (indexAt s (token s (p + 9)) (p + 9))
+variableRead s x p = variableAt s (x .vars .r) (x .vars .cells) (p + 9)
 
 -- the curve that n names
 abbrev pub curveUsed : List ℕ → ℕ → Curve

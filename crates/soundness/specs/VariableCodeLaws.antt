@@ -18,11 +18,12 @@ use Rattle.values.specs.declared.arithmetic.Worked.the-variants as W
 use Rattle.values.specs.declared.fifo.FifoValue.{FifoValue}
 use Rattle.values.specs.declared.fifo.Moved.{Moved}
 use Rattle.values.specs.declared.fifo.Moved.the-variants as M
-use Rattle.tokens.specs.Token.{MARKER, PARAM, OUT, TIMER, R, isFifo, whole}
-use Rattle.tokens.specs.Descent.{token, Answer, good, stop, _>>=_, indexAt}
+use Rattle.tokens.specs.Token.{MARKER, PARAM, OUT, TIMER, R, isVariable, isFifo, whole}
+use Rattle.tokens.specs.Descent.{token, Answer, good, stop, _>>=_, isIndexed, indexAt}
 use Rattle.tokens.specs.Index.{isInside}
 use Rattle.working.specs.Operators.{fromWorked}
 use Rattle.working.specs.Variables.{fifoOf, run, beatCount, fromFifoValue, fifoValue, fifoAt, variableValue}
+use Rattle.working.specs.Working.{variableAt}
 use Rattle.engine.specs.Set.{curveLine}
 use Rattle.engine.specs.Write.{Vars, Celled, moved, changeAnswer, changeFifo, writeFifo, writeCell, writeInside, writeTo}
 use Rattle.engine.specs.Action.{World, curveAssigned, synfctOf}
@@ -87,6 +88,12 @@ module _ (P : ℕ → Type 0) (such : Such P) where
   variable-by r c w i =
       either WorkedBy (isInside w i) (λ e. either WorkedBy (eqb w R) (λ e. tt) (λ e. either WorkedBy (isFifo w) (λ e. fifo-by (run r (fifoOf w)) (beatCount c (fifoOf w)) i) (λ e. tt))) (λ e. such .is-22)
 
+  variable-at-by : (s : List ℕ) (r c : List ℤ) (p : ℕ) → WorkedBy (variableAt s r c p)
+  unfolding variableAt
+  variable-at-by s r c p =
+      let w = token s p in
+      either WorkedBy (isVariable w) (λ e. either WorkedBy (isIndexed s w p) (λ e. variable-by r c w (indexAt s w p)) (λ e. such .is-22)) (λ e. such .is-22)
+
   -- ---- a write
 
   change-by : (op : ℕ) (xs : List ℤ) (n : ℕ) (v : ℤ) → MovedBy (changeAnswer op xs n v)
@@ -138,9 +145,7 @@ module _ (P : ℕ → Type 0) (such : Such P) where
   synfct-by s x p =
       let w = token s (p + 4) in
       let i = indexAt s w (p + 4) in
-      let u = token s (p + 9) in
-      let j = indexAt s u (p + 9) in
-      let v = variableValue (x .vars .r) (x .vars .cells) u j in
+      let v = variableAt s (x .vars .r) (x .vars .cells) (p + 9) in
       let c = curveLine s (whole (token s (p + 2))) .curve in
-      stops-then P (fromWorked v) _ (from-worked v (variable-by (x .vars .r) (x .vars .cells) u j)) λ a.
+      stops-then P (fromWorked v) _ (from-worked v (variable-at-by s (x .vars .r) (x .vars .cells) (p + 9))) λ a.
       stops-then P (curveAssigned (x .vars) c a w i) _ (curve-by (x .vars) c a w i) (λ y. tt)

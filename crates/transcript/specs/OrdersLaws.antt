@@ -12,9 +12,8 @@ use Rattle.engine.specs.OrderLaws.{eight-bytes}
 use Rattle.engine.specs.declared.order.Order.{Order}
 use Rattle.tokens.specs.Token.{END, M, SETAL, LOCK, SYNFCT, isVariable, isDrive, whole, maxLines, isAxis, isCall, maxActions}
 use Rattle.tokens.specs.Descent.{token, Answer, good, stop, indexAt}
-use Rattle.working.specs.Variables.{variableValue}
 use Rattle.working.specs.Operators.{fromWorked, isYes}
-use Rattle.working.specs.Working.{rightValue, conditionValue}
+use Rattle.working.specs.Working.{rightValue, conditionValue, variableAt}
 use Rattle.checking.specs.declared.line.Line.{Line}
 use Rattle.engine.specs.declared.state.State.{State}
 use Rattle.engine.specs.Set.{curveLine, rankIn, noLine, soundLines}
@@ -62,7 +61,7 @@ assignment-adds s x w p =
 synfct-adds : (s : List ℕ) (x : World) (p : ℕ) → DidAdd x orderSize (synfctOf s x p)
 unfolding synfctOf
 synfct-adds s x p =
-    bind-ok (λ (d : Did). Adds x orderSize (d .world)) (fromWorked (variableValue (x .vars .r) (x .vars .cells) (token s (p + 9)) (indexAt s (token s (p + 9)) (p + 9)))) _ λ a _.
+    bind-ok (λ (d : Did). Adds x orderSize (d .world)) (fromWorked (variableAt s (x .vars .r) (x .vars .cells) (p + 9))) _ λ a _.
     bind-ok (λ (d : Did). Adds x orderSize (d .world)) (curveAssigned (x .vars) (curveLine s (whole (token s (p + 2))) .curve) a (token s (p + 4)) (indexAt s (token s (p + 4)) (p + 4))) _ λ v _.
     omega arith
 

@@ -16,7 +16,7 @@ use Rattle.tokens.specs.ChooseLaws.{through, choose, choose-by}
 use Rattle.checking.specs.Fault.{isRemoval}
 use Rattle.working.specs.Variables.{variableValue}
 use Rattle.working.specs.Operators.{isYes, fromWorked}
-use Rattle.working.specs.Working.{valueOver, rightValue, conditionValue}
+use Rattle.working.specs.Working.{valueOver, rightValue, conditionValue, variableAt}
 use Rattle.engine.specs.Set.{rankIn, curveLine}
 use Rattle.engine.specs.Write.{Vars, changeFifo, writeTo}
 use Rattle.engine.specs.Drive.{driveOrder}
@@ -26,6 +26,7 @@ use Rattle.grammar.specs.Tree.{number, variable, position, truth, bracket, minu
 use Rattle.grammar.specs.Meaning.{sumMeaning, expressionMeaning, Stands, EndsSum, EndsExpression}
 use Rattle.grammar.specs.TreeFault.{isRemovalTree}
 use Rattle.grammar.specs.Agreement.{sum-agrees, expression-agrees}
+use Rattle.soundness.specs.ActionSoundLaws.{variable-there}
 use Rattle.grammar.specs.AgreementLaws.{bounds, within, beyond, stands-split, parts-fit, numbered, whole-token, number-index, axis-index, index-stands, place-index}
 use Rattle.grammar.specs.AgreementFault.{word-ends, end-ends, removal-agrees, actions-word}
 use Rattle.turn_trees.specs.TurnTree.{Names, RightTaken, valueTaken, takenTree, conditionTree, ActionsDone, doneIn, assignTree, lockTree, actionTree, actionsTree}
@@ -121,6 +122,14 @@ module _ (s : List ℕ) where
       let (a, b, c) = index-stands s (placeWord y) (placeToken y) p i x f in
       (f .0, b ∙ k, rw (← c) at g)
 
+  -- and what is read there
+  variable-stands : (r c : List ℤ) (y : Place) (l : List ℕ) (p q : ℕ) → Stands s p (placeTokens y ++ l) q → variableAt s r c p ≡ variableValue r c (placeWord y) (placeIndex y)
+  variable-stands r c y l p q h =
+      let (i, f, g) = stands-split s (placeTokens y) l p q h in
+      let (v, x, k) = place-index y in
+      let (a, b, d) = index-stands s (placeWord y) (placeToken y) p i x f in
+      variable-there s r c p (rw (f .0) v) (rw (f .0) a) ∙ rw (f .0, b, k)
+
   -- SYNFCT, where c is the curve that the set has
   synfct-tree : (x : World) (m : ℕ) (y z : Place) (c : Curve) (p q : ℕ) → curveLine s m .curve ≡ c → Stands s p (actionTokens (synfct m y z)) q →
       synfctOf s x p
@@ -132,9 +141,10 @@ module _ (s : List ℕ) where
       let nine : p + 4 + 4 + 1 ≡ p + 9 = omega arith in
       let t : whole (token s (p + 2)) ≡ m = rw (rw two at (h .1 .1 .0)) (whole-token m .1) in
       let (w, i, d) = place-stands y (COMMA ∷ placeTokens z ++ (CLOSE ∷ [])) (p + 4) q (rw four at (h .1 .1 .1 .1)) in
-      let (v, j, b) = place-stands z (CLOSE ∷ []) (p + 9) q (rw nine at (d .1)) in
+      let e = rw nine at (d .1) in
+      let (v, j, b) = place-stands z (CLOSE ∷ []) (p + 9) q e in
       let fourteen : p + 14 ≡ q = let k = b .1 in omega arith in
-      rw (t, g, w, i, v, j, fourteen) (go (fromWorked (variableValue (x .vars .r) (x .vars .cells) (placeWord z) (placeIndex z))))
+      rw (t, g, w, i, variable-stands (x .vars .r) (x .vars .cells) z (CLOSE ∷ []) (p + 9) q e, fourteen) (go (fromWorked (variableValue (x .vars .r) (x .vars .cells) (placeWord z) (placeIndex z))))
     where
       go : (r : Answer ℤ) → (r >>= λ a. curveAssigned (x .vars) c a (placeWord y) (placeIndex y) >>= λ v. did q (withVars x v))
           ≡ (r >>= (λ u. curveAssigned (x .vars) c u (placeWord y) (placeIndex y) >>= λ v. doneIn (withVars x v)) >>= doneUpTo q)

@@ -7,8 +7,10 @@ use lib.IntN.{ℤ, pos}
 use Rattle.values.specs.Codes.{unsound}
 use Rattle.values.specs.Value.{negationOf}
 use Rattle.working.specs.declared.walk.ValueOrAlarm.{ValueOrAlarm}
-use Rattle.tokens.specs.Token.{setSize, thousandths}
-use Rattle.tokens.specs.Descent.{good, Read, read, ends, upTo, Meaning, sumAt, expressionAt}
+use Rattle.values.specs.declared.arithmetic.Worked.{Worked}
+use Rattle.values.specs.declared.arithmetic.Worked.the-variants.{Value, Alarm}
+use Rattle.tokens.specs.Token.{setSize, thousandths, isVariable}
+use Rattle.tokens.specs.Descent.{token, good, Read, read, ends, upTo, Meaning, isIndexed, indexAt, sumAt, expressionAt}
 use Rattle.working.specs.Variables.{variableValue}
 use Rattle.working.specs.Operators.{fromWorked, yesNo, isYes, joinValues}
 
@@ -29,6 +31,11 @@ abbrev pub told : Read ℤ → ValueOrAlarm
 told (read v q) = record { good = true; value = v; next = q }
 told (ends k) = record { good = false; value = pos k; next = 0 }
 
+-- the same without the place
+abbrev pub worked : Read ℤ → Worked
+worked (read v q) = Value v
+worked (ends k) = Alarm k
+
 -- the two signs before an operand
 abbrev pub negated : ℤ → ℕ → Read ℤ
 negated a q = upTo (fromWorked (negationOf a)) q
@@ -42,3 +49,11 @@ conditionValue s r c p = told (expressionAt s (valueOver r c) setSize p)
 
 unfoldable pub rightValue : List ℕ → List ℤ → List ℤ → ℕ → ValueOrAlarm
 rightValue s r c p = told (sumAt s (valueOver r c) setSize p)
+
+-- what the variable that begins at place p reads; without its index behind it, it is no part of a sound set
+unfoldable pub variableAt : List ℕ → List ℤ → List ℤ → ℕ → Worked
+variableAt s r c p =
+    elim (isVariable (token s p)) [
+      | true ↦ elim (isIndexed s (token s p) p) [ true ↦ variableValue r c (token s p) (indexAt s (token s p) p) | false ↦ Alarm unsound ]
+      | false ↦ Alarm unsound
+    ]

@@ -9,3 +9,4 @@ mod walk;
 pub use walk::ValueOrAlarm;
 pub use walk::condition;
 pub use walk::right_side;
+pub use walk::variable_at;

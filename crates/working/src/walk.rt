@@ -8,7 +8,7 @@ ghost use Rattle.tokens.specs.Token.{isFactor, isTerm, isCompare, isLogic, setS
 ghost use Rattle.tokens.specs.Descent.{upTo, then, readOperand, readClose, readVariable, readTruth, factorsBehind, termsBehind, rowBehind, productAt, sumAt, expressionAt};
 ghost use Rattle.working.specs.Pair.{said};
 ghost use Rattle.working.specs.Operators.{joinValues};
-ghost use Rattle.working.specs.Working.{valueOver, told, negated, inverted, conditionValue, rightValue};
+ghost use Rattle.working.specs.Working.{valueOver, told, worked, negated, inverted, conditionValue, rightValue, variableAt};
 use crate::operators::is_yes;
 use crate::operators::join_logic;
 use crate::operators::join_truths;
@@ -42,6 +42,7 @@ use tokens::token::is_term;
 use tokens::token::is_variable;
 use tokens::token::token_at;
 use values::arithmetic;
+use values::arithmetic::Worked;
 use values::codes::UNSOUND;
 
 // What working gives: a value and the place behind it; or, where it is not good, the number of an alarm.
@@ -340,4 +341,25 @@ pub fn right_side(set: &[u32; SIZE], r: &[i32; RS], cells: &[i32; CELLS], at: us
     ensures { λ x. ⌜ x ≡ rightValue (now (set .entry)) (now (r .entry)) (now (cells .entry)) at ⌝ }
 {
     value_or_alarm(sum(set, r, cells, at, SIZE))
+}
+
+// What a pair says, without its place.
+fn worked_in(w: u64) -> Worked
+    ensures { λ x. ⌜ x ≡ worked (said w) ⌝ }
+{
+    let i = next_of(w);
+    if i == 0 {
+        return Worked::Alarm(alarm_in(w));
+    }
+    Worked::Value(value_of(w))
+}
+
+// What the variable that begins at place `at` reads. It is read as an operand, so that the walk is the one caller of `variable`.
+pub fn variable_at(set: &[u32; SIZE], r: &[i32; RS], cells: &[i32; CELLS], at: usize) -> Worked
+    ensures { λ x. ⌜ x ≡ variableAt (now (set .entry)) (now (r .entry)) (now (cells .entry)) at ⌝ }
+{
+    if !is_variable(token_at(set, at)) {
+        return Worked::Alarm(UNSOUND);
+    }
+    worked_in(operand(set, r, cells, at, 1))
 }
