@@ -7,7 +7,7 @@ use crate::reading::CHANNELS;
 use crate::seen::Seen;
 use crate::set::Set;
 use crate::slip::Slip;
-use crate::state::{LineState, State};
+use crate::state::{LineState, State, TOP_ACTS};
 use crate::token::{Keyword, Motion, Scope};
 use crate::tree::{Action, Curve, Line, Synfct};
 use crate::value::Value;
@@ -95,6 +95,12 @@ impl<'a> Beat<'a> {
             }
         };
         self.seen.turn(turn, gave, acts, line.keyword());
+        if let Some(witness) = &mut self.witness {
+            witness.acts(rank, gave);
+        }
+        if acts || self.slip == Slip::TurnsCounted {
+            self.count_act(rank);
+        }
         if acts {
             self.acted |= 1 << rank;
             for action in &line.actions {
@@ -102,6 +108,16 @@ impl<'a> Beat<'a> {
             }
         }
         Ok(())
+    }
+
+    /// One act more, up to the top.
+    fn count_act(&mut self, rank: usize) {
+        let acts = &mut self.state.lines[rank].acts;
+        if *acts < TOP_ACTS || self.slip == Slip::ActsPastTheTop {
+            *acts += 1;
+        } else {
+            self.seen.note("acts stay at the top");
+        }
     }
 
     /// What the line does, by the flags of its state.

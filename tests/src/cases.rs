@@ -1,4 +1,4 @@
-//! The cases: files NAME.in and NAME.out in the folders `cases`, `host-cases` and `print-cases`.
+//! The cases: files NAME.in and NAME.out in the folders `cases`, `host-cases`, `print-cases` and `stat-cases`.
 
 use crate::runner::Form;
 use std::fs;
@@ -18,6 +18,7 @@ pub fn all() -> io::Result<Vec<Case>> {
     let mut cases = folder(&home.join("cases"), Form::Synrun)?;
     cases.extend(folder(&home.join("host-cases"), Form::Host)?);
     cases.extend(folder(&home.join("print-cases"), Form::Print)?);
+    cases.extend(folder(&home.join("stat-cases"), Form::Stat)?);
     Ok(cases)
 }
 

@@ -1,4 +1,4 @@
-//! The control as the host sees it: load, beat, lock, unlock, cancel, reset.
+//! The control as the host sees it: load, beat, lock, unlock, cancel, reset, status.
 
 use crate::beat::{set_lock, Beat, Inputs};
 use crate::beat_line::BeatLine;
@@ -11,6 +11,7 @@ use crate::seen::Seen;
 use crate::set::Set;
 use crate::slip::Slip;
 use crate::state::{LineState, State, Timer};
+use crate::status::Status;
 use crate::token::Scope;
 use crate::value::{in_range, Value};
 use crate::witness::Witness;
@@ -99,7 +100,7 @@ impl Control {
         beat.witness = Some(&mut self.witness);
         let result = beat.work(&self.set);
         let (state, orders, acted) = (beat.state, beat.orders, beat.acted);
-        self.witness.end_beat(self.set.lines()?, acted, result.is_ok());
+        self.witness.end_beat(self.set.lines()?, &state.lines, acted, result.is_ok());
         self.seen.acted(self.set.lines()?, acted, result.is_ok());
         if result.is_ok() || self.slip == Slip::WritesKeptAtAlarm {
             self.state = state;
@@ -144,7 +145,8 @@ impl Control {
     }
 
     pub fn cancel(&mut self, number: u8) -> Code {
-        self.on_line(number, Entry::Cancel, cancel)
+        let slip = self.slip;
+        self.on_line(number, Entry::Cancel, |line| cancel(line, slip))
     }
 
     /// Cancels ID lines, frees IDS lines, clears markers, parameters and timers.
@@ -153,12 +155,15 @@ impl Control {
             return code;
         }
         for (line, known) in self.set.lines().into_iter().flatten().zip(&mut self.state.lines) {
-            match line.scope {
-                Scope::Id => cancel(known),
-                Scope::Ids => {
-                    known.locked = false;
-                    known.memory &= self.slip == Slip::MemoryKeptAtReset;
-                }
+            if line.scope == Scope::Id {
+                cancel(known, self.slip);
+            }
+            known.locked = false;
+            known.memory &= self.slip == Slip::MemoryKeptAtReset;
+            let keeps = known.cancelled && self.slip != Slip::ActsOfCancelledClearedAtReset;
+            self.seen.acts_at_reset(known.acts, known.cancelled);
+            if !keeps && self.slip != Slip::ActsKeptAtReset {
+                known.acts = 0;
             }
         }
         self.state.markers.fill(0);
@@ -170,6 +175,15 @@ impl Control {
         self.seen.row_stays(&self.state.channels, "row through a reset");
         self.witness.write(Entry::Reset);
         Code::Success
+    }
+
+    /// The status picture: each line of the set by rising number, or code 22.
+    pub fn status(&mut self) -> Result<Vec<Status>, Code> {
+        self.demand_sound()?;
+        let lines = self.set.lines()?.iter().zip(&self.state.lines);
+        let picture: Vec<Status> = lines.map(|(line, known)| Status::of(line, known)).collect();
+        self.seen.status(&picture);
+        Ok(picture)
     }
 
     /// A host call that names a line, and what is written of it.
@@ -207,7 +221,8 @@ impl Control {
     }
 }
 
-/// Cancelling clears the line's lock and memory.
-fn cancel(line: &mut LineState) {
-    *line = LineState { cancelled: true, ..LineState::default() };
+/// Cancelling clears the line's lock and memory, and leaves its count.
+fn cancel(line: &mut LineState, slip: Slip) {
+    let acts = if slip == Slip::ActsClearedAtCancel { 0 } else { line.acts };
+    *line = LineState { cancelled: true, acts, ..LineState::default() };
 }

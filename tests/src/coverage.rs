@@ -19,9 +19,9 @@ use std::collections::BTreeMap;
 
 const MOVES: [&str; 4] = ["POS and POS", "POS and MOV", "MOV and POS", "MOV and MOV"];
 const ALARMS: [u8; 5] = [30, 31, 32, 33, 34];
-const HOST_FORMS: [&str; 32] = [
+const HOST_FORMS: [&str; 34] = [
     "A", "M", "B", "L", "U", "C", "R", "P", "N", "K", "G", "D", "T", "F", "S N", "S I", "S C", "S X", "S F",
-    "V O", "V M", "V P", "V R", "V T", "V U", "V F", "V L", "V C", "V E", "V K", "V B", "V Q",
+    "V O", "V M", "V P", "V R", "V T", "V U", "V F", "V L", "V C", "V E", "V K", "V B", "V Q", "V A", "I",
 ];
 
 /// How often each thing occurred, by name.
@@ -38,7 +38,7 @@ impl Coverage {
             for seed in seeds.of(form) {
                 coverage.input(form, &generate::input(form, seed), &mut control);
             }
-            if form == Form::Print {
+            if [Form::Print, Form::Stat].contains(&form) {
                 continue;
             }
             for (event, count) in control.seen.counts() {
@@ -67,8 +67,8 @@ impl Coverage {
             before = line;
         }
         self.refused(set_text);
-        if form == Form::Synrun && !output.starts_with("L ") {
-            self.note("load 0".into());
+        if [Form::Synrun, Form::Stat].contains(&form) && !output.starts_with("L ") {
+            self.note(format!("{}load 0", group(form)));
         }
         if [Form::Host, Form::Long].contains(&form) {
             script.iter().for_each(|line| self.note(format!("{} line {}", form.name(), host_form(line))));
@@ -125,8 +125,11 @@ impl Coverage {
         match fields[0] {
             "L" => self.note(format!("{}load {}", group(form), fields[1])),
             "C" => self.note(format!("{} beat {}", form.name(), fields[2])),
+            "I" if line.ends_with(" 0 0") => self.note(format!("{} status of no line", form.name())),
+            "I" => self.note(format!("{} status {}", form.name(), fields[2])),
             "H" => self.note(format!("{} call {} {}", form.name(), host_form(script[place - 1]), fields[2])),
             "P" => self.host_print(form, &HostPrint::read(&fields, before, script)),
+            "E" | "S" if form == Form::Stat => self.note(format!("stat line {}", host_form(line.as_bytes()))),
             "E" | "END" => self.note(format!("{} ends with {}", form.name(), fields[0])),
             _ => {}
         }
@@ -204,6 +207,7 @@ fn group(form: Form) -> &'static str {
         Form::Synrun | Form::Host => "",
         Form::Long => "long ",
         Form::Print => "print ",
+        Form::Stat => "stat ",
     }
 }
 
@@ -231,6 +235,7 @@ fn expected() -> Vec<String> {
             names.extend([0, 22, 40].map(|code| format!("{form} call {call} {code}")));
         }
         names.extend([0, 22].map(|code| format!("{form} call R {code}")));
+        names.extend([0, 22].map(|code| format!("{form} status {code}")));
         let prints = host_print_seen::expected(form == "long");
         names.extend(prints.iter().map(|name| format!("{form} print {name}")));
         names.extend(HOST_FORMS.iter().map(|line| format!("{form} line {line}")));
@@ -238,8 +243,11 @@ fn expected() -> Vec<String> {
     for form in ["synrun", "host"] {
         names.extend(["E", "END"].map(|end| format!("{form} ends with {end}")));
     }
+    names.push("host status of no line".into());
     names.extend(["long load 0".into(), "long ends with END".into()]);
     names.extend((0..=14).map(|code| format!("print load {code}")));
+    names.extend((0..=14).map(|code| format!("stat load {code}")));
+    names.extend(["E", "S ID", "S IDS"].map(|line| format!("stat line {line}")));
     names.extend(MOVES.map(|moves| format!("load 14, {moves}")));
     names.extend(["11 too", "13 too", "12 above"].map(|other| format!("load 14, {other}")));
     names.extend(PATHS.iter().map(|(name, _)| format!("print {name}")));

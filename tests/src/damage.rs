@@ -8,7 +8,7 @@ use crate::token::{Number, Token};
 use crate::value::{Value, UNIT};
 
 /// The places of the state that a history tells of.
-const LINE_FLAGS: &[u8] = b"LCE";
+const LINE_FLAGS: &[u8] = b"LCEA";
 
 /// Puts a raw value into set or state. None if the set has no such line, curve or token.
 pub fn damage(control: &mut Control, line: &HostLine) -> Option<()> {
@@ -63,7 +63,8 @@ fn put(state: &mut State, letter: u8, index: usize, raw: Value) {
         b'E' => state.lines[index].memory = flag,
         b'K' => state.channels[index - 1].known = flag,
         b'B' => state.channels[index - 1].bits = raw as u32,
-        _ => state.channels[index - 1].faults = raw as u8,
+        b'Q' => state.channels[index - 1].faults = raw as u8,
+        _ => state.lines[index].acts = raw as u32,
     }
 }
 
@@ -81,7 +82,8 @@ fn get(state: &State, letter: u8, index: usize) -> Value {
         b'E' => Value::from(state.lines[index].memory),
         b'K' => Value::from(state.channels[index - 1].known),
         b'B' => Value::from(state.channels[index - 1].bits),
-        _ => Value::from(state.channels[index - 1].faults),
+        b'Q' => Value::from(state.channels[index - 1].faults),
+        _ => Value::from(state.lines[index].acts),
     }
 }
 

@@ -15,6 +15,8 @@ pub enum Entry {
     Lock(usize),
     Release(usize),
     Cancel(usize),
+    /// A line acts, by the rule below.
+    Act(usize),
     Reset,
 }
 
@@ -115,6 +117,18 @@ impl History {
 
     // ---- what follows from it
 
+    /// The acts of the line since the load or the last reset that left it live: one before its cancel, and none of an ID line.
+    pub fn acts(&self, line: usize, scope: Scope) -> usize {
+        let cancelled = self.places[Entry::Cancel(line).index()].first().copied().unwrap_or(self.length);
+        let resets = &self.places[Entry::Reset.index()];
+        let start = match scope {
+            Scope::Id => None,
+            Scope::Ids => resets[..resets.partition_point(|reset| *reset < cancelled)].last(),
+        };
+        let acts = &self.places[Entry::Act(line).index()];
+        acts.len() - acts.partition_point(|act| Some(act) < start)
+    }
+
     /// Between two starts a WHEN line acts at most once, and an EVERY line only where its condition is true and was false,
     /// or never tried, at its turn before. The line acted in the beat that began at this place.
     pub fn allows_act(&self, line: usize, keyword: Option<Keyword>, beat: usize) -> bool {
@@ -130,7 +144,7 @@ impl History {
 }
 
 impl Entry {
-    const COUNT: usize = 3 + 5 * LINES;
+    const COUNT: usize = 3 + 6 * LINES;
 
     /// A number for each entry.
     fn index(self) -> usize {
@@ -138,11 +152,12 @@ impl Entry {
             Entry::Beat(Mode::Automatic) => 0,
             Entry::Beat(Mode::Manual) => 1,
             Entry::Reset => 2,
-            Entry::Gave(line, false) => 3 + 5 * line,
-            Entry::Gave(line, true) => 4 + 5 * line,
-            Entry::Lock(line) => 5 + 5 * line,
-            Entry::Release(line) => 6 + 5 * line,
-            Entry::Cancel(line) => 7 + 5 * line,
+            Entry::Gave(line, false) => 3 + 6 * line,
+            Entry::Gave(line, true) => 4 + 6 * line,
+            Entry::Lock(line) => 5 + 6 * line,
+            Entry::Release(line) => 6 + 6 * line,
+            Entry::Cancel(line) => 7 + 6 * line,
+            Entry::Act(line) => 8 + 6 * line,
         }
     }
 }

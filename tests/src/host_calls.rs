@@ -34,8 +34,8 @@ const PARAMETERS: usize = MARKERS + 32;
 const TIMERS: usize = PARAMETERS + 32;
 const COUNTS: usize = TIMERS + 8;
 /// The arrays of a state: R, cells, timers that run, locks, cancels, memories; of the channels whether each was ever good,
-/// the bits of its last good reading, and its faulty beats in a row.
-const ARRAYS: [usize; 9] = [164, COUNTS + 4, 8, LINES, LINES, LINES, CHANNELS, CHANNELS, CHANNELS];
+/// the bits of its last good reading, and its faulty beats in a row; the acts of the lines.
+const ARRAYS: [usize; 10] = [164, COUNTS + 4, 8, LINES, LINES, LINES, CHANNELS, CHANNELS, CHANNELS, LINES];
 /// A state as its arrays.
 type State = [Places; ARRAYS.len()];
 
@@ -109,6 +109,7 @@ impl<W: Write, R: Read> HostCalls<'_, W, R> {
             HostLine::Unlock(line) => self.host_call(number, b'U', line)?,
             HostLine::Cancel(line) => self.host_call(number, b'C', line)?,
             HostLine::Reset => self.host_call(number, b'R', 0)?,
+            HostLine::Status => self.status(number)?,
             HostLine::Print(length) => self.print(number, length)?,
             HostLine::Load(bytes) if bytes > self.set_text.len() => return Ok(None),
             HostLine::Load(bytes) => self.load(bytes)?,
@@ -170,6 +171,20 @@ impl<W: Write, R: Read> HostCalls<'_, W, R> {
         let [code, ..] = self.numbers()?;
         self.count(code, 0);
         writeln!(self.out, "H {number} {code}")
+    }
+
+    fn status(&mut self, number: usize) -> io::Result<()> {
+        self.request(b'I', &[])?;
+        let [code, lines, ..] = self.numbers()?;
+        self.count(code, 0);
+        writeln!(self.out, "I {number} {code} {lines}")?;
+        for _ in 0..lines {
+            let [scope, line, standing, acts] = self.numbers()?;
+            let scope = ["ID", "IDS"].get(scope as usize).unwrap_or(&"?");
+            let standing = ["waiting", "locked", "cancelled"].get(standing as usize).unwrap_or(&"?");
+            writeln!(self.out, "S {scope} {line} {standing} {acts}")?;
+        }
+        Ok(())
     }
 
     fn print(&mut self, number: usize, length: usize) -> io::Result<()> {
@@ -277,7 +292,8 @@ impl<W: Write, R: Read> HostCalls<'_, W, R> {
                 let (array, place) = place(*letter, index);
                 let number = state[array][place];
                 if number != 0 {
-                    let value = if *letter == b'B' { number.into() } else { i64::from(number as i32) };
+                    let is_signed = !b"BA".contains(letter);
+                    let value = if is_signed { i64::from(number as i32) } else { number.into() };
                     writeln!(self.out, "V {} {index} {}", char::from(*letter), written(*letter, value))?;
                 }
             }
@@ -349,7 +365,8 @@ fn place(letter: u8, index: usize) -> (usize, usize) {
         b'E' => (5, index),
         b'K' => (6, index - 1),
         b'B' => (7, index - 1),
-        _ => (8, index - 1),
+        b'Q' => (8, index - 1),
+        _ => (9, index),
     }
 }
 

@@ -15,7 +15,7 @@ pub const LONGEST_LIST: i64 = 16;
 pub const LONGEST_PRINT: usize = 8192;
 
 /// The letters of the places of the state, in the order of a dump.
-pub const PLACE_LETTERS: &[u8] = b"OMPRTUFLCEKBQ";
+pub const PLACE_LETTERS: &[u8] = b"OMPRTUFLCEKBQA";
 
 #[derive(Clone, PartialEq, Eq, Debug)]
 pub enum HostLine {
@@ -29,6 +29,7 @@ pub enum HostLine {
     Reset,
     /// A print into a buffer of so many bytes.
     Print(usize),
+    Status,
     /// Load the first bytes of the set text.
     Load(usize),
     Keep,
@@ -80,6 +81,7 @@ impl HostLine {
             (b"U", [number]) => Some(HostLine::Unlock(byte(number)?)),
             (b"C", [number]) => Some(HostLine::Cancel(byte(number)?)),
             (b"R", []) => Some(HostLine::Reset),
+            (b"I", []) => Some(HostLine::Status),
             (b"P", [bytes]) => Some(HostLine::Print(below(bytes, LONGEST_PRINT as i64)?)),
             (b"N", [bytes]) => Some(HostLine::Load(below(bytes, 1_000_000)?)),
             (b"K", []) => Some(HostLine::Keep),
@@ -113,6 +115,7 @@ fn state_place(letter: &[u8], index: &[u8], value: &[u8]) -> Option<HostLine> {
     let index = unsigned(index, last).filter(|index| *index >= first)? as usize;
     let value = match letter {
         b'B' => i64::from(bits(value).filter(|bits| !is_nan(*bits))?),
+        b'A' => unsigned(value, u32::MAX.into())?,
         _ => signed(value).map(i64::from).filter(|value| values(letter).contains(value))?,
     };
     Some(HostLine::Place { letter, index, value })
@@ -134,7 +137,7 @@ pub fn indices(letter: u8) -> Option<(i64, i64)> {
         b'T' | b'U' => (0, 7),
         b'F' => (1, 4),
         b'K' | b'B' | b'Q' => (1, 8),
-        b'M' | b'P' | b'L' | b'C' | b'E' => (0, 31),
+        b'M' | b'P' | b'L' | b'C' | b'E' | b'A' => (0, 31),
         _ => return None,
     })
 }

@@ -53,6 +53,7 @@ impl<'a> Session<'a> {
             HostLine::Unlock(number) => self.host_call(|control| control.unlock(number))?,
             HostLine::Cancel(number) => self.host_call(|control| control.cancel(number))?,
             HostLine::Reset => self.host_call(Control::reset)?,
+            HostLine::Status => self.status()?,
             HostLine::Print(length) => self.print(length)?,
             HostLine::Load(bytes) if bytes > self.set_text.len() => return Ok(None),
             HostLine::Load(bytes) => self.load(bytes)?,
@@ -86,6 +87,19 @@ impl<'a> Session<'a> {
         let code = call(self.control);
         self.totals.count(code, 0);
         writeln!(self.out, "H {} {}", self.number, code.number())
+    }
+
+    fn status(&mut self) -> io::Result<()> {
+        let (code, picture) = match self.control.status() {
+            Ok(picture) => (Code::Success, picture),
+            Err(code) => (code, Vec::new()),
+        };
+        self.totals.count(code, 0);
+        writeln!(self.out, "I {} {} {}", self.number, code.number(), picture.len())?;
+        for status in picture {
+            writeln!(self.out, "{status}")?;
+        }
+        Ok(())
     }
 
     fn print(&mut self, length: usize) -> io::Result<()> {

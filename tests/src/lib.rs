@@ -1,8 +1,8 @@
 //! An independent interpreter of set text and beats, and what compares a control with it.
 //!
 //! The interpreter: `token`, `parse`, `tree`, `check`, `load`, `set`, `written_curves`, `state`, `fifo`, `beat`,
-//! `evaluate`, `curve`, `variables`, `reading`, `control`, `print`. Its flags are held against `history` by `witness`.
-//! The programs: `synrun`, `synprint`, `host_session`. The rest makes inputs for them and compares what they print.
+//! `evaluate`, `curve`, `variables`, `reading`, `control`, `status`, `print`. Its flags are held against `history` by `witness`.
+//! The programs: `synrun`, `synprint`, `synstat`, `host_session`. The rest makes inputs for them and compares what they print.
 
 pub mod beat;
 pub mod beat_line;
@@ -41,8 +41,10 @@ pub mod shrink;
 pub mod slip;
 pub mod slips;
 pub mod state;
+pub mod status;
 pub mod synprint;
 pub mod synrun;
+pub mod synstat;
 pub mod text;
 pub mod token;
 pub mod tree;

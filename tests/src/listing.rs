@@ -26,6 +26,7 @@ fn name(case: &Case) -> String {
         Form::Synrun => case.name.clone(),
         Form::Host | Form::Long => format!("host/{}", case.name),
         Form::Print => format!("print/{}", case.name),
+        Form::Stat => format!("stat/{}", case.name),
     }
 }
 

@@ -16,19 +16,22 @@ use std::thread;
 /// Room for trees as deep as set text can make them.
 const STACK: usize = 256 << 20;
 /// Seeds that the gate compares if none are given, and those whose coverage it tests.
-const GATE_SEEDS: Seeds = Seeds { synrun: 0..5000, host: 0..5000, long: 0..40, print: 0..2000 };
-const COVERED_SEEDS: Seeds = Seeds { synrun: 0..1000, host: 0..5000, long: 0..40, print: 0..2000 };
+const GATE_SEEDS: Seeds =
+    Seeds { synrun: 0..5000, host: 0..5000, long: 0..40, print: 0..2000, stat: 0..1000 };
+const COVERED_SEEDS: Seeds =
+    Seeds { synrun: 0..1000, host: 0..5000, long: 0..40, print: 0..2000, stat: 0..1000 };
 
 const USAGE: &str = "reference                           answer standard input as synrun does
 reference host                      answer standard input as a host session
 reference print                     answer standard input as synprint does
+reference stat                      answer standard input as synstat does
 reference compare [PROGRAMS] SEEDS  cases and seeds
 reference coverage [SEEDS]          what the seeds reach
 reference slips                     every slip must be found
 reference gate [PROGRAMS] [SEEDS]   all of these
 reference generate FORM SEED        print a seed's input
-FORM: synrun, host, long or print. SEEDS: --FORM FROM..TO for each; FROM..TO is synrun, host and print
-PROGRAMS: --program PATH, --host-program PATH and --print-program PATH";
+FORM: synrun, host, long, print or stat. SEEDS: --FORM FROM..TO for each; FROM..TO is synrun, host, print and stat
+PROGRAMS: --program PATH, --host-program PATH, --print-program PATH and --stat-program PATH";
 
 fn main() -> ExitCode {
     let arguments: Vec<String> = env::args().skip(1).collect();
@@ -49,6 +52,7 @@ fn command(arguments: &[String]) -> io::Result<ExitCode> {
         [] => answer(Form::Synrun),
         ["host"] => answer(Form::Host),
         ["print"] => answer(Form::Print),
+        ["stat"] => answer(Form::Stat),
         ["generate", form, seed] => print_input(form, seed),
         ["coverage", ref rest @ ..] => coverage(&Options::read(rest)?),
         ["compare", ref rest @ ..] => compared(&Options::read(rest)?),
@@ -86,13 +90,18 @@ impl Options {
                     options.external.print = Some(path.into());
                     rest
                 }
+                ["--stat-program", path, rest @ ..] => {
+                    options.external.stat = Some(path.into());
+                    rest
+                }
                 [form, seeds, rest @ ..] if form.starts_with("--") => {
                     options.seeds.get_or_insert_default().put(named(&form[2..])?, range(seeds)?);
                     rest
                 }
                 [seeds, rest @ ..] => {
                     let given = options.seeds.get_or_insert_default();
-                    (given.synrun, given.host, given.print) = (range(seeds)?, range(seeds)?, range(seeds)?);
+                    (given.synrun, given.host) = (range(seeds)?, range(seeds)?);
+                    (given.print, given.stat) = (range(seeds)?, range(seeds)?);
                     rest
                 }
             }

@@ -3,7 +3,7 @@
 use crate::control::Control;
 use crate::seen::Seen;
 use crate::slip::Slip;
-use crate::{host_calls, host_session, synprint, synrun};
+use crate::{host_calls, host_session, synprint, synrun, synstat};
 use std::io::{self, Read, Write};
 use std::ops::Range;
 use std::path::PathBuf;
@@ -26,10 +26,12 @@ pub enum Form {
     Long,
     /// What `synprint` reads, which is what `synrun` reads.
     Print,
+    /// What `synstat` reads, which is what `synrun` reads.
+    Stat,
 }
 
 impl Form {
-    pub const ALL: [Form; 4] = [Form::Synrun, Form::Host, Form::Long, Form::Print];
+    pub const ALL: [Form; 5] = [Form::Synrun, Form::Host, Form::Long, Form::Print, Form::Stat];
 
     pub fn name(self) -> &'static str {
         match self {
@@ -37,6 +39,7 @@ impl Form {
             Form::Host => "host",
             Form::Long => "long",
             Form::Print => "print",
+            Form::Stat => "stat",
         }
     }
 
@@ -52,6 +55,7 @@ pub struct Seeds {
     pub host: Range<u64>,
     pub long: Range<u64>,
     pub print: Range<u64>,
+    pub stat: Range<u64>,
 }
 
 impl Seeds {
@@ -61,6 +65,7 @@ impl Seeds {
             Form::Host => self.host.clone(),
             Form::Long => self.long.clone(),
             Form::Print => self.print.clone(),
+            Form::Stat => self.stat.clone(),
         }
     }
 
@@ -70,6 +75,7 @@ impl Seeds {
             Form::Host => self.host = seeds,
             Form::Long => self.long = seeds,
             Form::Print => self.print = seeds,
+            Form::Stat => self.stat = seeds,
         }
     }
 }
@@ -80,6 +86,7 @@ pub fn work(form: Form, input: &[u8], control: &mut Control, out: &mut dyn Write
         Form::Synrun => synrun::run(input, control, out),
         Form::Host | Form::Long => host_session::run(input, control, out),
         Form::Print => synprint::run(input, control, out),
+        Form::Stat => synstat::run(input, control, out),
     }
 }
 
@@ -104,6 +111,7 @@ pub struct External {
     pub synrun: Option<PathBuf>,
     pub host: Option<PathBuf>,
     pub print: Option<PathBuf>,
+    pub stat: Option<PathBuf>,
 }
 
 impl External {
@@ -113,6 +121,7 @@ impl External {
             Form::Synrun => self.synrun.as_ref()?,
             Form::Host | Form::Long => self.host.as_ref()?,
             Form::Print => self.print.as_ref()?,
+            Form::Stat => self.stat.as_ref()?,
         };
         Some(
             answered(program, form, input)
@@ -128,7 +137,7 @@ fn answered(program: &PathBuf, form: Form, input: &[u8]) -> io::Result<Vec<u8>> 
     let stdout = child.stdout.take().ok_or(io::ErrorKind::BrokenPipe)?;
     let watch = Watch::over(child);
     let mut printed = match form {
-        Form::Synrun | Form::Print => fed(stdin, stdout, input.to_vec()),
+        Form::Synrun | Form::Print | Form::Stat => fed(stdin, stdout, input.to_vec()),
         Form::Host | Form::Long => host_calls::run(input, stdin, stdout),
     };
     printed.extend(watch.failure()?.into_bytes());

@@ -3,7 +3,9 @@
 use crate::beat::Turn;
 use crate::code::Code;
 use crate::reading::{Channel, Reading};
-use crate::set::Set;
+use crate::set::{Set, LINES};
+use crate::state::TOP_ACTS;
+use crate::status::{Standing, Status};
 use crate::token::{Keyword, Name};
 use crate::tree::{Line, Variable};
 use crate::witness::Witness;
@@ -46,6 +48,13 @@ const READING_EVENTS: [&str; 27] = [
     "reading short", "23, never good", "23 after 25 faulty beats", "row of 1 ends", "row of 24 ends",
     "row of 25 ends", "row through a refused beat", "row through an alarmed beat", "row through a reset",
 ];
+/// What is counted of acts and of the status picture.
+const STATUS_EVENTS: [&str; 14] = [
+    "acts stay at the top", "acts zeroed by a reset", "acts kept by a reset", "status of a full set",
+    "status ID waiting", "status ID locked", "status ID cancelled", "status IDS waiting",
+    "status IDS locked", "status IDS cancelled", "status cancelled with acts", "status acts 1",
+    "status acts 3999999999", "status acts 4000000000",
+];
 /// What is counted for each keyword; the bare word is for lines without.
 const BY_KEYWORD: [(&str, &[&str]); 8] = [
     ("act", &["", " WHEN", " WHENEVER", " FROM", " EVERY"]),
@@ -71,7 +80,8 @@ impl Seen {
     pub fn counting() -> Seen {
         let by_keyword =
             BY_KEYWORD.iter().flat_map(|(way, words)| words.iter().map(move |word| [way, *word].concat()));
-        let events = EVENTS.iter().chain(&CURVE_EVENTS).chain(&DAMAGE_EVENTS).chain(&READING_EVENTS);
+        let of_curves = CURVE_EVENTS.iter().chain(&DAMAGE_EVENTS);
+        let events = EVENTS.iter().chain(of_curves).chain(&READING_EVENTS).chain(&STATUS_EVENTS);
         let names = events.map(|name| name.to_string()).chain(by_keyword);
         Seen { counts: Some(names.map(|name| (name, 0)).collect()), ..Seen::default() }
     }
@@ -173,6 +183,32 @@ impl Seen {
     pub fn row_stays(&mut self, channels: &[Channel], event: &str) {
         if channels.iter().any(|channel| channel.faults > 0) {
             self.note(event);
+        }
+    }
+
+    /// Notes what a reset does to a line's count.
+    pub fn acts_at_reset(&mut self, acts: u32, cancelled: bool) {
+        if acts > 0 {
+            self.note(if cancelled { "acts kept by a reset" } else { "acts zeroed by a reset" });
+        }
+    }
+
+    /// Notes what a status picture shows.
+    pub fn status(&mut self, picture: &[Status]) {
+        if self.counts.is_none() {
+            return;
+        }
+        if picture.len() == LINES {
+            self.note("status of a full set");
+        }
+        for Status { scope, standing, acts, .. } in picture {
+            self.note(&format!("status {} {}", format!("{scope:?}").to_uppercase(), standing.word()));
+            if *standing == Standing::Cancelled && *acts > 0 {
+                self.note("status cancelled with acts");
+            }
+            if [1, TOP_ACTS - 1, TOP_ACTS].contains(acts) {
+                self.note(&format!("status acts {acts}"));
+            }
         }
     }
 

@@ -59,6 +59,16 @@ pub enum Slip {
     MovIsNoMove,
     /// Code 14 is looked for after code 11.
     FourteenAfterEleven,
+    /// Turns are counted, and not acts alone.
+    TurnsCounted,
+    /// The count of acts does not stay at its top.
+    ActsPastTheTop,
+    /// A cancel clears the line's count.
+    ActsClearedAtCancel,
+    /// A reset clears the counts of cancelled lines too.
+    ActsOfCancelledClearedAtReset,
+    /// A reset clears no count.
+    ActsKeptAtReset,
     /// A print keeps zeros at the end of a fraction.
     PrintKeepsZeros,
     /// A print has a space between a word or number and a variable.
@@ -79,7 +89,7 @@ pub enum Slip {
 
 impl Slip {
     /// In what the control prints.
-    pub const PRINTED: [Slip; 30] = [
+    pub const PRINTED: [Slip; 35] = [
         Slip::EveryByLevel,
         Slip::MemoryClearedAtUnlock,
         Slip::MemoryClearedAtSkip,
@@ -106,30 +116,41 @@ impl Slip {
         Slip::FaIsAMove,
         Slip::MovIsNoMove,
         Slip::FourteenAfterEleven,
+        Slip::TurnsCounted,
+        Slip::ActsPastTheTop,
+        Slip::ActsClearedAtCancel,
+        Slip::ActsOfCancelledClearedAtReset,
+        Slip::ActsKeptAtReset,
         Slip::PrintKeepsZeros,
         Slip::PrintSpacesDollar,
         Slip::PrintShortensChains,
         Slip::PrintEndsInLf,
     ];
     /// In the flags of lines, or in the history or its rule, so that the two part.
-    pub const PARTING: [Slip; 9] = [
+    pub const PARTING: [Slip; 13] = [
         Slip::EveryByLevel,
         Slip::MemoryClearedAtUnlock,
         Slip::MemoryClearedAtSkip,
         Slip::MemoryKeptAtReset,
         Slip::WritesKeptAtAlarm,
+        Slip::TurnsCounted,
+        Slip::ActsClearedAtCancel,
+        Slip::ActsOfCancelledClearedAtReset,
+        Slip::ActsKeptAtReset,
         Slip::PastReset,
         Slip::BackToRelease,
         Slip::FailedBeatsWritten,
         Slip::TextLocksNotWritten,
     ];
 
-    /// Whether programs of this form can show it: `synrun` has no reset and no damage, and `synprint` no beat.
+    /// Whether programs of this form can show it: `synrun` has no reset and no damage and prints no count, `synprint` has no
+    /// beat, and `synstat` prints counts alone.
     pub fn shows_in(self, form: Form) -> bool {
         match form {
-            Form::Synrun => !self.is_in_prints() && !self.is_of_hosts(),
+            Form::Synrun => !self.is_in_prints() && !self.is_of_hosts() && !self.is_in_counts(),
             Form::Host | Form::Long => !self.is_in_prints(),
             Form::Print => self.is_in_prints() || self.is_in_loading(),
+            Form::Stat => [Slip::TurnsCounted, Slip::EveryByLevel, Slip::WritesKeptAtAlarm].contains(&self),
         }
     }
 
@@ -137,6 +158,12 @@ impl Slip {
         let at_reset = [Slip::MemoryKeptAtReset, Slip::ChannelsClearedAtReset];
         let of_damage = [Slip::CurvesAsLoaded, Slip::CurveOfAnyNumber];
         at_reset.contains(&self) || of_damage.contains(&self)
+    }
+
+    fn is_in_counts(self) -> bool {
+        let at_calls =
+            [Slip::ActsClearedAtCancel, Slip::ActsOfCancelledClearedAtReset, Slip::ActsKeptAtReset];
+        at_calls.contains(&self) || [Slip::TurnsCounted, Slip::ActsPastTheTop].contains(&self)
     }
 
     fn is_in_loading(self) -> bool {

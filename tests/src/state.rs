@@ -4,6 +4,8 @@ use crate::reading::{Channel, CHANNELS};
 use crate::set::LINES;
 use crate::value::{in_range, Value, TOP, UNIT};
 
+/// The number of acts at which a line's count stays.
+pub const TOP_ACTS: u32 = 4_000_000_000;
 /// Thousandths that a running timer grows by in a beat.
 const GROWTH: Value = 4;
 /// Places of a FIFO, and where the run of R of the first one starts.
@@ -16,12 +18,14 @@ pub struct Timer {
     pub running: bool,
 }
 
-/// What is known of a line. Memory: WHEN and FROM have acted; EVERY's turn before was true.
+/// What is known of a line. Memory: WHEN and FROM have acted; EVERY's turn before was true. Acts: how often it acted since the load
+/// or the last reset that left it live.
 #[derive(Clone, Copy, PartialEq, Eq, Default, Debug)]
 pub struct LineState {
     pub locked: bool,
     pub cancelled: bool,
     pub memory: bool,
+    pub acts: u32,
 }
 
 #[derive(Clone, PartialEq, Eq, Debug)]
@@ -71,6 +75,7 @@ impl State {
             && self.timers.iter().all(|timer| (0..=TOP).contains(&timer.value))
             && (1..=4).all(|fifo| self.fifo_is_sound(fifo))
             && self.lines.iter().all(|line| !line.cancelled || !(line.locked || line.memory))
+            && self.lines.iter().all(|line| line.acts <= TOP_ACTS)
             && self.lines[lines..].iter().all(|line| *line == LineState::default())
             && self.channels.iter().all(|channel| channel.is_sound())
     }

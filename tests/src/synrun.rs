@@ -2,7 +2,8 @@
 
 use crate::beat_line::BeatLine;
 use crate::code::Code;
-use crate::control::{Control, BUFFER};
+use crate::control::{Answer, Control, BUFFER};
+use crate::load::Refusal;
 use crate::order::Order;
 use crate::text;
 use std::io::{self, Write};
@@ -30,23 +31,58 @@ impl Totals {
     }
 }
 
-pub fn run(input: &[u8], control: &mut Control, out: &mut dyn Write) -> io::Result<()> {
+/// How the input of a program ends.
+#[derive(Clone, Copy, PartialEq, Eq, Debug)]
+pub enum End {
+    Refused(Refusal),
+    /// At an ill-formed line, counted from 1.
+    IllFormed(usize),
+    Whole,
+}
+
+impl End {
+    /// The line that tells why it ended early.
+    pub fn print(self, out: &mut dyn Write) -> io::Result<()> {
+        match self {
+            End::Refused(refusal) => writeln!(out, "L {} {}", refusal.code.number(), refusal.line),
+            End::IllFormed(line) => writeln!(out, "E {line}"),
+            End::Whole => Ok(()),
+        }
+    }
+}
+
+/// Loads the set text and works the script; each beat's answer and buffer go to `tell`.
+pub fn work(
+    input: &[u8],
+    control: &mut Control,
+    tell: &mut dyn FnMut(Answer, &[u8]) -> io::Result<()>,
+) -> io::Result<End> {
     let (set_text, script) = text::split_at_star(input);
     if let Err(refusal) = control.load(set_text) {
-        return writeln!(out, "L {} {}", refusal.code.number(), refusal.line);
+        return Ok(End::Refused(refusal));
     }
-    let mut totals = Totals::default();
     let mut buffer = [0; BUFFER];
-    for line in text::lines(script).take(BEATS) {
+    for (number, line) in (1..).zip(text::lines(script).take(BEATS)) {
         let Some(beat) = BeatLine::read(line) else {
-            return writeln!(out, "E {}", totals.calls + 1);
+            return Ok(End::IllFormed(number));
         };
         let answer = control.beat(&beat, &mut buffer);
+        tell(answer, &buffer)?;
+    }
+    Ok(End::Whole)
+}
+
+pub fn run(input: &[u8], control: &mut Control, out: &mut dyn Write) -> io::Result<()> {
+    let mut totals = Totals::default();
+    let end = work(input, control, &mut |answer, buffer| {
         totals.count(answer.code, answer.orders);
         writeln!(out, "C {} {} {}", totals.calls, answer.code.number(), answer.orders)?;
-        print_orders(&buffer, answer.orders, out)?;
+        print_orders(buffer, answer.orders, out)
+    })?;
+    if end == End::Whole {
+        return totals.print(out);
     }
-    totals.print(out)
+    end.print(out)
 }
 
 pub fn print_orders(buffer: &[u8], count: usize, out: &mut dyn Write) -> io::Result<()> {

@@ -3,6 +3,7 @@
 use crate::beat::{Mode, Turn};
 use crate::history::{Entry, History};
 use crate::slip::Slip;
+use crate::state::{LineState, TOP_ACTS};
 use crate::tree::Line;
 
 /// Off, as it is by default, it writes nothing.
@@ -16,6 +17,8 @@ pub struct Witness {
     /// The length of the history before the beat under way, and that beat's number among those worked.
     before: usize,
     beats: usize,
+    /// What the rule says of the turn under way.
+    turn: Option<Turn>,
 }
 
 impl Witness {
@@ -52,7 +55,7 @@ impl Witness {
     }
 
     /// A failed beat adds nothing; in a good one the lines of the word `acted`, bit by rank, acted as the history allows.
-    pub fn end_beat(&mut self, lines: &[Line], acted: u32, good: bool) {
+    pub fn end_beat(&mut self, lines: &[Line], known: &[LineState], acted: u32, good: bool) {
         let Some(history) = &mut self.history else {
             return;
         };
@@ -65,7 +68,14 @@ impl Witness {
         let allowed = |rank, line: &Line| history.allows_act(rank, line.keyword(), self.before);
         let mut acted = (0..).zip(lines).filter(|(rank, _)| acted >> rank & 1 == 1);
         if let Some((_, line)) = acted.find(|(rank, line)| !allowed(*rank, line)) {
-            self.differ(line, "acts against the history".into());
+            return self.differ(line, "acts against the history".into());
+        }
+        let counts = |rank, line: &Line| history.acts(rank, line.scope).min(TOP_ACTS as usize);
+        let mut counted = lines.iter().zip(known).enumerate();
+        if let Some((_, (line, _))) =
+            counted.find(|(rank, (line, known))| counts(*rank, line) != known.acts as usize)
+        {
+            self.differ(line, "the count is not that of the history".into());
         }
     }
 
@@ -75,8 +85,21 @@ impl Witness {
             return;
         };
         let by_history = history.turn(rank, line.scope, line.keyword());
+        self.turn = Some(by_history);
         if by_history != by_flags {
             self.differ(line, format!("by flags {by_flags:?}, by history {by_history:?}"));
+        }
+    }
+
+    /// Writes down whether the line acts by the rule; `gave` is what its condition gave, if it was worked.
+    pub fn acts(&mut self, rank: usize, gave: bool) {
+        let acts = match self.turn {
+            Some(Turn::Settled { acts }) => acts,
+            Some(Turn::Tried { acts_if_true }) => gave && acts_if_true,
+            Some(Turn::Skipped) | None => false,
+        };
+        if acts {
+            self.write(Entry::Act(rank));
         }
     }
 

@@ -126,6 +126,12 @@ module _ (cs : List Channel) (rs : List Reading) where
   length-channels zero = refl
   length-channels (suc n) = length-set (channelsSampled cs rs n) n _ ∙ length-channels n
 
+-- where the first i are not all sound, more are not
+pub unsound-on : (cs : List Channel) (i k : ℕ) → areChannels cs i ≡ false → areChannels cs (k + i) ≡ false
+unfolding areChannels
+unsound-on cs i zero h = let e : 0 + i ≡ i = omega arith in rw e h
+unsound-on cs i (suc k) h = let e : suc k + i ≡ suc (k + i) = omega arith in rw (e, unsound-on cs i k h)
+
 pub sound-step : (cs : List Channel) (i : ℕ) (b : Bool) → b ≡ areChannels cs i → (b && isChannel (getD cs i noChannel)) ≡ areChannels cs (i + 1)
 unfolding areChannels
 sound-step cs i b e = rw (e, add-one i)

@@ -10,10 +10,10 @@ pub const CHANNELS: usize = 8;
 // The faulty beats in a row for which the last good value serves.
 pub const MAX_FAULTS: u8 = 25;
 
-// Whether a reading was ever good, the last that was, and how many beats in a row were faulty since. Never good: the number beside it is not looked at.
+// The last good reading, whether there ever was one, and how many beats in a row were faulty since. Never good: the number is not looked at. The widest field stands first, so that a channel takes eight bytes.
 pub struct Channel {
-    pub known: bool,
     pub last: f32,
+    pub known: bool,
     pub faults: u8,
 }
 
@@ -161,15 +161,15 @@ fn is_channel(c: Channel) -> bool
     n <= MAX_FAULTS
 }
 
-// Whether all channels are sound.
+// Whether all channels are sound. The loop ends at the first that is not: one of eight turns in any case the compiler would lay out in full, and with it every copy of the channels field by field.
 pub fn are_channels(channels: [Channel; CHANNELS]) -> bool
     ensures { λ x. ⌜ x ≡ areChannels channels channelCount ⌝ }
 {
     let mut good = true;
     let mut i: usize = 0;
-    while i < CHANNELS {
+    while good & (i < CHANNELS) {
         let c = channels[i];
-        good = good & is_channel(c);
+        good = is_channel(c);
         i += 1;
     }
     good

@@ -4,8 +4,7 @@ use mathlib.Core.Bool.{Bool, true, false, cond, _&&_, _||_, and-true}
 use mathlib.Core.List.{List, [], _∷_, _++_, map}
 use Prim.Native.Nat.{ℕ, zero, suc, _+_, _*_, _^_, _<_, _≤_}
 use native.Mathlib.Omega.{arith}
-use native.Mathlib.Numerals.{add-one}
-use native.Mathlib.Nat.{pow-suc, one-le-pow, div-eq-of-lt, add-mul-div-left, add-mul-mod-self-left, mul-mod-right, zero-add, pow-le-pow-right}
+use native.Mathlib.Nat.{one-le-pow, div-eq-of-lt, add-mul-div-left, add-mul-mod-self-left, mul-mod-right, zero-add}
 use lib.Dec.{eqb}
 use lib.IntN.{ℤ}
 use lib.ListN.{getD}
@@ -24,9 +23,10 @@ use Rattle.engine.specs.Actions.{actionsOf}
 use Rattle.engine.specs.Turn.{Entry, worked, locks, lockEntry, Turned, counted, doTurn}
 use Rattle.demands.specs.History.{History, after, only, orElse, isAutomatic, wasTrue, everTrue, takesByRule, triesByRule, actsByRule}
 use Rattle.demands.specs.Run.{byRank, cancelledBy, tryByRule, turnByRule, turnsByRule}
-use Rattle.demands.specs.Acts.{isActed, isYesAnswer, conditionNow, triesNow, actsNow}
+use Rattle.engine.specs.ActCount.{isActed}
+use Rattle.demands.specs.Acts.{isYesAnswer, conditionNow, triesNow, actsNow}
 use Rattle.tokens.specs.AnswerLaws.{Ok, is-ok, bind-ok}
-use Rattle.demands.specs.ActionRuleLaws.{Fair, actions-fair}
+use Rattle.soundness.specs.ActedLaws.{Fair, actions-fair, power, next-bit, none-from}
 use Rattle.demands.specs.TurnRuleLaws.{after-append}
 use Rattle.demands.specs.Deed.{Gave, OfActed}
 use Rattle.demands.specs.DeedLaws.{gave-none, gave-more, gave-map, Ends, actions-end}
@@ -109,16 +109,9 @@ module _ (s : List ℕ) (ls : Lines) (l : Line) (k : ℕ) (r : History) (x : Wor
 
 -- ---- bits
 
-power : (k : ℕ) → 2 ^ (k + 1) ≡ 2 ^ k * 2
-power k = rw add-one (pow-suc 2 k)
-
 more : (a : Bool) (k x y z c : ℕ) → y ≡ x + cond a (2 ^ k) 0 → z ≡ y + 2 ^ (k + 1) * c → (d : ℕ) × (z ≡ x + 2 ^ k * d)
 more true k x y z c p q = (1 + 2 * c, let e : z ≡ y + 2 ^ k * 2 * c = rw (power k) at q in omega arith)
 more false k x y z c p q = (2 * c, let e : z ≡ y + 2 ^ k * 2 * c = rw (power k) at q in omega arith)
-
-next-bit : (a : Bool) (k x y : ℕ) → x < 2 ^ k → y ≡ x + cond a (2 ^ k) 0 → y < 2 ^ (k + 1)
-next-bit true k x y h p = rw (power k) (omega arith)
-next-bit false k x y h p = rw (power k) (omega arith)
 
 -- the bit of rank k is whether it was added
 the-bit : (a : Bool) (k x y z c : ℕ) → x < 2 ^ k → y ≡ x + cond a (2 ^ k) 0 → z ≡ y + 2 ^ (k + 1) * c → isActed z k ≡ a
@@ -299,5 +292,4 @@ module _ (s : List ℕ) (ls : Lines) where
   pub no-other : (n i : ℕ) (r : History) (x : World) (t : Turned) → n ≤ i → x .acted ≡ 0 → turnsByRule s ls n 0 r x ≡ good t → isActed (t .world .acted) i ≡ false
   no-other n i r x t h z e =
       let low : t .world .acted < 2 ^ n = rw zero-add at (is-ok (λ t. t .world .acted < 2 ^ (0 + n)) _ t e (turns-low n 0 r x (omega arith))) in
-      let p : t .world .acted < 2 ^ i = omega (arith, pow-le-pow-right {n = 2} (omega arith) h) in
-      rw (div-eq-of-lt p)
+      none-from (t .world .acted) n i low h

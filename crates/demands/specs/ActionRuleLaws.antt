@@ -3,22 +3,20 @@
 use mathlib.Core.Path.{_≡_, refl, ap, _∙_}
 use mathlib.Core.Bool.{Bool, true, false}
 use mathlib.Core.List.{List, [], _∷_, _++_}
-use Prim.Native.Nat.{ℕ, zero, suc, _+_, _<_}
+use Prim.Native.Nat.{ℕ, zero, suc, _+_}
 use lib.Dec.{eqb, ltb}
 use lib.ListN.{getD, set}
-use borrow.Author.Tests.{ltb-true}
-use Rattle.values.specs.Choice.{either, ifNot}
 use Rattle.tokens.specs.Token.{END, M, SETAL, LOCK, SYNFCT, isVariable, isDrive, whole, maxLines, isAxis, isCall}
 use Rattle.tokens.specs.Descent.{token, Answer, good, stop, _>>=_, indexAt}
 use Rattle.tokens.specs.ChooseLaws.{through, choose}
 use Rattle.working.specs.Operators.{fromWorked}
 use Rattle.working.specs.Working.{rightValue, variableAt}
 use Rattle.engine.specs.Set.{rankIn, curveLine}
-use Rattle.engine.specs.Action.{World, Note, Did, withVars, fromValueOrAlarm, takenAt, assignmentOf, curveAssigned, synfctOf, lockOf, commandOf, driveOf, actionOf}
+use Rattle.engine.specs.Action.{World, Note, Did, fromValueOrAlarm, takenAt, assignmentOf, curveAssigned, synfctOf, lockOf, commandOf, driveOf, actionOf}
 use Rattle.engine.specs.Actions.{actionsOf}
 use Rattle.engine.specs.Drive.{driveOrder}
-use Rattle.engine.specs.Write.{Vars, writeTo}
-use Rattle.tokens.specs.AnswerLaws.{Ok, is-ok, bind-ok}
+use Rattle.engine.specs.Write.{writeTo}
+use Rattle.tokens.specs.AnswerLaws.{Ok}
 
 -- ---- a world in other flags
 
@@ -36,23 +34,6 @@ note-append (m ∷ ms) ns l = note-append ms ns (set l (m .0) (m .1))
 
 abbrev pub dressDid : List Bool → List Bool → Did → Answer Did
 dressDid l m d = good (record { world = dress (noteAll (d .notes) l) m (d .world); next = d .next; notes = d .notes })
-
--- these locks and releases name lines that are not cancelled
-abbrev pub Live : List Bool → List Note → Type 0
-Live cs [] = Unit {0}
-Live cs (n ∷ ns) = (n .0 < maxLines) × (getD cs (n .0) false ≡ false) × Live cs ns
-
-live-append : (cs : List Bool) (ms ns : List Note) → Live cs ms → Live cs ns → Live cs (ms ++ ns)
-live-append cs [] ns p q = q
-live-append cs (m ∷ ms) ns p q = (p .0, p .1, live-append cs ms ns (p .2) q)
-
--- SYNFCT writes variables alone: what is so whatever they become is so of what it did
-pub synfct-variables : (s : List ℕ) (x : World) (p : ℕ) (P : Did → Type 0) → ((v : Vars) → P (record { world = withVars x v; next = p + 14; notes = [] })) → Ok P (synfctOf s x p)
-unfolding synfctOf
-synfct-variables s x p P h =
-    let w = token s (p + 4) in
-    bind-ok P (fromWorked (variableAt s (x .vars .r) (x .vars .cells) (p + 9))) _
-    (λ a q. bind-ok P (curveAssigned (x .vars) (curveLine s (whole (token s (p + 2))) .curve) a w (indexAt s w (p + 4))) _ (λ v q. h v))
 
 module _ (s numbers : List ℕ) (cancelled : List Bool) (number : ℕ) where
   module _ (l m : List Bool) (x : World) where
@@ -110,40 +91,6 @@ module _ (s numbers : List ℕ) (cancelled : List Bool) (number : ℕ) where
           end (good e) = rw (note-append (d .notes) (e .notes) l)
           end (stop k) = refl
       go (stop k) h = refl
-
-  -- each lock and release that is written down names a line that is not cancelled, and no action writes the word of the lines that acted
-  abbrev pub Fair : World → Did → Type 0
-  Fair x d = Live cancelled (d .notes) × (d .world .acted ≡ x .acted)
-
-  action-fair : (x : World) (p : ℕ) → Ok (Fair x) (actionOf s numbers cancelled number x p)
-  unfolding actionOf assignmentOf driveOf commandOf lockOf
-  action-fair x p =
-      let k : ℕ = rankIn numbers (whole (getD s (p + 2) 0)) 0 in
-      either (Ok (Fair x)) (eqb (getD s p 0) END) (λ e. tt)
-      (λ e. either (Ok (Fair x)) (isVariable (getD s p 0))
-      (λ e. bind-ok (Fair x) (takenAt s (x .vars) (p + 5)) _ (λ a q. bind-ok (Fair x) (writeTo (a .vars) (getD s p 0) (indexAt s (getD s p 0) p) (a .value)) _ (λ v q. (tt, refl))))
-      (λ e. either (Ok (Fair x)) (isDrive (getD s p 0))
-      (λ e. ifNot (Ok (Fair x)) (isAxis (getD s (p + 2) 0)) (λ e. tt)
-      (λ e. bind-ok (Fair x) (fromValueOrAlarm (rightValue s (x .vars .r) (x .vars .cells) (p + 5))) _
-      (λ a q. bind-ok (Fair x) (driveOrder number (getD s p 0) (indexAt s (getD s p 0) p) (a .0)) _ (λ o q. (tt, refl)))))
-      (λ e. either (Ok (Fair x)) (eqb (getD s p 0) SYNFCT) (λ e. synfct-variables s x p (Fair x) (λ v. (tt, refl)))
-      (λ e. either (Ok (Fair x)) (eqb (getD s p 0) M) (λ e. (tt, refl))
-      (λ e. either (Ok (Fair x)) (eqb (getD s p 0) SETAL) (λ e. (tt, refl))
-      (λ e. ifNot (Ok (Fair x)) (isCall (getD s p 0)) (λ e. tt)
-      (λ e. either (Ok (Fair x)) (ltb k maxLines)
-      (λ e. either (Ok (Fair x)) (getD cancelled k false) (λ c. (tt, refl)) (λ c. ((ltb-true k maxLines e, c, tt), refl)))
-      (λ e. tt))))))))
-
-  pub actions-fair : (j : ℕ) (x : World) (p : ℕ) → Ok (Fair x) (actionsOf s numbers cancelled number j x p)
-  unfolding actionsOf
-  actions-fair zero x p = tt
-  actions-fair (suc j) x p =
-      bind-ok (Fair x) (actionOf s numbers cancelled number x p) _
-      (λ d q. let h : Fair x d = is-ok (Fair x) (actionOf s numbers cancelled number x p) d q (action-fair x p) in
-      either (Ok (Fair x)) (eqb (getD s (d .next) 0) END) (λ e. h)
-      (λ e. bind-ok (Fair x) (actionsOf s numbers cancelled number j (d .world) (d .next)) _
-      (λ f g. let i : Fair (d .world) f = is-ok (Fair (d .world)) (actionsOf s numbers cancelled number j (d .world) (d .next)) f g (actions-fair j (d .world) (d .next)) in
-      (live-append cancelled (d .notes) (f .notes) (h .0) (i .0), i .1 ∙ h .1))))
 
   -- what the actions do to the locks is what they write down, and they write no memory
   abbrev pub Noted : World → Did → Type 0

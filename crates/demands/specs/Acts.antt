@@ -1,21 +1,18 @@
 -- What the rule says of one line in one beat, and what is asked of the replies of a run: the words of demand 3's consequences. Definitions only; assumes nothing.
 use mathlib.Core.Bool.{Bool, false, cond, _&&_, _||_}
 use mathlib.Core.List.{List, [], _∷_}
-use Prim.Native.Nat.{ℕ, _/_, _%_, _^_}
+use Prim.Native.Nat.{ℕ}
 use lib.Dec.{eqb}
 use lib.IntN.{ℤ}
 use Rattle.tokens.specs.Descent.{Answer, good, stop}
 use Rattle.working.specs.Operators.{isYes}
 use Rattle.working.specs.Working.{conditionValue}
 use Rattle.checking.specs.declared.line.Line.{Line}
+use Rattle.engine.specs.ActCount.{isActed}
 use Rattle.engine.specs.Action.{World, fromValueOrAlarm}
 use Rattle.demands.specs.History.{History, takesByRule, triesByRule, actsByRule}
 use Rattle.soundness.specs.Call.{Call, doBeat, doLock, doUnlock, doCancel, doReset}
 use Rattle.demands.specs.Run.{Reply}
-
--- the line of rank k has its bit in the word of the lines that acted
-abbrev pub isActed : ℕ → ℕ → Bool
-isActed word k = eqb (word / 2 ^ k % 2) 1
 
 -- what a line's condition gives in this world: its real value, worked from the variables (no, if an alarm ends it)
 abbrev pub isYesAnswer : Answer (ℤ × ℕ) → Bool

@@ -5,7 +5,7 @@ use mathlib.Core.List.{List, [], _∷_, _++_, map}
 use Prim.Native.Nat.{ℕ}
 use Prim.Native.String.{String}
 use lib.IntN.{ℤ, pos, negsuc}
-use lib.ListN.{replicate, set}
+use lib.ListN.{take, replicate, set}
 use lib.Ieee.{inf, fin}
 use Rattle.values.specs.Codes.{shortBuffer, wrongNumbers, faultyChannel, zeroDivisor, unknownLine}
 use Rattle.values.specs.Value.{inRange, valued, quotientOf, lessThan, equalTo, wholeUnits, outputOf}
@@ -25,6 +25,7 @@ use Rattle.couplers.specs.Channel.{freshChannels, zeroReadings, sampledFault, i
 use Rattle.engine.specs.State.{powerOn}
 use Rattle.engine.specs.Timers.{grownCells}
 use Rattle.engine.specs.Cells.{inputCells, beatCells}
+use Rattle.engine.specs.ActCount.{isActCount, areActCounts, oneMore, countedActs, resetActs}
 use Rattle.engine.specs.Sound.{allRanged, isCell, areCells, allZero, isFifoSound, areFifos, isFlag, areFlags, stateSound, isSound}
 use Rattle.engine.specs.Write.{writeCell, writeInside, writeTo}
 use Rattle.engine.specs.Action.{alarmOf, lockOf, takenAt, assignmentOf, commandOf, actionOf}
@@ -91,6 +92,13 @@ volts = Volts (fin false 5 (negsuc 0))
 abbrev pub faultWords : List Call → List (ℕ × ℕ)
 faultWords cs = map (λ c. (c .1 .code, c .1 .acted)) (engineRun (loadSet (bytes coupled)) cs .told)
 
+-- how often each of the lines acted: of the first set, and of the second
+abbrev pub counts : List Call → List ℕ
+counts cs = take 4 (engineRun (loadSet (bytes text)) cs .kept .acts)
+
+abbrev pub faultCounts : List Call → List ℕ
+faultCounts cs = take 2 (engineRun (loadSet (bytes coupled)) cs .kept .acts)
+
 -- 1. input 1 on, on, off, on: EVERY (1) acts in beats 1 and 4, WHEN (2) in 1, FROM (4) in 1 to 4
 -- 2. EVERY, true, then locked while the input is off and on again, then released: its turn before was true, no second act; a line that is not in the set gives 40
 -- 3. a reset cancels the ID lines for good and starts the IDS line anew
@@ -100,6 +108,8 @@ faultWords cs = map (λ c. (c .1 .code, c .1 .acted)) (engineRun (loadSet (bytes
 -- 7. the last good value serves for 25 faulty beats, breaks and shorts alike; the 26th gives 23, as does the next, and a good reading ends it
 -- 8. beats that are refused or undone, and a reset, neither count nor end the row: after 24 faulty beats there is just one more
 -- 9. 21 is asked before 23
+-- 10. counts: a line that a lock holds back keeps its own; so do the ID lines that a reset cancels, and a line that the host cancels, while the others begin at 0
+-- 11. an undone beat counts nothing
 pub runs :
     (words (beat 1 ∷ beat 1 ∷ beat 0 ∷ beat 1 ∷ []) ≡ (0, 5) ∷ (0, 4) ∷ (0, 4) ∷ (0, 7) ∷ [])
     × (words (beat 1 ∷ doLock 1 ∷ beat 0 ∷ beat 1 ∷ doUnlock 1 ∷ beat 1 ∷ doLock 9 ∷ []) ≡ (unknownLine, 0) ∷ (0, 4) ∷ (0, 0) ∷ (0, 4) ∷ (0, 4) ∷ (0, 0) ∷ (0, 7) ∷ [])
@@ -111,5 +121,8 @@ pub runs :
     × (faultWords (reads volts ∷ replicate 24 (reads Break) ++ (readsUndone Break ∷ readsUndone volts ∷ doReset ∷ readsAlone volts ∷ reads Break ∷ reads Break ∷ []))
     ≡ (faultyChannel, 0) ∷ (0, 1) ∷ (wrongNumbers, 0) ∷ (0, 0) ∷ (zeroDivisor, 0) ∷ (zeroDivisor, 0) ∷ replicate 25 (0, 1))
     × (faultWords (readsAlone Break ∷ reads Break ∷ []) ≡ (faultyChannel, 0) ∷ (wrongNumbers, 0) ∷ [])
-unfolding inRange valued quotientOf lessThan equalTo wholeUnits outputOf grownTimer isIndex indexOf isIndexed indexAt joined more readProduct readSum readRest readExpression readVariable operandFrom readOperand sumAt expressionAt isInside cellOf variableValue lower opensTooMany wantingFault numberFault readFault joinSights sight isWritable writeFault codeFault idFault callFault countFault numberOf isRemoval assignedAt assignmentAt commandAt unindexedAt actionAt actionsAt lineParts bodyAt restAt lineAt joinTruths joinValues valueOver conditionValue rightValue linesFrom linesRead rankIn namesKnown curvesSound allKnown namedLines soundLines powerOn freshChannels thousandthsOf signedThousandths nearestEven isChannel areChannels sampledFault allGood valuesSampled channelsSampled sampledAll grownCells inputCells beatCells allRanged isCell areCells allZero isFifoSound areFifos isFlag areFlags stateSound isSound writeCell writeInside writeTo lockOf takenAt assignmentOf commandOf actionOf actionsOf tries acts remembers takesTurn doTurn tryTurn turnOf turnsFrom areInputs beatBegun beatEnded wholeBeat beatAnswer beatBuffer foundAt found called lockedCall lockCall unlockCall cancelCall resetCancelled zeroed resetState resetCall step runFrom run wordToken written isFit numberToken wordFirst behindPoint numberWith numberFirst signFirst firstToken tokensFrom tokensOf split withoutReturn withoutComment bodies isBlank numbered tokenLines numbersOf leastFrom leastAbove rising placed curveSlots setOf factorsGuess productGuess termsGuess sumGuess sumsGuess expressionGuess operandFirst operandGuess actionGuess actionsGuess conditionGuess lineGuess sameTokens ifWritten treeOf operandTokens actionTokens actionsTokens conditionTokens lineTokens rightFault isRemovalTree assignedFault actionFault actionsFault lineFault actionsNames namesIn eachKnown faultOf tokensFault faultBelow lineBelow keptWith rowsFrom firstNot named outcome loadSet emptySet withoutMark withLine operandMeaning movesAt movesOf partsFault isAmong areApart movesFault alarmOf
-runs = (refl, refl, refl, refl, refl, refl, refl, refl, refl)
+    × (counts (beat 1 ∷ beat 3 ∷ doLock 3 ∷ beat 0 ∷ []) ≡ 1 ∷ 1 ∷ 2 ∷ 1 ∷ [])
+    × (counts (beat 3 ∷ beat 2 ∷ doCancel 4 ∷ doReset ∷ beat 1 ∷ []) ≡ 1 ∷ 1 ∷ 1 ∷ 2 ∷ [])
+    × (faultCounts (reads volts ∷ readsUndone volts ∷ []) ≡ 1 ∷ 0 ∷ [])
+unfolding inRange valued quotientOf lessThan equalTo wholeUnits outputOf grownTimer isIndex indexOf isIndexed indexAt joined more readProduct readSum readRest readExpression readVariable operandFrom readOperand sumAt expressionAt isInside cellOf variableValue lower opensTooMany wantingFault numberFault readFault joinSights sight isWritable writeFault codeFault idFault callFault countFault numberOf isRemoval assignedAt assignmentAt commandAt unindexedAt actionAt actionsAt lineParts bodyAt restAt lineAt joinTruths joinValues valueOver conditionValue rightValue linesFrom linesRead rankIn namesKnown curvesSound allKnown namedLines soundLines powerOn freshChannels thousandthsOf signedThousandths nearestEven isChannel areChannels sampledFault allGood valuesSampled channelsSampled sampledAll grownCells inputCells beatCells allRanged isCell areCells allZero isFifoSound areFifos isFlag areFlags isActCount areActCounts oneMore countedActs resetActs stateSound isSound writeCell writeInside writeTo lockOf takenAt assignmentOf commandOf actionOf actionsOf tries acts remembers takesTurn doTurn tryTurn turnOf turnsFrom areInputs beatBegun beatEnded wholeBeat beatAnswer beatBuffer foundAt found called lockedCall lockCall unlockCall cancelCall resetCancelled zeroed resetState resetCall step runFrom run wordToken written isFit numberToken wordFirst behindPoint numberWith numberFirst signFirst firstToken tokensFrom tokensOf split withoutReturn withoutComment bodies isBlank numbered tokenLines numbersOf leastFrom leastAbove rising placed curveSlots setOf factorsGuess productGuess termsGuess sumGuess sumsGuess expressionGuess operandFirst operandGuess actionGuess actionsGuess conditionGuess lineGuess sameTokens ifWritten treeOf operandTokens actionTokens actionsTokens conditionTokens lineTokens rightFault isRemovalTree assignedFault actionFault actionsFault lineFault actionsNames namesIn eachKnown faultOf tokensFault faultBelow lineBelow keptWith rowsFrom firstNot named outcome loadSet emptySet withoutMark withLine operandMeaning movesAt movesOf partsFault isAmong areApart movesFault alarmOf
+runs = (refl, refl, refl, refl, refl, refl, refl, refl, refl, refl, refl, refl)

@@ -33,7 +33,8 @@ use Rattle.engine.specs.SetCountLaws.{sound-count}
 use Rattle.demands.specs.History.{History, after, isAutomatic, everTrue, wasTrue, takesByRule, triesByRule, actsByRule}
 use Rattle.soundness.specs.Call.{Call, doBeat, doLock, doUnlock, doCancel, doReset}
 use Rattle.demands.specs.Run.{Now, coded, noted, rankOf, codeByRule, cleared, engineRun, Rest, stateBy, samplesBy, begunBy, byRank, cancelledBy, tryByRule, turnByRule, turnsByRule, beatByRule, stepByRule, resetByRule, runByRuleFrom, runByRule, beatenByRule}
-use Rattle.demands.specs.Acts.{isActed, conditionNow, triesNow, actsNow, actedSince}
+use Rattle.engine.specs.ActCount.{isActed}
+use Rattle.demands.specs.Acts.{conditionNow, triesNow, actsNow, actedSince}
 use Rattle.tokens.specs.AnswerLaws.{Ok, is-ok, bind-ok}
 use Rattle.demands.specs.ActionRuleLaws.{noteAll, Noted, actions-noted}
 use Rattle.demands.specs.TurnRuleLaws.{flagged, flaggedTurn, Quiet, takes-same, turn-same, turns-same, turns-quiet}

@@ -24,6 +24,7 @@ use Rattle.couplers.specs.Channel.{freshChannels, isChannel, areChannels, allGo
 use Rattle.engine.specs.State.{powerOn}
 use Rattle.engine.specs.Timers.{grownCells}
 use Rattle.engine.specs.Cells.{inputCells, beatCells}
+use Rattle.engine.specs.ActCount.{isActCount, areActCounts, oneMore, countedActs}
 use Rattle.engine.specs.Sound.{allRanged, isCell, areCells, allZero, isFifoSound, areFifos, isFlag, areFlags, stateSound, isSound}
 use Rattle.engine.specs.Write.{writeCell, writeInside, writeTo, changeAnswer, changed, changeFifo, writeFifo}
 use Rattle.engine.specs.Action.{takenAt, assignmentOf, actionOf, curveAssigned, synfctOf}
@@ -68,5 +69,5 @@ shownOf cs =
 
 -- 100 at 30, 0 at 80, 120 at 10; 0 at 5, -100 at 6 (document 02); 120 at 0, in the marker, and at 6, appended to the FIFO. The beat after that gives 34, since an output takes no 120, and leaves all as it was
 pub curve-run : shownOf (beat 1 ∷ beat 2 ∷ []) ≡ ((notAllowed, 0) ∷ (0, 3) ∷ [], pos 100000 ∷ pos 0 ∷ pos 120000 ∷ pos 0 ∷ negsuc 99999 ∷ [], pos 120000, pos 120000)
-unfolding inRange valued lessThan equalTo wholeUnits outputOf grownTimer isIndex indexOf isIndexed indexAt joined more readProduct readSum readRest readExpression readVariable operandFrom readOperand sumAt expressionAt isInside cellOf variableValue lower opensTooMany wantingFault numberFault readFault joinSights sight isWritable writeFault idFault countFault isAmong areApart movesFault numberOf isRemoval assignedAt assignmentAt commandAt unindexedAt actionAt movesAt actionsAt lineParts bodyAt restAt lineAt joinTruths joinValues valueOver conditionValue rightValue variableAt linesFrom linesRead rankIn namesKnown curvesSound allKnown namedLines soundLines powerOn grownCells inputCells beatCells allRanged isCell areCells allZero isFifoSound areFifos isFlag areFlags stateSound isSound writeCell writeInside writeTo takenAt assignmentOf actionOf actionsOf tries acts remembers takesTurn doTurn tryTurn turnOf turnsFrom areInputs beatBegun beatEnded wholeBeat beatAnswer beatBuffer step runFrom run wordToken written isFit numberToken wordFirst behindPoint numberWith numberFirst signFirst firstToken tokensFrom tokensOf emptySet withoutMark withLine curveFault signOf sumOf productOf _times_ _plus_ polynomialOf limitedTo curveOf limitsFault judgedCurve numberPlace parameterAt partAt partBehind curveFrom endedBy definedBy isDefining definitionAt isGiven isSynfct synfctFault synfctAt curvesFrom curveAssigned synfctOf nearestUnits markerOf beatCount fits appendAnswer appended shifted changeAnswer changed changeFifo writeFifo freshChannels thousandthsOf signedThousandths nearestEven isChannel areChannels allGood valuesSampled channelsSampled sampledAll
+unfolding inRange valued lessThan equalTo wholeUnits outputOf grownTimer isIndex indexOf isIndexed indexAt joined more readProduct readSum readRest readExpression readVariable operandFrom readOperand sumAt expressionAt isInside cellOf variableValue lower opensTooMany wantingFault numberFault readFault joinSights sight isWritable writeFault idFault countFault isAmong areApart movesFault numberOf isRemoval assignedAt assignmentAt commandAt unindexedAt actionAt movesAt actionsAt lineParts bodyAt restAt lineAt joinTruths joinValues valueOver conditionValue rightValue variableAt linesFrom linesRead rankIn namesKnown curvesSound allKnown namedLines soundLines powerOn grownCells inputCells beatCells allRanged isCell areCells allZero isFifoSound areFifos isFlag areFlags isActCount areActCounts oneMore countedActs stateSound isSound writeCell writeInside writeTo takenAt assignmentOf actionOf actionsOf tries acts remembers takesTurn doTurn tryTurn turnOf turnsFrom areInputs beatBegun beatEnded wholeBeat beatAnswer beatBuffer step runFrom run wordToken written isFit numberToken wordFirst behindPoint numberWith numberFirst signFirst firstToken tokensFrom tokensOf emptySet withoutMark withLine curveFault signOf sumOf productOf _times_ _plus_ polynomialOf limitedTo curveOf limitsFault judgedCurve numberPlace parameterAt partAt partBehind curveFrom endedBy definedBy isDefining definitionAt isGiven isSynfct synfctFault synfctAt curvesFrom curveAssigned synfctOf nearestUnits markerOf beatCount fits appendAnswer appended shifted changeAnswer changed changeFifo writeFifo freshChannels thousandthsOf signedThousandths nearestEven isChannel areChannels allGood valuesSampled channelsSampled sampledAll
 curve-run = refl

@@ -16,7 +16,7 @@ use Rattle.engine.specs.Order.{orderBytes}
 use Rattle.engine.specs.Action.{World, Did}
 use Rattle.engine.specs.Actions.{actionsOf}
 use Rattle.engine.specs.Turn.{counted}
-use Rattle.demands.specs.Acts.{isActed}
+use Rattle.engine.specs.ActCount.{isActed}
 
 -- ---- one line, of rank k: the world x in which its turn comes, the world y after it
 

@@ -29,7 +29,8 @@ use Rattle.engine.specs.Write.{writeTo}
 use Rattle.engine.specs.Keyword.{tries, acts, remembers}
 use Rattle.engine.specs.Turn.{Entry, worked, Turned, remembered, takesTurn, doTurn, tryTurn, turnOf}
 use Rattle.tokens.specs.AnswerLaws.{Ok, is-ok, bind-ok}
-use Rattle.demands.specs.ActionRuleLaws.{synfct-variables, Fair, actions-fair, Noted, actions-noted}
+use Rattle.soundness.specs.ActedLaws.{synfct-variables, Fair, actions-fair}
+use Rattle.demands.specs.ActionRuleLaws.{Noted, actions-noted}
 use Rattle.demands.specs.Deed.{LeftAlone, acting, DidAll, bytesOf, Each, Gave}
 
 -- ---- orders, one behind the other

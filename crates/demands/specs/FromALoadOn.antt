@@ -5,7 +5,7 @@ use mathlib.Core.Path.{_≡_, refl, ap, _∙_}
 use mathlib.Core.Logic.{_≢_}
 use mathlib.Core.Bool.{true, false}
 use mathlib.Core.List.{List, [], _∷_, _++_}
-use Prim.Native.Nat.{ℕ, _*_, _<_, _≤_}
+use Prim.Native.Nat.{ℕ, min, _*_, _<_, _≤_}
 use lib.ListN.{length, getD, drop}
 use Rattle.tokens.specs.Token.{WHEN, EVERY}
 use Rattle.tokens.specs.Descent.{good}
@@ -17,13 +17,18 @@ use Rattle.engine.specs.Turn.{Turned, turnsFrom}
 use Rattle.engine.specs.Order.{orderSize}
 use Rattle.engine.specs.Beat.{beatAnswer, beatBuffer, Given, beatBegun}
 use Rattle.reader.specs.Load.{loadAnswer, loadSet}
-use Rattle.demands.specs.History.{wasTrue}
+use Rattle.demands.specs.History.{isCancelled, isLocked, wasTrue}
 use Rattle.demands.specs.Run.{Rest}
-use Rattle.demands.specs.Acts.{isActed, conditionNow, actedSince}
+use Rattle.engine.specs.ActCount.{actsTop, isActed}
+use Rattle.engine.specs.Status.{standingOf, noStatus, statusOf}
+use Rattle.demands.specs.Acts.{conditionNow, actedSince}
 use Rattle.demands.specs.Demand3.{withFlags, step-same, load-same}
 use Rattle.demands.specs.Deed.{bytesOf, Each, OfActed}
 use Rattle.demands.specs.Consequences.{once, edge}
 use Rattle.demands.specs.WhatWasDone.{AtItsTurn, at-its-turn, no-other-bit, orders-of-acting-lines}
+use Rattle.demands.specs.RuleCount.{actsSinceStart}
+use Rattle.demands.specs.CountSays.{count-says-the-record}
+use Rattle.demands.specs.StatusSays.{status-says-the-record}
 use Rattle.demands.specs.Asks.{Ask, doLoad, doCall, Standing, newlyLoaded, askAll, standing, newlyLoadedByRule, askAllByRule, standingByRule, lastText, callsSince}
 use Rattle.demands.specs.AskLaws.{load-power-on, refused-no-set, ranOver, load-ran, asks-ran}
 
@@ -70,6 +75,16 @@ module _ (t u : List ℕ) (qs : List Ask) where
   refused-load-empties h = ap (λ n. n .set) load-begins-anew ∙ refused-no-set u h
 
 -- ---- what follows, of a beat after a load and any asks
+
+-- the count of a line of the set is, up to the top, how often it acted by the rule, over the calls since the last load: since that load or the last reset that left it live
+pub count-from-a-load : (t : List ℕ) (qs : List Ask) → let n = standing t qs in (k : ℕ) → k < soundLines (n .set) .count → getD (n .since .kept .acts) k 0 ≡ min actsTop (actsSinceStart (n .set) (callsSince [] qs) k)
+count-from-a-load t qs = rw (since-the-load t qs) (count-says-the-record (loadSet (lastText t qs)) (callsSince [] qs))
+
+-- and so the status picture tells it, with what the history since that load says of locks and cancels
+pub status-from-a-load : (t : List ℕ) (qs : List Ask) → let n = standing t qs in statusOf (n .set) (n .since .kept) .code ≡ 0 → (k : ℕ) → k < soundLines (n .set) .count →
+    let l = getD (soundLines (n .set) .items) k noLine in let r = n .since .history in
+    getD (statusOf (n .set) (n .since .kept) .lines) k noStatus ≡ record { ids = l .ids; number = l .number; standing = standingOf (isCancelled (l .ids) k r) (isLocked k r); acts = min actsTop (actsSinceStart (n .set) (callsSince [] qs) k) }
+status-from-a-load t qs = rw (since-the-load t qs) (status-says-the-record (loadSet (lastText t qs)) (callsSince [] qs))
 
 module _ (t : List ℕ) (qs : List Ask) (g : Given) where
   -- for every line of the set, in a beat that answers 0: it takes a turn and acts by the rule; where it did not act it left all alone, and where it acted it did all its actions

@@ -1,4 +1,4 @@
--- Demand 3. History, Run, Acts and Deed are the definitions; Demand3, Consequences, WhatWasDone, Refusals and EngineUnique the theorems, in their order; the files named ..Laws
+-- Demand 3. History, Run, Acts, Deed, RuleCount and Asks are the definitions; Demand3, Consequences, WhatWasDone, Refusals, CountSays, StatusSays, FromALoadOn and EngineUnique the theorems, in their order; the files named ..Laws
 -- hold what these need; Cases, CurveCases and PTable are computed.
 pub mod History
 pub mod Run
@@ -12,10 +12,14 @@ pub mod DeedLaws
 pub mod ActLaws
 pub mod Consequences
 pub mod WhatWasDone
+pub mod Refusals
+pub mod RuleCount
+pub mod RuleCountLaws
+pub mod CountSays
+pub mod StatusSays
 pub mod Asks
 pub mod AskLaws
 pub mod FromALoadOn
-pub mod Refusals
 pub mod EngineUnique
 pub mod Cases
 pub mod CurveCases

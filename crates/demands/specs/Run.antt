@@ -131,13 +131,14 @@ pub record Rest : Type 0 where
   pub cells : List ℤ
   pub runs : List Bool
   pub channels : List Channel
+  pub acts : List ℕ
 
 abbrev pub restOf : State → Rest
-restOf st = record { r = st .r; cells = st .cells; runs = st .runs; channels = st .channels }
+restOf st = record { r = st .r; cells = st .cells; runs = st .runs; channels = st .channels; acts = st .acts }
 
 -- the state with these flags
 abbrev pub withRest : Rest → List Bool → List Bool → List Bool → State
-withRest v locked cancelled memory = record { r = v .r; cells = v .cells; runs = v .runs; channels = v .channels; locked = locked; cancelled = cancelled; memory = memory }
+withRest v locked cancelled memory = record { r = v .r; cells = v .cells; runs = v .runs; channels = v .channels; locked = locked; cancelled = cancelled; memory = memory; acts = v .acts }
 
 abbrev pub withoutFlags : Rest → State
 withoutFlags v = withRest v [] [] []

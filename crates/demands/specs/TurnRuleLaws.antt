@@ -24,7 +24,8 @@ use Rattle.demands.specs.History.{History, after, isAutomatic, isCancell
 use Rattle.demands.specs.Run.{byRank, cancelledBy, lockedBy, remembersBy, memoryBy, tryByRule, turnByRule, turnsByRule}
 use Rattle.demands.specs.FlagLaws.{byRank-at, worked-memory, lock-locked}
 use Rattle.tokens.specs.AnswerLaws.{Ok, is-ok, bind-ok}
-use Rattle.demands.specs.ActionRuleLaws.{dress, noteAll, dressDid, Live, Fair, actions-dress, actions-fair}
+use Rattle.soundness.specs.ActedLaws.{Live, Fair, actions-fair}
+use Rattle.demands.specs.ActionRuleLaws.{dress, noteAll, dressDid, actions-dress}
 
 pub after-append : (es fs : List Entry) (r : History) → after (es ++ fs) r ≡ after fs (after es r)
 after-append [] fs r = refl

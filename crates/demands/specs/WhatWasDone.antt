@@ -24,7 +24,8 @@ use Rattle.tokens.specs.AnswerLaws.{is-ok}
 use Rattle.demands.specs.History.{History, after, takesByRule}
 use Rattle.demands.specs.Run.{engineRun, runByRule, Rest, stateBy, begunBy, turnsByRule}
 use Rattle.demands.specs.Demand3.{demand-3}
-use Rattle.demands.specs.Acts.{isActed, actsNow}
+use Rattle.engine.specs.ActCount.{isActed}
+use Rattle.demands.specs.Acts.{actsNow}
 use Rattle.demands.specs.Deed.{LeftAlone, DidAll, bytesOf, Each, Gave, OfActed}
 use Rattle.demands.specs.DeedLaws.{bytes-length, LeftOrDid, turn-took}
 use Rattle.demands.specs.ActLaws.{turns-gave}

@@ -1,4 +1,4 @@
--- Laws of the host's calls: what a call answers, and the turns of reset's two loops.
+-- Laws of the host's calls: what a call answers, and the turns of reset's loops.
 use mathlib.Core.Path.{_≡_, refl, sym, ap, _∙_}
 use mathlib.Core.Bool.{Bool, true, false, or-true, or-false}
 use mathlib.Core.List.{List, _++_, append-assoc}
@@ -19,6 +19,8 @@ use Rattle.engine.specs.declared.calls.Called.{Called}
 use Rattle.engine.specs.declared.named_line.Found.{Found}
 use Rattle.working.specs.Variables.{timerCount, markerAt, countAt}
 use Rattle.engine.specs.Set.{noLine, soundLines}
+use Rattle.engine.specs.ActCount.{resetActs}
+use Rattle.engine.specs.ActCountLaws.{recounts-later}
 use Rattle.engine.specs.Sound.{isSound}
 use Rattle.engine.specs.ResetLaws.{reset-keeps}
 use Rattle.engine.specs.Calls.{called, resetCancelled, zeroed, resetState, resetCall}
@@ -59,6 +61,22 @@ module _ (ls : List Line) (cs : List Bool) where
         let h : getD cs k false ≡ getD (resetCancelled ls cs k) k false = sym (reset-keeps ls cs k k (omega arith)) in
         rw (e, add-one k, z, or-false, h, set-getD)
 
+module _ (cs : List Bool) (ns : List ℕ) where
+  pub recount-none : ns ≡ resetActs cs ns 0
+  unfolding resetActs
+  recount-none = refl
+
+  module _ (k : ℕ) (x : List ℕ) (e : x ≡ resetActs cs ns k) where
+    pub recount-live : getD cs k false ≡ false → set x k 0 ≡ resetActs cs ns (k + 1)
+    unfolding resetActs
+    recount-live z = rw (e, add-one k, z)
+
+    pub recount-cancelled : getD cs k false ≡ true → x ≡ resetActs cs ns (k + 1)
+    unfolding resetActs
+    recount-cancelled z =
+        let h : getD ns k 0 ≡ getD (resetActs cs ns k) k 0 = sym (recounts-later cs ns k k (omega arith)) in
+        rw (e, add-one k, z, h, set-getD)
+
 -- cells from one place on, zero up to place i
 module _ (from : ℕ) (c : List ℤ) where
   unfoldable pub zeroTo : ℕ → List ℤ
@@ -85,8 +103,8 @@ module _ (s : List ℕ) (st : State) where
   unfolding resetCall
   reset-unsound z = rw (resetCall, z)
 
-  -- the lines of the set are l, the cells cs and the cancelled lines xs
+  -- the lines of the set are l, the cells cs, the cancelled lines xs and the counts ns
   pub reset-sound : isSound s st ≡ true → (l : Lines) → l ≡ soundLines s → (cs : List ℤ) → cs ≡ zeroed (st .cells) → (xs : List Bool) → xs ≡ resetCancelled (l .items) (st .cancelled) (l .count)
-      → resetCall s st ≡ record { code = 0; state = record { r = st .r; cells = cs; runs = replicate timerCount false; channels = st .channels; locked = replicate maxLines false; cancelled = xs; memory = replicate maxLines false } }
+      → (ns : List ℕ) → ns ≡ resetActs xs (st .acts) maxLines → resetCall s st ≡ record { code = 0; state = record { r = st .r; cells = cs; runs = replicate timerCount false; channels = st .channels; locked = replicate maxLines false; cancelled = xs; memory = replicate maxLines false; acts = ns } }
   unfolding resetCall resetState
-  reset-sound z l e cs g xs h = rw (h, g, e) (rw (resetCall, z))
+  reset-sound z l e cs g xs h ns n = rw (n, h, g, e) (rw (resetCall, z))

@@ -12,6 +12,7 @@ use Rattle.values.specs.Codes.{notAllowed}
 use Rattle.values.specs.Numbers.{clash}
 use Rattle.values.specs.Value.{inRange, equalTo, outputOf}
 use Rattle.values.specs.declared.arithmetic.Worked.the-variants.{Value, Alarm}
+use Rattle.engine.specs.ActCount.{isActCount, areActCounts}
 use Rattle.engine.specs.Sound.{allRanged, isCell, areCells, allZero, isFifoSound, areFifos, isFlag, areFlags, stateSound, isSound}
 use Rattle.tokens.specs.Token.{maxLines}
 use Rattle.working.specs.Variables.{fifos}
@@ -96,6 +97,16 @@ module _ (count : ℕ) (locked cancelled memory : List Bool) (k : ℕ) where
   unfolding areFlags
   flags-done zero h g = and-done g refl
   flags-done (suc m) h g = absurd (omega arith)
+
+module _ (count : ℕ) (acts : List ℕ) (k : ℕ) where
+  pub counts-next : k < maxLines → (x : Bool) → x ≡ isActCount count k (getD acts k 0) → (g : Bool) → ((g && x) && areActCounts count acts (maxLines - (k + 1)) (k + 1)) ≡ (g && areActCounts count acts (maxLines - k) k)
+  unfolding areActCounts
+  counts-next l x = number-next (λ i. isActCount count i (getD acts i 0)) (areActCounts count acts) (λ m k. refl) maxLines k l x
+
+  pub counts-done : (m : ℕ) → m ≤ 0 → (g : Bool) → g ≡ (g && areActCounts count acts m k)
+  unfolding areActCounts
+  counts-done zero h g = and-done g refl
+  counts-done (suc m) h g = absurd (omega arith)
 
 -- ---- an output: an alarm of `output` is not 0
 

@@ -17,6 +17,8 @@ use Rattle.engine.specs.declared.one_beat.Beaten.{Beaten}
 use Rattle.engine.specs.Set.{soundLines}
 use Rattle.engine.specs.Order.{orderSize, maxOrders}
 use Rattle.working.specs.Variables.{inputCount, positionCount}
+use Rattle.tokens.specs.Token.{maxLines}
+use Rattle.engine.specs.ActCount.{countedActs}
 use Rattle.engine.specs.Cells.{beatCells}
 use Rattle.engine.specs.Sound.{isSound, stateSound, allRanged}
 use Rattle.engine.specs.Action.{World}
@@ -55,7 +57,7 @@ begunWith st word values lent = record {
 unfoldable pub beatBegun : State → Given → World
 beatBegun st g = begunWith st (g .word) (samplesIn st g .values) (g .lent)
 
--- the state as it ends, the channels then keeping these
+-- the state as it ends, the channels then keeping these; each line that acted counts one more
 unfoldable pub beatEnded : State → List Channel → World → State
 beatEnded st kept x = record {
   r = x .vars .r;
@@ -65,6 +67,7 @@ beatEnded st kept x = record {
   locked = x .locked;
   cancelled = st .cancelled;
   memory = x .memory;
+  acts = countedActs (st .acts) (x .acted) maxLines;
 }
 
 -- its turns, over these lines

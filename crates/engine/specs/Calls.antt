@@ -14,12 +14,13 @@ use Rattle.engine.specs.NamedLine.{found}
 use Rattle.tokens.specs.Token.{maxLines}
 use Rattle.working.specs.Variables.{timerCount, markerAt, countAt}
 use Rattle.engine.specs.Set.{noLine, soundLines}
+use Rattle.engine.specs.ActCount.{resetActs}
 use Rattle.engine.specs.Sound.{isSound}
 
 abbrev pub withLocked : State → ℕ → Bool → State
-withLocked st k b = record { r = st .r; cells = st .cells; runs = st .runs; channels = st .channels; locked = set (st .locked) k b; cancelled = st .cancelled; memory = st .memory }
+withLocked st k b = record { r = st .r; cells = st .cells; runs = st .runs; channels = st .channels; locked = set (st .locked) k b; cancelled = st .cancelled; memory = st .memory; acts = st .acts }
 
--- cancelling clears the line's lock and memory
+-- cancelling clears the line's lock and memory; its count stays
 abbrev pub withCancelled : State → ℕ → State
 withCancelled st k = record {
   r = st .r;
@@ -29,6 +30,7 @@ withCancelled st k = record {
   locked = set (st .locked) k false;
   cancelled = set (st .cancelled) k true;
   memory = set (st .memory) k false;
+  acts = st .acts;
 }
 
 -- the state that `change` gives for its rank; refused, the state as given
@@ -56,7 +58,7 @@ resetCancelled ls cs (suc n) = set (resetCancelled ls cs n) n (getD cs n false |
 unfoldable pub zeroed : List ℤ → List ℤ
 zeroed c = take markerAt c ++ (replicate (countAt - markerAt) (pos 0) ++ drop countAt c)
 
--- reset cancels every ID line, unlocks and clears the memory of IDS lines, zeroes markers and parameters, stops timers at 0; R, FIFOs, outputs and what the channels keep stay
+-- reset cancels every ID line, unlocks and clears the memory of IDS lines, zeroes markers and parameters, stops timers at 0; R, FIFOs, outputs and what the channels keep stay; the counts of lines still live begin at 0
 unfoldable pub resetState : List Line → ℕ → State → State
 resetState ls count st = record {
   r = st .r;
@@ -66,6 +68,7 @@ resetState ls count st = record {
   locked = replicate maxLines false;
   cancelled = resetCancelled ls (st .cancelled) count;
   memory = replicate maxLines false;
+  acts = resetActs (resetCancelled ls (st .cancelled) count) (st .acts) maxLines;
 }
 
 unfoldable pub resetCall : List ℕ → State → Called

@@ -13,10 +13,12 @@ use Rattle.engine.specs.declared.state.State.{State}
 use Rattle.engine.specs.declared.one_beat.BeatCode.{BeatCode}
 use Rattle.engine.specs.Order.{orderSize}
 use Rattle.working.specs.Variables.{inputCount}
+use Rattle.tokens.specs.Token.{maxLines}
+use Rattle.engine.specs.ActCount.{countedActs}
 use Rattle.engine.specs.Turn.{Turned, turnsFrom}
 use Rattle.engine.specs.Beat.{Given, begunWith, beatOver}
 
--- R, the cells of a beat (those of the inputs, then those of the state), which timers run, what the channels keep, locks, memory, the order buffer
+-- R, the cells of a beat (those of the inputs, then those of the state), which timers run, what the channels keep, locks, memory, how often each line acted, the order buffer
 pub record Held : Type 0 where
   pub r : List ℤ
   pub cells : List ℤ
@@ -24,14 +26,15 @@ pub record Held : Type 0 where
   pub channels : List Channel
   pub locked : List Bool
   pub memory : List Bool
+  pub acts : List ℕ
   pub buffer : List ℕ
 
-abbrev pub heldIn : List ℤ → List ℤ → List Bool → List Channel → List Bool → List Bool → List ℕ → Held
-heldIn r c runs channels locked memory b = record { r = r; cells = c; runs = runs; channels = channels; locked = locked; memory = memory; buffer = b }
+abbrev pub heldIn : List ℤ → List ℤ → List Bool → List Channel → List Bool → List Bool → List ℕ → List ℕ → Held
+heldIn r c runs channels locked memory acts b = record { r = r; cells = c; runs = runs; channels = channels; locked = locked; memory = memory; acts = acts; buffer = b }
 
 -- the state that is held
 abbrev pub stateHeld : List Bool → Held → State
-stateHeld cancelled h = record { r = h .r; cells = drop inputCount (h .cells); runs = h .runs; channels = h .channels; locked = h .locked; cancelled = cancelled; memory = h .memory }
+stateHeld cancelled h = record { r = h .r; cells = drop inputCount (h .cells); runs = h .runs; channels = h .channels; locked = h .locked; cancelled = cancelled; memory = h .memory; acts = h .acts }
 
 abbrev pub givenTo : Held → Bool → ℕ → List Reading → List ℤ → Given
 givenTo h automatic word readings lent = record { automatic = automatic; word = word; readings = readings; lent = lent; buffer = h .buffer }
@@ -61,6 +64,7 @@ heldAfter h kept (good t) = record {
   channels = kept;
   locked = t .world .locked;
   memory = t .world .memory;
+  acts = countedActs (h .acts) (t .world .acted) maxLines;
   buffer = t .world .orders ++ drop (length (t .world .orders)) (h .buffer);
 }
 heldAfter h kept (stop k) = h

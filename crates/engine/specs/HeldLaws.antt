@@ -49,21 +49,21 @@ unfolding spreadCells
 cells-back c = drop-at (replicate inputCount (pos 0)) c inputCount refl
 
 -- its cells are spread
-pub state-apart : (st : State) {c : List ℤ} (b : List ℕ) → c ≡ spreadCells (st .cells) → stateHeld (st .cancelled) (heldIn (st .r) c (st .runs) (st .channels) (st .locked) (st .memory) b) ≡ st
-state-apart st b e = ap (λ (x : List ℤ). record { r = st .r; cells = x; runs = st .runs; channels = st .channels; locked = st .locked; cancelled = st .cancelled; memory = st .memory }) (ap (drop inputCount) e ∙ cells-back (st .cells))
+pub state-apart : (st : State) {c : List ℤ} (b : List ℕ) → c ≡ spreadCells (st .cells) → stateHeld (st .cancelled) (heldIn (st .r) c (st .runs) (st .channels) (st .locked) (st .memory) (st .acts) b) ≡ st
+state-apart st b e = ap (λ (x : List ℤ). record { r = st .r; cells = x; runs = st .runs; channels = st .channels; locked = st .locked; cancelled = st .cancelled; memory = st .memory; acts = st .acts }) (ap (drop inputCount) e ∙ cells-back (st .cells))
 
 -- what is held, array by array
-pub held-is : {h : Held} {r c : List ℤ} {runs : List Bool} {channels : List Channel} {locked memory : List Bool} {b : List ℕ} → r ≡ h .r → c ≡ h .cells → runs ≡ h .runs → channels ≡ h .channels → locked ≡ h .locked → memory ≡ h .memory → b ≡ h .buffer →
-    heldIn r c runs channels locked memory b ≡ h
-held-is p q r s t u v = rw (p, q, r, s, t, u, v)
+pub held-is : {h : Held} {r c : List ℤ} {runs : List Bool} {channels : List Channel} {locked memory : List Bool} {acts b : List ℕ} → r ≡ h .r → c ≡ h .cells → runs ≡ h .runs → channels ≡ h .channels → locked ≡ h .locked → memory ≡ h .memory → acts ≡ h .acts → b ≡ h .buffer →
+    heldIn r c runs channels locked memory acts b ≡ h
+held-is p q r s t u v w = rw (p, q, r, s, t, u, v, w)
 
 -- it is put together again
 module _ (st : State) (h : Held) (channels : List Channel) (e : stateHeld (st .cancelled) h ≡ st) where
   put-together : (y : Answer Turned) →
       _≡_ {A = Beaten} (let x = turnedCode (h .channels) channels y in record { code = x .code; orders = x .orders; acted = x .acted; state = stateHeld (st .cancelled) (heldAfter h channels y) }) (turnedAnswer st channels y)
   unfolding beatEnded
-  put-together (good t) = refl
-  put-together (stop k) = ap (λ (x : State). record { code = k; orders = 0; acted = 0; state = x }) e
+  put-together (good t) = ap (λ (x : State). turnedAnswer x channels (good t)) e
+  put-together (stop k) = ap (λ (x : State). turnedAnswer x channels (stop k)) e
 
   buffer-left : (y : Answer Turned) → heldAfter h channels y .buffer ≡ buffered (h .buffer) y
   buffer-left (good t) = refl
@@ -71,6 +71,6 @@ module _ (st : State) (h : Held) (channels : List Channel) (e : stateHeld (st .c
 
   -- what the beat in place answered and left, where kept is the state's part of the cells
   pub put-back : {y z : Answer Turned} → y ≡ z → {x : BeatCode} {k : Held} {kept : List ℤ} → x ≡ turnedCode (h .channels) channels y → k ≡ heldAfter h channels y → kept ≡ drop inputCount (k .cells) →
-      (_≡_ {A = Beaten} (record { code = x .code; orders = x .orders; acted = x .acted; state = record { r = k .r; cells = kept; runs = k .runs; channels = k .channels; locked = k .locked; cancelled = st .cancelled; memory = k .memory } }) (turnedAnswer st channels z))
+      (_≡_ {A = Beaten} (record { code = x .code; orders = x .orders; acted = x .acted; state = record { r = k .r; cells = kept; runs = k .runs; channels = k .channels; locked = k .locked; cancelled = st .cancelled; memory = k .memory; acts = k .acts } }) (turnedAnswer st channels z))
       × (k .buffer ≡ buffered (h .buffer) z)
   put-back {y} {z} p q r t = rw (t, q, r, p) (put-together z, buffer-left z)

@@ -1,5 +1,5 @@
 -- In the order in which they are read. Files ending in Answers say how the code holds what a definition gives, files ending in Laws what follows from them.
--- Set and state: Set, ReadLines, State, Sound. The host's calls: NamedLine, Calls. Orders and writes: Order, Drive, Write.
+-- Set and state: Set, ReadLines, State, ActCount, Sound. The host's calls: NamedLine, Calls, Status. Orders and writes: Order, Drive, Write.
 -- Actions: Action, Assigned, Actions. Turns: Keyword, Turn. The beat: Timers, Cells, Beat, Held.
 pub mod Set
 pub mod TableLaws
@@ -9,10 +9,13 @@ pub mod NamesByTreeLaws
 pub mod ReadLines
 pub mod ReadLinesLaws
 pub mod State
+pub mod ActCount
+pub mod ActCountLaws
 pub mod Sound
 pub mod NamedLine
 pub mod Calls
 pub mod ResetLaws
+pub mod Status
 pub mod Order
 pub mod OrderLaws
 pub mod Drive

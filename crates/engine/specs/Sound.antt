@@ -12,6 +12,7 @@ use Rattle.working.specs.Variables.{asCount, run, countIn, fifos, markerAt, par
 use Rattle.engine.specs.declared.state.State.{State}
 use Rattle.tokens.specs.Token.{maxLines}
 use Rattle.engine.specs.Set.{soundLines}
+use Rattle.engine.specs.ActCount.{areActCounts}
 
 -- all values within range
 unfoldable pub allRanged : List ℤ → Bool
@@ -60,7 +61,7 @@ areFlags count locked cancelled memory (suc m) k =
 
 unfoldable pub stateSound : ℕ → State → Bool
 stateSound count st =
-    allRanged (st .r) && (areCells (st .cells) 0 && (areFifos (st .r) (st .cells) fifos 0 && (areChannels (st .channels) channelCount && areFlags count (st .locked) (st .cancelled) (st .memory) maxLines 0)))
+    allRanged (st .r) && (areCells (st .cells) 0 && (areFifos (st .r) (st .cells) fifos 0 && (areChannels (st .channels) channelCount && (areFlags count (st .locked) (st .cancelled) (st .memory) maxLines 0 && areActCounts count (st .acts) maxLines 0))))
 
 -- a set and a state are sound: of the set are asked the places that its lines use (Set), of the state all places
 unfoldable pub isSound : List ℕ → State → Bool

@@ -2,6 +2,7 @@
 ghost use mathlib.Core.Path.{_≡_};
 ghost use Prim.Native.Nat.{_≤_};
 ghost use lib.ListN.{length};
+ghost use Rattle.engine.specs.ActCount.{resetActs};
 ghost use Rattle.engine.specs.Calls.{lockCall, unlockCall, cancelCall, resetCancelled, resetCall, lockedCall, zeroed};
 ghost use Rattle.working.specs.Variables.{countAt};
 ghost use Rattle.tokens.specs.Token.{maxLines};
@@ -112,7 +113,22 @@ fn zero_cells(cells: &mut [i32])
     }
 }
 
-// Reset: ID lines are cancelled, IDS lines unlocked and their memory cleared, markers and parameters 0, timers stopped at 0; R, FIFOs, outputs and what the channels keep stay.
+// A line that is still live counts from 0 again; a cancelled one keeps its count.
+fn reset_acts(cancelled: &[bool; LINES], acts: [u32; LINES]) -> [u32; LINES]
+    ensures { λ x. ⌜ x ≡ resetActs (now (cancelled .entry)) acts maxLines ⌝ }
+{
+    let mut next = acts;
+    let mut k: usize = 0;
+    while k < LINES {
+        if !cancelled[k] {
+            next[k] = 0;
+        }
+        k += 1;
+    }
+    next
+}
+
+// Reset: ID lines are cancelled, IDS lines unlocked and their memory cleared, markers and parameters 0, timers stopped at 0; the counts of lines still live begin at 0; R, FIFOs, outputs and what the channels keep stay.
 pub fn reset(set: &[u32; SIZE], state: State) -> Called
     ensures { λ x. ⌜ x ≡ resetCall (now (set .entry)) state ⌝ }
 {
@@ -136,6 +152,8 @@ pub fn reset(set: &[u32; SIZE], state: State) -> Called
     let channels = state.channels;
     let was = state.cancelled;
     let cancelled = cancel_ids(lines, was);
+    let counts = state.acts;
+    let acts = reset_acts(&cancelled, counts);
     let next = State {
         r: r,
         cells: cells,
@@ -144,6 +162,7 @@ pub fn reset(set: &[u32; SIZE], state: State) -> Called
         locked: [false; LINES],
         cancelled: cancelled,
         memory: [false; LINES],
+        acts: acts,
     };
     Called {
         code: 0,

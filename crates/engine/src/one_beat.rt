@@ -1,14 +1,18 @@
 // A beat: its checks 22, 20, 21, 23 in that order, the timers' growth, the turns by rising number, and the undoing of all by the first alarm.
 ghost use mathlib.Core.Path.{_≡_};
+ghost use mathlib.Core.Bool.{cond};
 ghost use mathlib.Core.List.{_++_};
 ghost use Prim.Native.Nat.{_≤_};
+ghost use lib.Dec.{eqb};
 ghost use lib.ListN.{length, take, drop};
 ghost use Rattle.working.specs.Variables.{analogueCount, positionCount};
+ghost use Rattle.engine.specs.ActCount.{oneMore, countedActs};
 ghost use Rattle.engine.specs.Beat.{bufferSize, areInputs, beatAnswer, beatBuffer};
 ghost use Rattle.engine.specs.Held.{heldIn, heldAfter, keptHeld, turnedCode, turnsHeld, beatHeld};
 ghost use Rattle.engine.specs.ReadLines.{linesIn};
 ghost use Rattle.engine.specs.Order.{maxOrders};
 ghost use Rattle.tokens.specs.Token.{maxLines};
+use crate::action::Done;
 use crate::action::Progress;
 use crate::cells::begin_cells;
 use crate::cells::kept_cells;
@@ -21,6 +25,7 @@ use crate::read::count_of;
 use crate::read::read_lines;
 use crate::sound::all_ranged;
 use crate::sound::is_held_sound;
+use crate::state::ACTS_TOP;
 use crate::state::State;
 use crate::turn::turns;
 use couplers::channel::CHANNELS;
@@ -78,6 +83,47 @@ fn copy_orders(orders: &mut [u8], out: &[u8; ORDERS], n: usize)
     }
 }
 
+// One more where the bit is 1, up to the top.
+fn one_more(acts: u32, bit: u64) -> u32
+    ensures { λ x. ⌜ x ≡ oneMore acts (eqb bit 1) ⌝ }
+{
+    if bit == 1 {
+        if acts < ACTS_TOP {
+            return acts + 1;
+        }
+        return acts;
+    }
+    acts
+}
+
+// Each line of this word counts one more.
+fn count_acts(acts: &mut [u32; LINES], word: u64)
+    ensures { λ x. ⌜ now (acts .exit) ≡ countedActs (now (acts .entry)) word maxLines ⌝ }
+{
+    let mut rest = word;
+    let mut k: usize = 0;
+    while k < LINES {
+        if rest == 0 {
+            return;
+        }
+        acts[k] = one_more(acts[k], rest % 2);
+        rest /= 2;
+        k += 1;
+    }
+}
+
+// The lines whose acts count: those of a beat that no alarm undid.
+fn counted(d: Done) -> u64
+    ensures { λ x. ⌜ x ≡ cond (d .good) (d .progress .acted) 0 ⌝ }
+{
+    let good = d.good;
+    let f = d.progress;
+    if !good {
+        return 0;
+    }
+    f.acted
+}
+
 fn refused(code: u8, before: [Channel; CHANNELS]) -> BeatCode
     ensures { λ x. ⌜ x ≡ record { code = code; orders = 0; acted = 0; channels = before } ⌝ }
 {
@@ -112,6 +158,7 @@ fn all_turns(
     locked: &mut [bool; LINES],
     cancelled: &[bool; LINES],
     memory: &mut [bool; LINES],
+    acts: &mut [u32; LINES],
     before: [Channel; CHANNELS],
     kept: [Channel; CHANNELS],
     automatic: bool,
@@ -121,8 +168,8 @@ fn all_turns(
     orders: &mut [u8],
 ) -> BeatCode
     requires { ⌜ (linesIn (now lines) .count ≤ maxLines) × ((length (now values) ≡ analogueCount) × ((length (now lent) ≡ positionCount) × (bufferSize ≤ length (now orders)))) ⌝ }
-    ensures { λ x. ⌜ x ≡ turnedCode before kept (turnsHeld (now (set .entry)) (linesIn (now (lines .entry))) (now (cancelled .entry)) (heldIn (now (r .entry)) (now (cells .entry)) (now (runs .entry)) before (now (locked .entry)) (now (memory .entry)) (now (orders .entry))) automatic inputs (now (values .entry)) (now (lent .entry))) ⌝ }
-    ensures { λ x. ⌜ heldIn (now (r .exit)) (now (cells .exit)) (now (runs .exit)) (x .channels) (now (locked .exit)) (now (memory .exit)) (now (orders .exit)) ≡ heldAfter (heldIn (now (r .entry)) (now (cells .entry)) (now (runs .entry)) before (now (locked .entry)) (now (memory .entry)) (now (orders .entry))) kept (turnsHeld (now (set .entry)) (linesIn (now (lines .entry))) (now (cancelled .entry)) (heldIn (now (r .entry)) (now (cells .entry)) (now (runs .entry)) before (now (locked .entry)) (now (memory .entry)) (now (orders .entry))) automatic inputs (now (values .entry)) (now (lent .entry))) ⌝ }
+    ensures { λ x. ⌜ x ≡ turnedCode before kept (turnsHeld (now (set .entry)) (linesIn (now (lines .entry))) (now (cancelled .entry)) (heldIn (now (r .entry)) (now (cells .entry)) (now (runs .entry)) before (now (locked .entry)) (now (memory .entry)) (now (acts .entry)) (now (orders .entry))) automatic inputs (now (values .entry)) (now (lent .entry))) ⌝ }
+    ensures { λ x. ⌜ heldIn (now (r .exit)) (now (cells .exit)) (now (runs .exit)) (x .channels) (now (locked .exit)) (now (memory .exit)) (now (acts .exit)) (now (orders .exit)) ≡ heldAfter (heldIn (now (r .entry)) (now (cells .entry)) (now (runs .entry)) before (now (locked .entry)) (now (memory .entry)) (now (acts .entry)) (now (orders .entry))) kept (turnsHeld (now (set .entry)) (linesIn (now (lines .entry))) (now (cancelled .entry)) (heldIn (now (r .entry)) (now (cells .entry)) (now (runs .entry)) before (now (locked .entry)) (now (memory .entry)) (now (acts .entry)) (now (orders .entry))) automatic inputs (now (values .entry)) (now (lent .entry))) ⌝ }
 {
     let before_r = *r;
     let before_cells = *cells;
@@ -143,6 +190,7 @@ fn all_turns(
         memory,
         &mut out,
     );
+    count_acts(acts, counted(d));
     let good = d.good;
     if !good {
         *r = before_r;
@@ -167,6 +215,7 @@ fn beat_held(
     locked: &mut [bool; LINES],
     cancelled: &[bool; LINES],
     memory: &mut [bool; LINES],
+    acts: &mut [u32; LINES],
     channels: [Channel; CHANNELS],
     automatic: bool,
     inputs: u16,
@@ -174,8 +223,8 @@ fn beat_held(
     lent: &[i32],
     orders: &mut [u8],
 ) -> BeatCode
-    ensures { λ x. ⌜ x ≡ turnedCode channels (keptHeld (heldIn (now (r .entry)) (now (cells .entry)) (now (runs .entry)) channels (now (locked .entry)) (now (memory .entry)) (now (orders .entry))) readings) (beatHeld (now (set .entry)) (linesIn (now (lines .entry))) (now (cancelled .entry)) (heldIn (now (r .entry)) (now (cells .entry)) (now (runs .entry)) channels (now (locked .entry)) (now (memory .entry)) (now (orders .entry))) automatic inputs readings (now (lent .entry))) ⌝ }
-    ensures { λ x. ⌜ heldIn (now (r .exit)) (now (cells .exit)) (now (runs .exit)) (x .channels) (now (locked .exit)) (now (memory .exit)) (now (orders .exit)) ≡ heldAfter (heldIn (now (r .entry)) (now (cells .entry)) (now (runs .entry)) channels (now (locked .entry)) (now (memory .entry)) (now (orders .entry))) (keptHeld (heldIn (now (r .entry)) (now (cells .entry)) (now (runs .entry)) channels (now (locked .entry)) (now (memory .entry)) (now (orders .entry))) readings) (beatHeld (now (set .entry)) (linesIn (now (lines .entry))) (now (cancelled .entry)) (heldIn (now (r .entry)) (now (cells .entry)) (now (runs .entry)) channels (now (locked .entry)) (now (memory .entry)) (now (orders .entry))) automatic inputs readings (now (lent .entry))) ⌝ }
+    ensures { λ x. ⌜ x ≡ turnedCode channels (keptHeld (heldIn (now (r .entry)) (now (cells .entry)) (now (runs .entry)) channels (now (locked .entry)) (now (memory .entry)) (now (acts .entry)) (now (orders .entry))) readings) (beatHeld (now (set .entry)) (linesIn (now (lines .entry))) (now (cancelled .entry)) (heldIn (now (r .entry)) (now (cells .entry)) (now (runs .entry)) channels (now (locked .entry)) (now (memory .entry)) (now (acts .entry)) (now (orders .entry))) automatic inputs readings (now (lent .entry))) ⌝ }
+    ensures { λ x. ⌜ heldIn (now (r .exit)) (now (cells .exit)) (now (runs .exit)) (x .channels) (now (locked .exit)) (now (memory .exit)) (now (acts .exit)) (now (orders .exit)) ≡ heldAfter (heldIn (now (r .entry)) (now (cells .entry)) (now (runs .entry)) channels (now (locked .entry)) (now (memory .entry)) (now (acts .entry)) (now (orders .entry))) (keptHeld (heldIn (now (r .entry)) (now (cells .entry)) (now (runs .entry)) channels (now (locked .entry)) (now (memory .entry)) (now (acts .entry)) (now (orders .entry))) readings) (beatHeld (now (set .entry)) (linesIn (now (lines .entry))) (now (cancelled .entry)) (heldIn (now (r .entry)) (now (cells .entry)) (now (runs .entry)) channels (now (locked .entry)) (now (memory .entry)) (now (acts .entry)) (now (orders .entry))) automatic inputs readings (now (lent .entry))) ⌝ }
 {
     if !are_sound(lines) {
         return refused(UNSOUND, channels);
@@ -189,6 +238,7 @@ fn beat_held(
         locked,
         cancelled,
         memory,
+        acts,
     ) {
         return refused(UNSOUND, channels);
     }
@@ -214,6 +264,7 @@ fn beat_held(
         locked,
         cancelled,
         memory,
+        acts,
         channels,
         kept,
         automatic,
@@ -234,6 +285,7 @@ pub fn beat_over(
     locked: &mut [bool; LINES],
     cancelled: &[bool; LINES],
     memory: &mut [bool; LINES],
+    acts: &mut [u32; LINES],
     channels: [Channel; CHANNELS],
     automatic: bool,
     inputs: u16,
@@ -241,13 +293,14 @@ pub fn beat_over(
     lent: &[i32],
     orders: &mut [u8],
 ) -> BeatCode
-    ensures { λ x. ⌜ x ≡ turnedCode channels (keptHeld (heldIn (now (r .entry)) (now (cells .entry)) (now (runs .entry)) channels (now (locked .entry)) (now (memory .entry)) (now (orders .entry))) readings) (beatHeld (now (set .entry)) (linesIn (now (lines .entry))) (now (cancelled .entry)) (heldIn (now (r .entry)) (now (cells .entry)) (now (runs .entry)) channels (now (locked .entry)) (now (memory .entry)) (now (orders .entry))) automatic inputs readings (now (lent .entry))) ⌝ }
-    ensures { λ x. ⌜ now (r .exit) ≡ heldAfter (heldIn (now (r .entry)) (now (cells .entry)) (now (runs .entry)) channels (now (locked .entry)) (now (memory .entry)) (now (orders .entry))) (keptHeld (heldIn (now (r .entry)) (now (cells .entry)) (now (runs .entry)) channels (now (locked .entry)) (now (memory .entry)) (now (orders .entry))) readings) (beatHeld (now (set .entry)) (linesIn (now (lines .entry))) (now (cancelled .entry)) (heldIn (now (r .entry)) (now (cells .entry)) (now (runs .entry)) channels (now (locked .entry)) (now (memory .entry)) (now (orders .entry))) automatic inputs readings (now (lent .entry))) .r ⌝ }
-    ensures { λ x. ⌜ now (cells .exit) ≡ heldAfter (heldIn (now (r .entry)) (now (cells .entry)) (now (runs .entry)) channels (now (locked .entry)) (now (memory .entry)) (now (orders .entry))) (keptHeld (heldIn (now (r .entry)) (now (cells .entry)) (now (runs .entry)) channels (now (locked .entry)) (now (memory .entry)) (now (orders .entry))) readings) (beatHeld (now (set .entry)) (linesIn (now (lines .entry))) (now (cancelled .entry)) (heldIn (now (r .entry)) (now (cells .entry)) (now (runs .entry)) channels (now (locked .entry)) (now (memory .entry)) (now (orders .entry))) automatic inputs readings (now (lent .entry))) .cells ⌝ }
-    ensures { λ x. ⌜ now (runs .exit) ≡ heldAfter (heldIn (now (r .entry)) (now (cells .entry)) (now (runs .entry)) channels (now (locked .entry)) (now (memory .entry)) (now (orders .entry))) (keptHeld (heldIn (now (r .entry)) (now (cells .entry)) (now (runs .entry)) channels (now (locked .entry)) (now (memory .entry)) (now (orders .entry))) readings) (beatHeld (now (set .entry)) (linesIn (now (lines .entry))) (now (cancelled .entry)) (heldIn (now (r .entry)) (now (cells .entry)) (now (runs .entry)) channels (now (locked .entry)) (now (memory .entry)) (now (orders .entry))) automatic inputs readings (now (lent .entry))) .runs ⌝ }
-    ensures { λ x. ⌜ now (locked .exit) ≡ heldAfter (heldIn (now (r .entry)) (now (cells .entry)) (now (runs .entry)) channels (now (locked .entry)) (now (memory .entry)) (now (orders .entry))) (keptHeld (heldIn (now (r .entry)) (now (cells .entry)) (now (runs .entry)) channels (now (locked .entry)) (now (memory .entry)) (now (orders .entry))) readings) (beatHeld (now (set .entry)) (linesIn (now (lines .entry))) (now (cancelled .entry)) (heldIn (now (r .entry)) (now (cells .entry)) (now (runs .entry)) channels (now (locked .entry)) (now (memory .entry)) (now (orders .entry))) automatic inputs readings (now (lent .entry))) .locked ⌝ }
-    ensures { λ x. ⌜ now (memory .exit) ≡ heldAfter (heldIn (now (r .entry)) (now (cells .entry)) (now (runs .entry)) channels (now (locked .entry)) (now (memory .entry)) (now (orders .entry))) (keptHeld (heldIn (now (r .entry)) (now (cells .entry)) (now (runs .entry)) channels (now (locked .entry)) (now (memory .entry)) (now (orders .entry))) readings) (beatHeld (now (set .entry)) (linesIn (now (lines .entry))) (now (cancelled .entry)) (heldIn (now (r .entry)) (now (cells .entry)) (now (runs .entry)) channels (now (locked .entry)) (now (memory .entry)) (now (orders .entry))) automatic inputs readings (now (lent .entry))) .memory ⌝ }
-    ensures { λ x. ⌜ now (orders .exit) ≡ heldAfter (heldIn (now (r .entry)) (now (cells .entry)) (now (runs .entry)) channels (now (locked .entry)) (now (memory .entry)) (now (orders .entry))) (keptHeld (heldIn (now (r .entry)) (now (cells .entry)) (now (runs .entry)) channels (now (locked .entry)) (now (memory .entry)) (now (orders .entry))) readings) (beatHeld (now (set .entry)) (linesIn (now (lines .entry))) (now (cancelled .entry)) (heldIn (now (r .entry)) (now (cells .entry)) (now (runs .entry)) channels (now (locked .entry)) (now (memory .entry)) (now (orders .entry))) automatic inputs readings (now (lent .entry))) .buffer ⌝ }
+    ensures { λ x. ⌜ x ≡ turnedCode channels (keptHeld (heldIn (now (r .entry)) (now (cells .entry)) (now (runs .entry)) channels (now (locked .entry)) (now (memory .entry)) (now (acts .entry)) (now (orders .entry))) readings) (beatHeld (now (set .entry)) (linesIn (now (lines .entry))) (now (cancelled .entry)) (heldIn (now (r .entry)) (now (cells .entry)) (now (runs .entry)) channels (now (locked .entry)) (now (memory .entry)) (now (acts .entry)) (now (orders .entry))) automatic inputs readings (now (lent .entry))) ⌝ }
+    ensures { λ x. ⌜ now (r .exit) ≡ heldAfter (heldIn (now (r .entry)) (now (cells .entry)) (now (runs .entry)) channels (now (locked .entry)) (now (memory .entry)) (now (acts .entry)) (now (orders .entry))) (keptHeld (heldIn (now (r .entry)) (now (cells .entry)) (now (runs .entry)) channels (now (locked .entry)) (now (memory .entry)) (now (acts .entry)) (now (orders .entry))) readings) (beatHeld (now (set .entry)) (linesIn (now (lines .entry))) (now (cancelled .entry)) (heldIn (now (r .entry)) (now (cells .entry)) (now (runs .entry)) channels (now (locked .entry)) (now (memory .entry)) (now (acts .entry)) (now (orders .entry))) automatic inputs readings (now (lent .entry))) .r ⌝ }
+    ensures { λ x. ⌜ now (cells .exit) ≡ heldAfter (heldIn (now (r .entry)) (now (cells .entry)) (now (runs .entry)) channels (now (locked .entry)) (now (memory .entry)) (now (acts .entry)) (now (orders .entry))) (keptHeld (heldIn (now (r .entry)) (now (cells .entry)) (now (runs .entry)) channels (now (locked .entry)) (now (memory .entry)) (now (acts .entry)) (now (orders .entry))) readings) (beatHeld (now (set .entry)) (linesIn (now (lines .entry))) (now (cancelled .entry)) (heldIn (now (r .entry)) (now (cells .entry)) (now (runs .entry)) channels (now (locked .entry)) (now (memory .entry)) (now (acts .entry)) (now (orders .entry))) automatic inputs readings (now (lent .entry))) .cells ⌝ }
+    ensures { λ x. ⌜ now (runs .exit) ≡ heldAfter (heldIn (now (r .entry)) (now (cells .entry)) (now (runs .entry)) channels (now (locked .entry)) (now (memory .entry)) (now (acts .entry)) (now (orders .entry))) (keptHeld (heldIn (now (r .entry)) (now (cells .entry)) (now (runs .entry)) channels (now (locked .entry)) (now (memory .entry)) (now (acts .entry)) (now (orders .entry))) readings) (beatHeld (now (set .entry)) (linesIn (now (lines .entry))) (now (cancelled .entry)) (heldIn (now (r .entry)) (now (cells .entry)) (now (runs .entry)) channels (now (locked .entry)) (now (memory .entry)) (now (acts .entry)) (now (orders .entry))) automatic inputs readings (now (lent .entry))) .runs ⌝ }
+    ensures { λ x. ⌜ now (locked .exit) ≡ heldAfter (heldIn (now (r .entry)) (now (cells .entry)) (now (runs .entry)) channels (now (locked .entry)) (now (memory .entry)) (now (acts .entry)) (now (orders .entry))) (keptHeld (heldIn (now (r .entry)) (now (cells .entry)) (now (runs .entry)) channels (now (locked .entry)) (now (memory .entry)) (now (acts .entry)) (now (orders .entry))) readings) (beatHeld (now (set .entry)) (linesIn (now (lines .entry))) (now (cancelled .entry)) (heldIn (now (r .entry)) (now (cells .entry)) (now (runs .entry)) channels (now (locked .entry)) (now (memory .entry)) (now (acts .entry)) (now (orders .entry))) automatic inputs readings (now (lent .entry))) .locked ⌝ }
+    ensures { λ x. ⌜ now (memory .exit) ≡ heldAfter (heldIn (now (r .entry)) (now (cells .entry)) (now (runs .entry)) channels (now (locked .entry)) (now (memory .entry)) (now (acts .entry)) (now (orders .entry))) (keptHeld (heldIn (now (r .entry)) (now (cells .entry)) (now (runs .entry)) channels (now (locked .entry)) (now (memory .entry)) (now (acts .entry)) (now (orders .entry))) readings) (beatHeld (now (set .entry)) (linesIn (now (lines .entry))) (now (cancelled .entry)) (heldIn (now (r .entry)) (now (cells .entry)) (now (runs .entry)) channels (now (locked .entry)) (now (memory .entry)) (now (acts .entry)) (now (orders .entry))) automatic inputs readings (now (lent .entry))) .memory ⌝ }
+    ensures { λ x. ⌜ now (acts .exit) ≡ heldAfter (heldIn (now (r .entry)) (now (cells .entry)) (now (runs .entry)) channels (now (locked .entry)) (now (memory .entry)) (now (acts .entry)) (now (orders .entry))) (keptHeld (heldIn (now (r .entry)) (now (cells .entry)) (now (runs .entry)) channels (now (locked .entry)) (now (memory .entry)) (now (acts .entry)) (now (orders .entry))) readings) (beatHeld (now (set .entry)) (linesIn (now (lines .entry))) (now (cancelled .entry)) (heldIn (now (r .entry)) (now (cells .entry)) (now (runs .entry)) channels (now (locked .entry)) (now (memory .entry)) (now (acts .entry)) (now (orders .entry))) automatic inputs readings (now (lent .entry))) .acts ⌝ }
+    ensures { λ x. ⌜ now (orders .exit) ≡ heldAfter (heldIn (now (r .entry)) (now (cells .entry)) (now (runs .entry)) channels (now (locked .entry)) (now (memory .entry)) (now (acts .entry)) (now (orders .entry))) (keptHeld (heldIn (now (r .entry)) (now (cells .entry)) (now (runs .entry)) channels (now (locked .entry)) (now (memory .entry)) (now (acts .entry)) (now (orders .entry))) readings) (beatHeld (now (set .entry)) (linesIn (now (lines .entry))) (now (cancelled .entry)) (heldIn (now (r .entry)) (now (cells .entry)) (now (runs .entry)) channels (now (locked .entry)) (now (memory .entry)) (now (acts .entry)) (now (orders .entry))) automatic inputs readings (now (lent .entry))) .buffer ⌝ }
 {
     beat_held(
         set,
@@ -258,6 +311,7 @@ pub fn beat_over(
         locked,
         cancelled,
         memory,
+        acts,
         channels,
         automatic,
         inputs,
@@ -290,6 +344,7 @@ pub fn beat(
     let mut locked = state.locked;
     let cancelled = state.cancelled;
     let mut memory = state.memory;
+    let mut acts = state.acts;
     let b = beat_held(
         set,
         &lines,
@@ -299,6 +354,7 @@ pub fn beat(
         &mut locked,
         &cancelled,
         &mut memory,
+        &mut acts,
         channels,
         automatic,
         inputs,
@@ -316,6 +372,7 @@ pub fn beat(
         locked: locked,
         cancelled: cancelled,
         memory: memory,
+        acts: acts,
     };
     Beaten {
         code: b.code,

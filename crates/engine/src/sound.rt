@@ -4,10 +4,12 @@ ghost use mathlib.Core.Bool.{Bool, _&&_};
 ghost use mathlib.Core.List.{List};
 ghost use Prim.Native.Nat.{_<_, _≤_};
 ghost use lib.ListN.{length, drop};
+ghost use Rattle.engine.specs.ActCount.{isActCount, areActCounts};
 ghost use Rattle.engine.specs.Sound.{allRanged, isOutput, isCell, areCells, allZero, isFifoSound, areFifos, isFlag, areFlags, stateSound, isSound};
 ghost use Rattle.working.specs.Variables.{fifos, stateCells};
 ghost use Rattle.tokens.specs.Token.{maxLines};
 use crate::set::sound_lines;
+use crate::state::ACTS_TOP;
 use crate::state::State;
 use couplers::channel::CHANNELS;
 use couplers::channel::Channel;
@@ -178,6 +180,28 @@ fn are_flags(
     good
 }
 
+// Whether a line of rank k may have acted so often, in a set of so many lines.
+fn is_act_count(count: usize, k: usize, acts: u32) -> bool
+    ensures { λ x. ⌜ x ≡ isActCount count k acts ⌝ }
+{
+    if k < count {
+        return acts <= ACTS_TOP;
+    }
+    acts == 0
+}
+
+fn are_act_counts(count: usize, acts: &[u32; LINES]) -> bool
+    ensures { λ x. ⌜ x ≡ areActCounts count (now (acts .entry)) maxLines 0 ⌝ }
+{
+    let mut good = true;
+    let mut k: usize = 0;
+    while k < LINES {
+        good = good & is_act_count(count, k, acts[k]);
+        k += 1;
+    }
+    good
+}
+
 // Whether a state is sound for a set of so many lines; it is lent by its arrays, of which all but the running timers are looked at.
 pub fn is_held_sound(
     count: usize,
@@ -187,9 +211,10 @@ pub fn is_held_sound(
     locked: &[bool; LINES],
     cancelled: &[bool; LINES],
     memory: &[bool; LINES],
+    acts: &[u32; LINES],
 ) -> bool
     requires { ⌜ length (now cells) ≡ stateCells ⌝ }
-    ensures { λ x. ⌜ ((runs : List Bool) → x ≡ stateSound count (record { r = now (r .entry); cells = now (cells .entry); runs = runs; channels = channels; locked = now (locked .entry); cancelled = now (cancelled .entry); memory = now (memory .entry) })) ⌝ }
+    ensures { λ x. ⌜ ((runs : List Bool) → x ≡ stateSound count (record { r = now (r .entry); cells = now (cells .entry); runs = runs; channels = channels; locked = now (locked .entry); cancelled = now (cancelled .entry); memory = now (memory .entry); acts = now (acts .entry) })) ⌝ }
 {
     if !all_ranged(r) {
         return false;
@@ -203,7 +228,10 @@ pub fn is_held_sound(
     if !are_channels(channels) {
         return false;
     }
-    are_flags(count, locked, cancelled, memory)
+    if !are_flags(count, locked, cancelled, memory) {
+        return false;
+    }
+    are_act_counts(count, acts)
 }
 
 // The same of a state by value.
@@ -216,7 +244,17 @@ pub fn is_state_sound(count: usize, state: State) -> bool
     let locked = state.locked;
     let cancelled = state.cancelled;
     let memory = state.memory;
-    is_held_sound(count, &r, &cells, channels, &locked, &cancelled, &memory)
+    let acts = state.acts;
+    is_held_sound(
+        count,
+        &r,
+        &cells,
+        channels,
+        &locked,
+        &cancelled,
+        &memory,
+        &acts,
+    )
 }
 
 // Whether a set and a state are sound.

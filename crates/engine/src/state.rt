@@ -1,4 +1,4 @@
-// The state: every variable but the inputs, what the channels keep, and for each line, by rank, whether it is locked, cancelled, and its memory.
+// The state: every variable but the inputs, what the channels keep, and for each line, by rank, whether it is locked, cancelled, its memory, and how often it acted.
 ghost use mathlib.Core.Path.{_≡_};
 ghost use Rattle.engine.specs.State.{powerOn};
 use couplers::channel::CHANNELS;
@@ -9,6 +9,9 @@ use working::variables::RS;
 use working::variables::STATE_CELLS;
 use working::variables::TIMERS;
 
+// A count of acts stays here once it is there.
+pub const ACTS_TOP: u32 = 4_000_000_000;
+
 pub struct State {
     pub r: [i32; RS],
     pub cells: [i32; STATE_CELLS],
@@ -17,9 +20,10 @@ pub struct State {
     pub locked: [bool; LINES],
     pub cancelled: [bool; LINES],
     pub memory: [bool; LINES],
+    pub acts: [u32; LINES],
 }
 
-// The state of power-on: all 0, timers stopped, no channel ever good, no lock, cancel or memory.
+// The state of power-on: all 0, timers stopped, no channel ever good, no lock, cancel or memory, no line acted.
 pub fn power_on() -> State
     ensures { λ x. ⌜ x ≡ powerOn ⌝ }
 {
@@ -32,5 +36,6 @@ pub fn power_on() -> State
         locked: [false; LINES],
         cancelled: [false; LINES],
         memory: [false; LINES],
+        acts: [0u32; LINES],
     }
 }

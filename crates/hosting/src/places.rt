@@ -1,4 +1,4 @@
-// The places of a set, and those of a state in nine arrays: R, cells, timers that run, locks, cancels, memories; of the channels whether each was good, the bits of the last good reading, the faults in a row. Each can be put and answered.
+// The places of a set, and those of a state in ten arrays: R, cells, timers that run, locks, cancels, memories; of the channels whether each was good, the bits of the last good reading, the faults in a row; the acts. Each can be put and answered.
 use crate::numbers::OUT;
 use crate::numbers::REQUEST;
 use crate::numbers::put_word;
@@ -86,6 +86,15 @@ fn with_channel(state: State, array: u32, i: usize, n: u32) -> State {
     next
 }
 
+// The state with a number put into a place of the acts.
+fn with_acts(state: State, i: usize, n: u32) -> State {
+    let mut next = state;
+    if i < LINES {
+        next.acts[i] = n;
+    }
+    next
+}
+
 // The state with a number put into a place of an array.
 pub fn with_value(request: &[u8; REQUEST], state: State) -> State {
     let array = word(request, 4);
@@ -103,6 +112,9 @@ pub fn with_value(request: &[u8; REQUEST], state: State) -> State {
             next.cells[i] = v;
         }
         return next;
+    }
+    if array == 9 {
+        return with_acts(state, i, word(request, 12));
     }
     if 6 <= array {
         return with_channel(state, array, i, word(request, 12));
@@ -199,5 +211,7 @@ pub fn dump(state: State) -> State {
     write_flags(&memory);
     let channels = state.channels;
     write_channels(channels);
+    let acts = state.acts;
+    write_words(&acts);
     state
 }

@@ -1,4 +1,4 @@
-// The requests of a session: loads, beats, host calls, prints. Each answers by numbers and gives the state after it.
+// The requests of a session: loads, beats, host calls, status pictures, prints. Each answers by numbers and gives the state after it.
 use crate::numbers::OUT;
 use crate::numbers::REQUEST;
 use crate::numbers::answer;
@@ -6,6 +6,7 @@ use crate::numbers::first;
 use crate::numbers::least;
 use crate::numbers::letter;
 use crate::numbers::low_half;
+use crate::numbers::put_word;
 use crate::numbers::value_of;
 use crate::numbers::word;
 use crate::numbers::write;
@@ -19,15 +20,19 @@ use couplers::reading::Reading;
 use couplers::reading::reading_of;
 use engine::Beaten;
 use engine::Called;
+use engine::LineStatus;
+use engine::Standing;
 use engine::State;
 use engine::beat;
 use engine::cancel;
 use engine::lock;
 use engine::reset;
+use engine::status_of;
 use engine::unlock;
 use print::Printed;
 use print::print;
 use reader::load;
+use tokens::token::LINES;
 use tokens::token::SIZE;
 
 // The byte that fills the buffer before each beat and each print.
@@ -148,6 +153,48 @@ fn work_beat(request: &[u8; REQUEST], set: &[u32; SIZE], state: State) -> State 
     b.state
 }
 
+// ---- the status picture
+
+fn standing_number(standing: Standing) -> u32 {
+    match standing {
+        Standing::Waiting => 0,
+        Standing::Locked => 1,
+        Standing::Cancelled => 2,
+    }
+}
+
+// A line's row at a place of an answer; the place behind it.
+fn put_row(out: &mut [u8; OUT], at: usize, row: LineStatus) -> usize {
+    let standing = row.standing;
+    let kind = row.ids;
+    let number = put_word(out, at, kind as u32);
+    let word = put_word(out, number, row.number as u32);
+    let acts = put_word(out, word, standing_number(standing));
+    put_word(out, acts, row.acts)
+}
+
+fn write_rows(rows: [LineStatus; LINES], count: usize) {
+    let n = least(count, LINES);
+    let mut out = [0u8; OUT];
+    let mut to: usize = 0;
+    let mut k: usize = 0;
+    while k < n {
+        let row = rows[k];
+        to = put_row(&mut out, to, row);
+        k += 1;
+    }
+    write(&out, to);
+}
+
+// Answers code and lines, then the row of each line.
+fn work_status(set: &[u32; SIZE], state: State) {
+    let x = status_of(set, state);
+    let count = x.count;
+    let rows = x.lines;
+    answer(x.code as u32, low_half(count as u64), 0);
+    write_rows(rows, count);
+}
+
 // ---- prints
 
 // A print into the lent part of a buffer.
@@ -205,6 +252,10 @@ pub fn work(
         }
         b'Q' => {
             work_print(request, set);
+            state
+        }
+        b'I' => {
+            work_status(set, state);
             state
         }
         b'W' => {

@@ -5,12 +5,15 @@ use mathlib.Core.List.{List, [], _∷_}
 use Prim.Native.Nat.{ℕ, _≤_}
 use native.Mathlib.Omega.{arith}
 use lib.ListN.{length}
+use Rattle.values.specs.Choice.{chosen}
 use Rattle.tokens.specs.Token.{setSize}
 use Rattle.engine.specs.declared.state.State.{State}
 use Rattle.engine.specs.Set.{soundLines}
 use Rattle.soundness.specs.SetSoundLaws.{empty-sound}
 use Rattle.engine.specs.State.{powerOn}
 use Rattle.engine.specs.Sound.{isSound}
+use Rattle.engine.specs.declared.status.Status.{Status}
+use Rattle.engine.specs.Status.{statusOf}
 use Rattle.soundness.specs.GoodAnswers.{Not22}
 use Rattle.soundness.specs.CellSoundLaws.{power-on}
 use Rattle.soundness.specs.Call.{Call, doBeat, doLock, doUnlock, doCancel, doReset, codeAfter, afterAll}
@@ -92,3 +95,8 @@ sound-from-a-load t qs = rw (since-the-load t qs) (loaded-keeps (lastText t qs) 
 -- and no reply is a 22
 pub never-22-from-a-load : (t : List ℕ) (qs : List Ask) → NoneIs22 (standing t qs .since .told)
 never-22-from-a-load t qs = rw (since-the-load t qs) (loaded-keeps (lastText t qs) (callsSince [] qs) .1)
+
+-- nor is the status picture refused
+pub status-never-22 : (t : List ℕ) (qs : List Ask) → let n = standing t qs in statusOf (n .set) (n .since .kept) .code ≡ 0
+unfolding statusOf
+status-never-22 t qs = ap (λ (x : Status). x .code) (chosen _ _ _ (sound-from-a-load t qs))

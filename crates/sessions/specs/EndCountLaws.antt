@@ -22,9 +22,11 @@ use Rattle.transcript.specs.Input.{inputOf}
 use Rattle.transcript.specs.BeatLine.{Lent, fields, lineLent}
 use Rattle.transcript.specs.Output.{spaced, printedLine, decimals, fourOf, codeLine, orderLine, orderLines, errorLine, endLine}
 use Rattle.transcript.specs.declared.totals.Totals.{Totals}
-use Rattle.transcript.specs.Totals.{maxBeats, noTotals, ended, oneIf}
-use Rattle.transcript.specs.Tally.{counted, answerOf, bufferOf, beatText}
-use Rattle.transcript.specs.Synrun.{beatsText, synrun}
+use Rattle.transcript.specs.declared.view.View.{View}
+use Rattle.transcript.specs.declared.view.View.the-variants.{Run}
+use Rattle.transcript.specs.Totals.{maxBeats, noTotals, endBy, ended, oneIf}
+use Rattle.transcript.specs.Tally.{counted, answerOf, bufferOf, beatText, printedBy, beatPrinted}
+use Rattle.transcript.specs.Synrun.{beatsText, printout, synrun}
 use Rattle.transcript.specs.SessionRoomLaws.{byLent}
 use Rattle.sessions.specs.SessionLaws.{beats-over, beats-some, loaded-zero}
 
@@ -258,8 +260,16 @@ nothing-counted : (n : Totals) → (n .beats .0 + linesIn isBeat [] ≡ n .beats
 unfolding count split
 nothing-counted n = (omega arith, omega arith, omega arith)
 
-end-now : (n : Totals) → ended n ≡ endFrom n []
-end-now n = let e = nothing-counted n in rw (e .0, e .1, e .2)
+-- in the view of a run: END, and all that there is to print of a beat
+end-now : (s : List ℕ) (n : Totals) → n .view ≡ Run → ended s n ≡ endFrom n []
+end-now s n r = ap (λ (v : View). endBy v s n) r ∙ counts
+  where
+    counts : endBy Run s n ≡ endFrom n []
+    counts = let e = nothing-counted n in rw (e .0, e .1, e .2)
+
+beat-run : (s : List ℕ) (n : Totals) (x : Lent) → n .view ≡ Run → beatPrinted s n x ≡ beatText s n x
+unfolding beatPrinted
+beat-run s n x r = ap (λ (v : View). printedBy v (beatText s n x)) r
 
 error-now : (n : Totals) → errorLine (n .lines + 1) ≡ errorFrom n []
 unfolding count split
@@ -300,71 +310,75 @@ well-first : (l : List ℕ) (ls : List (List ℕ)) → wellFormed (l ∷ ls) ≡
 unfolding wellFormed
 well-first l ls = byLent (λ (y : Bool). y ≡ true → (x : Lent) × (lineLent l ≡ some x) × (wellFormed ls ≡ true)) (lineLent l) (λ e h. clash (cc)) (λ x e h. (x, e, h))
 
-end-counted : (ls : List (List ℕ)) (s : List ℕ) (n : Totals) → wellFormed ls ≡ true → (shown : List ℕ) × (beatsText s n ls ≡ shown ++ endFrom n shown)
+end-counted : (ls : List (List ℕ)) (s : List ℕ) (n : Totals) → n .view ≡ Run → wellFormed ls ≡ true → (shown : List ℕ) × (beatsText s n ls ≡ shown ++ endFrom n shown)
 unfolding beatsText
-end-counted [] s n h = ([], end-now n)
-end-counted (l ∷ ls) s n h =
+end-counted [] s n v h = ([], end-now s n v)
+end-counted (l ∷ ls) s n v h =
     decide ((shown : List ℕ) × (beatsText s n (l ∷ ls) ≡ shown ++ endFrom n shown)) (eqb (n .beats .0) maxBeats)
-    (λ e. ([], beats-over s n (l ∷ ls) e ∙ end-now n))
+    (λ e. ([], beats-over s n (l ∷ ls) e ∙ end-now s n v))
     (λ e. let w = well-first l ls h in
     let x = w .0 in
-    let r = end-counted ls s (counted n (answerOf s n x)) (w .2) in
-    (beatText s n x ++ r .0, beats-some s n l ls x e (w .1) ∙ later s n x (r .0) (beatsText s (counted n (answerOf s n x)) ls) endFrom (end-later s n x (r .0)) (r .1)))
+    let r = end-counted ls s (counted n (answerOf s n x)) v (w .2) in
+    let text = beatsText s (counted n (answerOf s n x)) ls in (
+      beatText s n x ++ r .0,
+      beats-some s n l ls x e (w .1) ∙ ap (λ (y : List ℕ). y ++ text) (beat-run s n x v)
+          ∙ later s n x (r .0) text endFrom (end-later s n x (r .0)) (r .1),
+    ))
 
 -- END or E, whatever the lines
 abbrev Last : Totals → List ℕ → Type 0
 Last n text = (shown : List ℕ) × ((text ≡ shown ++ endFrom n shown) ⊎ (text ≡ shown ++ errorFrom n shown))
 
-last-later : (s : List ℕ) (n : Totals) (x : Lent) (text : List ℕ) → Last (counted n (answerOf s n x)) text → Last n (beatText s n x ++ text)
-last-later s n x text r = (beatText s n x ++ r .0, by-end (r .1))
+last-later : (s : List ℕ) (n : Totals) (x : Lent) (text : List ℕ) → n .view ≡ Run → Last (counted n (answerOf s n x)) text → Last n (beatPrinted s n x ++ text)
+last-later s n x text v r = rw (beat-run s n x v) (beatText s n x ++ r .0, by-end (r .1))
   where
     by-end : (text ≡ r .0 ++ endFrom (counted n (answerOf s n x)) (r .0)) ⊎ (text ≡ r .0 ++ errorFrom (counted n (answerOf s n x)) (r .0)) →
         (beatText s n x ++ text ≡ (beatText s n x ++ r .0) ++ endFrom n (beatText s n x ++ r .0)) ⊎ (beatText s n x ++ text ≡ (beatText s n x ++ r .0) ++ errorFrom n (beatText s n x ++ r .0))
     by-end (inl e) = inl (later s n x (r .0) text endFrom (end-later s n x (r .0)) e)
     by-end (inr e) = inr (later s n x (r .0) text errorFrom (error-later s n x (r .0)) e)
 
-last-counted : (ls : List (List ℕ)) (s : List ℕ) (n : Totals) → Last n (beatsText s n ls)
+last-counted : (ls : List (List ℕ)) (s : List ℕ) (n : Totals) → n .view ≡ Run → Last n (beatsText s n ls)
 unfolding beatsText
-last-counted [] s n = ([], inl (end-now n))
-last-counted (l ∷ ls) s n =
-    either (Last n) (eqb (n .beats .0) maxBeats) (λ e. ([], inl (end-now n)))
-    (λ e. byLent (Last n) (lineLent l) (λ u. ([], inr (error-now n))) (λ x u. last-later s n x (beatsText s (counted n (answerOf s n x)) ls) (last-counted ls s (counted n (answerOf s n x)))))
+last-counted [] s n v = ([], inl (end-now s n v))
+last-counted (l ∷ ls) s n v =
+    either (Last n) (eqb (n .beats .0) maxBeats) (λ e. ([], inl (end-now s n v)))
+    (λ e. byLent (Last n) (lineLent l) (λ u. ([], inr (error-now n))) (λ x u. last-later s n x (beatsText s (counted n (answerOf s n x)) ls) v (last-counted ls s (counted n (answerOf s n x)) v)))
 
 -- ---- all that is printed
 
-from-none : (shown : List ℕ) → endFrom noTotals shown ≡ endLine (linesIn isBeat shown) (linesIn isCoded shown) (linesIn isOrder shown)
+from-none : (shown : List ℕ) → endFrom (noTotals Run) shown ≡ endLine (linesIn isBeat shown) (linesIn isCoded shown) (linesIn isOrder shown)
 from-none shown =
     let p : 0 + linesIn isBeat shown ≡ linesIn isBeat shown = omega arith in
     let q : 0 + linesIn isCoded shown ≡ linesIn isCoded shown = omega arith in
     let r : 0 + linesIn isOrder shown ≡ linesIn isOrder shown = omega arith in
     λ i. endLine (p i) (q i) (r i)
 
-error-none : (shown : List ℕ) → errorFrom noTotals shown ≡ errorLine (linesIn isBeat shown + 1)
+error-none : (shown : List ℕ) → errorFrom (noTotals Run) shown ≡ errorLine (linesIn isBeat shown + 1)
 error-none shown = let p : 0 + linesIn isBeat shown + 1 ≡ linesIn isBeat shown + 1 = omega arith in ap errorLine p
 
 -- where the text is taken and every beat line is well-formed, the last line is END with the numbers of the C lines, of those with a code and of the O lines before it
 pub end-counts : (t : List ℕ) → loadAnswer (inputOf t .text) .code ≡ 0 → wellFormed (inputOf t .beats) ≡ true →
     (shown : List ℕ) × (synrun t ≡ shown ++ endLine (linesIn isBeat shown) (linesIn isCoded shown) (linesIn isOrder shown))
-unfolding synrun
+unfolding printout
 end-counts t h g =
     let i = inputOf t in
-    let r = end-counted (i .beats) (loadSet (i .text)) noTotals g in
-    (r .0, loaded-zero i h ∙ r .1 ∙ ap (λ (y : List ℕ). r .0 ++ y) (from-none (r .0)))
+    let r = end-counted (i .beats) (loadSet (i .text)) (noTotals Run) refl g in
+    (r .0, loaded-zero Run i h ∙ r .1 ∙ ap (λ (y : List ℕ). r .0 ++ y) (from-none (r .0)))
 
 -- where the text is taken, whatever the beat lines, it is that, or E with one more than the C lines before it
 pub last-counts : (t : List ℕ) → loadAnswer (inputOf t .text) .code ≡ 0 →
     (shown : List ℕ)
     × ((synrun t ≡ shown ++ endLine (linesIn isBeat shown) (linesIn isCoded shown) (linesIn isOrder shown)) ⊎ (synrun t ≡ shown ++ errorLine (linesIn isBeat shown + 1)))
-unfolding synrun
+unfolding printout
 last-counts t h = (r .0, by-end (r .1))
   where
     text : List ℕ
-    text = beatsText (loadSet (inputOf t .text)) noTotals (inputOf t .beats)
+    text = beatsText (loadSet (inputOf t .text)) (noTotals Run) (inputOf t .beats)
 
-    r : Last noTotals text
-    r = last-counted (inputOf t .beats) (loadSet (inputOf t .text)) noTotals
+    r : Last (noTotals Run) text
+    r = last-counted (inputOf t .beats) (loadSet (inputOf t .text)) (noTotals Run) refl
 
-    by-end : (text ≡ r .0 ++ endFrom noTotals (r .0)) ⊎ (text ≡ r .0 ++ errorFrom noTotals (r .0)) →
+    by-end : (text ≡ r .0 ++ endFrom (noTotals Run) (r .0)) ⊎ (text ≡ r .0 ++ errorFrom (noTotals Run) (r .0)) →
         (synrun t ≡ r .0 ++ endLine (linesIn isBeat (r .0)) (linesIn isCoded (r .0)) (linesIn isOrder (r .0))) ⊎ (synrun t ≡ r .0 ++ errorLine (linesIn isBeat (r .0) + 1))
-    by-end (inl e) = inl (loaded-zero (inputOf t) h ∙ e ∙ ap (λ (y : List ℕ). r .0 ++ y) (from-none (r .0)))
-    by-end (inr e) = inr (loaded-zero (inputOf t) h ∙ e ∙ ap (λ (y : List ℕ). r .0 ++ y) (error-none (r .0)))
+    by-end (inl e) = inl (loaded-zero Run (inputOf t) h ∙ e ∙ ap (λ (y : List ℕ). r .0 ++ y) (from-none (r .0)))
+    by-end (inr e) = inr (loaded-zero Run (inputOf t) h ∙ e ∙ ap (λ (y : List ℕ). r .0 ++ y) (error-none (r .0)))

@@ -1,4 +1,4 @@
--- Document 01's example of synrun, and some inputs beside it, computed. Assumes nothing.
+-- Document 01's example of synrun, and some inputs beside it, computed; and what synstat prints of such. Assumes nothing.
 use mathlib.Core.Path.{_≡_, refl}
 use mathlib.Core.List.{List, [], _∷_, map}
 use Prim.Native.Nat.{ℕ}
@@ -22,6 +22,7 @@ use Rattle.engine.specs.Set.{emptySet, linesFrom, linesRead, rankIn, namesKnown
 use Rattle.engine.specs.State.{powerOn}
 use Rattle.engine.specs.Timers.{grownCells}
 use Rattle.engine.specs.Cells.{inputCells, beatCells}
+use Rattle.engine.specs.ActCount.{oneMore, countedActs, isActCount, areActCounts}
 use Rattle.engine.specs.Sound.{allRanged, isCell, areCells, allZero, isFifoSound, areFifos, isFlag, areFlags, stateSound, isSound}
 use Rattle.engine.specs.Write.{changeAnswer, changed, changeFifo, writeFifo, writeCell, writeInside, writeTo}
 use Rattle.engine.specs.Drive.{driveOrder}
@@ -30,6 +31,7 @@ use Rattle.engine.specs.Actions.{actionsOf}
 use Rattle.engine.specs.Keyword.{tries, acts, remembers}
 use Rattle.engine.specs.Turn.{takesTurn, doTurn, tryTurn, turnOf, turnsFrom}
 use Rattle.engine.specs.Beat.{areInputs, beatBegun, beatEnded, wholeBeat, beatAnswer, beatBuffer}
+use Rattle.engine.specs.Status.{standingOf, lineStatus, statusLines, statusOf}
 use Rattle.engine.specs.NamedLine.{foundAt, found}
 use Rattle.engine.specs.Calls.{called, lockedCall, lockCall, unlockCall, cancelCall, resetCancelled, zeroed, resetState, resetCall}
 use Rattle.text.specs.Byte.{bytes, run}
@@ -48,15 +50,20 @@ use Rattle.reader.specs.Load.{faultOf, lineBelow, tokensFault, faultBelow, kept
 use Rattle.transcript.specs.Input.{beatLines, cut, inputOf}
 use Rattle.transcript.specs.BeatLine.{lentNumber, allHex, hexValue, lentReading, eachOf, lentPositions, modeOf, allDigits, wholeOf, fieldsLent, lineLent}
 use Rattle.text.specs.Digits.{digitsUp, signedText}
-use Rattle.transcript.specs.Output.{spaced, fourOf, loadLine, errorLine, codeLine, orderLine, orderLines, endLine}
-use Rattle.transcript.specs.Tally.{answerOf, bufferOf, beatText}
-use Rattle.transcript.specs.Synrun.{beatsText, loadedText, synrun}
+use Rattle.transcript.specs.Output.{spaced, fourOf, loadLine, errorLine, codeLine, orderLine, orderLines, endLine, statusLine, statusRows}
+use Rattle.transcript.specs.Tally.{answerOf, bufferOf, beatText, beatPrinted}
+use Rattle.transcript.specs.Synrun.{beatsText, loadedText, printout, synrun, synstat}
 
 abbrev prints : String → List ℕ
 prints t = synrun (bytes t)
 
+abbrev pictures : String → List ℕ
+pictures t = synstat (bytes t)
+
 example :
-    map prints ("ID=1 EVERY $A_IN[1]==1 DO $AC_MARKER[0]=$AC_MARKER[0]+1 M=7\n*\nA 1\nA 1\nA 0\nA 1\n" ∷ "" ∷ "*" ∷ "*\r" ∷ "ID=1 DO FA[X]=$A_INA[1]\r\n*\r\nA 0 3BA3D70A\r\nM 007 80000000\r\nA 0 BF800000\nA 0  1\nA" ∷ [])
-    ≡ map bytes ("C 1 0 1\nO 1 4 0 7\nC 2 0 0\nC 3 0 0\nC 4 0 1\nO 1 4 0 7\nEND 4 0 2\n" ∷ "END 0 0 0\n" ∷ "END 0 0 0\n" ∷ "L 3 1\n" ∷ "C 1 0 1\nO 1 2 1 5\nC 2 0 0\nC 3 34 0\nE 4\n" ∷ [])
-unfolding inRange valued sumOf differenceOf productOf quotientOf negationOf lessThan equalTo wholeUnits nearestUnits markerOf outputOf feedOf signOf millisOf grownTimer writtenTimer fits appendAnswer appended shifted removeAnswer removed oldestOf newestOf sumFirst sumAll totalOf countOf cleared emptyAnswer emptied twosComplement fourBytes orderBytes isIndex indexOf isIndexed indexAt joined more readProduct readSum readRest readExpression readClose readVariable readTruth operandFrom readOperand sumAt expressionAt isInside cellOf beatCount fifoValue fifoAt variableValue lower opensTooMany wantingFault numberFault readFault joinSights sight isWritable writeFault codeFault idFault callFault countFault numberOf isRemoval assignedAt assignmentAt commandAt actionAt movesAt actionsAt lineParts bodyAt restAt lineAt joinLogic joinTruths joinValues valueOver conditionValue rightValue emptySet linesFrom linesRead rankIn namesKnown allKnown namedLines soundLines powerOn grownCells inputCells beatCells allRanged isCell areCells allZero isFifoSound isFlag areFlags stateSound isSound changeAnswer changed changeFifo writeFifo writeCell writeInside writeTo driveOrder alarmOf lockOf takenAt assignmentOf driveOf commandOf actionOf actionsOf tries acts remembers takesTurn doTurn tryTurn turnOf turnsFrom areInputs beatBegun beatEnded wholeBeat beatAnswer beatBuffer foundAt found called lockedCall lockCall unlockCall cancelCall resetCancelled zeroed resetState resetCall run wordToken written isFit numberToken wordFirst behindPoint numberWith numberFirst signFirst firstToken tokensFrom tokensOf split withoutReturn withoutComment bodies firstBody boundsAt isBlank numbered tokenLines numbersOf total leastFrom leastAbove rising withoutMark withLine placed setOf factorsGuess productGuess termsGuess sumGuess sumsGuess expressionGuess operandFirst operandGuess actionGuess actionsGuess conditionGuess lineGuess sameTokens ifWritten treeOf operandTokens actionTokens actionsTokens conditionTokens lineTokens operandMeaning rightFault isRemovalTree assignedFault actionFault actionsFault movesOf partsFault lineFault isAmong areApart movesFault actionsNames namesIn eachKnown faultOf tokensFault faultBelow rowsFrom firstNot named outcome loadAnswer loadSet beatLines cut inputOf lentNumber modeOf allDigits wholeOf fieldsLent lineLent digitsUp fourOf signedText loadLine errorLine codeLine orderLine orderLines endLine answerOf bufferOf beatText beatsText loadedText synrun areFifos spaced unindexedAt curvesSound curveSlots lineBelow keptWith allHex hexValue lentReading eachOf lentPositions nanBits ofBits readingOf thousandthsOf signedThousandths nearestEven sampledFault freshChannels isChannel areChannels allGood valuesSampled channelsSampled sampledAll
-example = refl
+    (map prints ("ID=1 EVERY $A_IN[1]==1 DO $AC_MARKER[0]=$AC_MARKER[0]+1 M=7\n*\nA 1\nA 1\nA 0\nA 1\n" ∷ "" ∷ "*" ∷ "*\r" ∷ "ID=1 DO FA[X]=$A_INA[1]\r\n*\r\nA 0 3BA3D70A\r\nM 007 80000000\r\nA 0 BF800000\nA 0  1\nA" ∷ [])
+    ≡ map bytes ("C 1 0 1\nO 1 4 0 7\nC 2 0 0\nC 3 0 0\nC 4 0 1\nO 1 4 0 7\nEND 4 0 2\n" ∷ "END 0 0 0\n" ∷ "END 0 0 0\n" ∷ "L 3 1\n" ∷ "C 1 0 1\nO 1 2 1 5\nC 2 0 0\nC 3 34 0\nE 4\n" ∷ []))
+    × (map pictures ("ID=1 EVERY $A_IN[1]==1 DO $AC_MARKER[0]=$AC_MARKER[0]+1 M=7\n*\nA 1\nA 1\nA 0\nA 1\n" ∷ "IDS=12 WHEN $A_IN[1]==1 DO LOCK(3)\nID=3 DO $AC_MARKER[1]=2\n*\nM 0\nA 0\nA 1\nA 0\n" ∷ "ID=1 DO FA[X]=$A_INA[1]\n*\nA 0 3BA3D70A\nA 0 BF800000\n" ∷ "" ∷ "*\r" ∷ "*\nA 0\nA 0  1\nA" ∷ [])
+    ≡ map bytes ("S ID 1 waiting 2\n" ∷ "S ID 3 locked 2\nS IDS 12 waiting 1\n" ∷ "S ID 1 waiting 1\n" ∷ "" ∷ "L 3 1\n" ∷ "E 2\n" ∷ []))
+unfolding inRange valued sumOf differenceOf productOf quotientOf negationOf lessThan equalTo wholeUnits nearestUnits markerOf outputOf feedOf signOf millisOf grownTimer writtenTimer fits appendAnswer appended shifted removeAnswer removed oldestOf newestOf sumFirst sumAll totalOf countOf cleared emptyAnswer emptied twosComplement fourBytes orderBytes isIndex indexOf isIndexed indexAt joined more readProduct readSum readRest readExpression readClose readVariable readTruth operandFrom readOperand sumAt expressionAt isInside cellOf beatCount fifoValue fifoAt variableValue lower opensTooMany wantingFault numberFault readFault joinSights sight isWritable writeFault codeFault idFault callFault countFault numberOf isRemoval assignedAt assignmentAt commandAt actionAt movesAt actionsAt lineParts bodyAt restAt lineAt joinLogic joinTruths joinValues valueOver conditionValue rightValue emptySet linesFrom linesRead rankIn namesKnown allKnown namedLines soundLines powerOn grownCells inputCells beatCells allRanged isCell areCells allZero isFifoSound isFlag areFlags stateSound isSound changeAnswer changed changeFifo writeFifo writeCell writeInside writeTo driveOrder alarmOf lockOf takenAt assignmentOf driveOf commandOf actionOf actionsOf tries acts remembers takesTurn doTurn tryTurn turnOf turnsFrom areInputs beatBegun beatEnded wholeBeat beatAnswer beatBuffer foundAt found called lockedCall lockCall unlockCall cancelCall resetCancelled zeroed resetState resetCall run wordToken written isFit numberToken wordFirst behindPoint numberWith numberFirst signFirst firstToken tokensFrom tokensOf split withoutReturn withoutComment bodies firstBody boundsAt isBlank numbered tokenLines numbersOf total leastFrom leastAbove rising withoutMark withLine placed setOf factorsGuess productGuess termsGuess sumGuess sumsGuess expressionGuess operandFirst operandGuess actionGuess actionsGuess conditionGuess lineGuess sameTokens ifWritten treeOf operandTokens actionTokens actionsTokens conditionTokens lineTokens operandMeaning rightFault isRemovalTree assignedFault actionFault actionsFault movesOf partsFault lineFault isAmong areApart movesFault actionsNames namesIn eachKnown faultOf tokensFault faultBelow rowsFrom firstNot named outcome loadAnswer loadSet beatLines cut inputOf lentNumber modeOf allDigits wholeOf fieldsLent lineLent digitsUp fourOf signedText loadLine errorLine codeLine orderLine orderLines endLine answerOf bufferOf beatText beatPrinted beatsText loadedText printout oneMore countedActs isActCount areActCounts standingOf lineStatus statusLines statusOf statusLine statusRows areFifos spaced unindexedAt curvesSound curveSlots lineBelow keptWith allHex hexValue lentReading eachOf lentPositions nanBits ofBits readingOf thousandthsOf signedThousandths nearestEven sampledFault freshChannels isChannel areChannels allGood valuesSampled channelsSampled sampledAll
+example = (refl, refl)

@@ -19,7 +19,8 @@ use Rattle.transcript.specs.declared.set_text.Place.{Place}
 use Rattle.transcript.specs.declared.session.Session.{Session}
 use Rattle.transcript.specs.Totals.{areFit}
 use Rattle.transcript.specs.Output.{outSize, lineRoom}
-use Rattle.transcript.specs.Synrun.{synrun}
+use Rattle.transcript.specs.declared.view.View.{View}
+use Rattle.transcript.specs.Synrun.{printout}
 use Rattle.transcript.specs.Intake.{OVER, withPlace, intakeFits}
 use Rattle.transcript.specs.IntakeLaws.{FitIntake}
 use Rattle.transcript.specs.Machine.{Machine, Fed, begun, isFit, standing, keeping, chunk, lineEnd, behind, fedLines, finished, finishedText, Work, workFrom, worked}
@@ -214,19 +215,19 @@ handed-prints m ps o (works x p rest u w) h t =
     ∙ worked-prints x p (joined rest) h t
 
 -- a session at the beginning is fit
-begun-lives : Lives begun
+begun-lives : (v : View) → Lives (begun v)
 unfolding isFit intakeFits areFit
-begun-lives = fit-lives (fit-parts begun refl)
+begun-lives v = fit-lives (fit-parts (begun v) refl)
 
 -- THE PROMISE: whatever the pieces, and whatever the text and the set held before, the bytes handed over are those of the definition for the whole input
-pub whatever-pieces : (text set : List ℕ) (ps : List (List ℕ)) (o : List ℕ) → length text ≡ keptSize → Handed (starting text set) ps o → o ≡ synrun (joined ps)
+pub whatever-pieces : (v : View) (text set : List ℕ) (ps : List (List ℕ)) (o : List ℕ) → length text ≡ keptSize → Handed (starting v text set) ps o → o ≡ printout v (joined ps)
 unfolding prints
-whatever-pieces text set ps o n w = handed-prints (starting text set) ps o w begun-lives (omega arith) ∙ session-prints text set (joined ps) n
+whatever-pieces v text set ps o n w = handed-prints (starting v text set) ps o w (begun-lives v) (omega arith) ∙ session-prints v text set (joined ps) n
 
 -- so two ways to cut one input into pieces come to the same bytes
-pub same-bytes : (text set : List ℕ) (ps qs : List (List ℕ)) (o u : List ℕ) → length text ≡ keptSize → joined ps ≡ joined qs →
-    Handed (starting text set) ps o → Handed (starting text set) qs u → o ≡ u
-same-bytes text set ps qs o u n e v w = whatever-pieces text set ps o n v ∙ ap synrun e ∙ sym (whatever-pieces text set qs u n w)
+pub same-bytes : (v : View) (text set : List ℕ) (ps qs : List (List ℕ)) (o u : List ℕ) → length text ≡ keptSize → joined ps ≡ joined qs →
+    Handed (starting v text set) ps o → Handed (starting v text set) qs u → o ≡ u
+same-bytes v text set ps qs o u n e h w = whatever-pieces v text set ps o n h ∙ ap (printout v) e ∙ sym (whatever-pieces v text set qs u n w)
 
 -- ---- and each session comes to an end
 
@@ -247,5 +248,5 @@ pieces-end : (ps : List (List ℕ)) (m : Machine) → Lives (m .session) → (o 
 pieces-end [] m h = (finishedText m, ends m)
 pieces-end (p ∷ ps) m h = piece-ends (length p) m p ps (omega arith) h (pieces-end ps)
 
-pub hands-over : (text set : List ℕ) (ps : List (List ℕ)) → (o : List ℕ) × Handed (starting text set) ps o
-hands-over text set ps = pieces-end ps (starting text set) begun-lives
+pub hands-over : (v : View) (text set : List ℕ) (ps : List (List ℕ)) → (o : List ℕ) × Handed (starting v text set) ps o
+hands-over v text set ps = pieces-end ps (starting v text set) (begun-lives v)

@@ -27,9 +27,10 @@ use Rattle.transcript.specs.BeatLine.{Lent, lineLent}
 use Rattle.transcript.specs.Output.{loadLine, errorLine}
 use Rattle.transcript.specs.declared.session.Session.{Session}
 use Rattle.transcript.specs.declared.totals.Totals.{Totals}
+use Rattle.transcript.specs.declared.view.View.{View}
 use Rattle.transcript.specs.Totals.{maxBeats, noTotals, ended}
-use Rattle.transcript.specs.Tally.{counted, answerOf, beatText}
-use Rattle.transcript.specs.Synrun.{beatsText, loadedText, synrun}
+use Rattle.transcript.specs.Tally.{counted, answerOf, beatPrinted}
+use Rattle.transcript.specs.Synrun.{beatsText, loadedText, printout}
 use Rattle.transcript.specs.HalfLine.{noHalfLine, readOn, withoutCR, isUntouched, readLent}
 use Rattle.transcript.specs.Intake.{TEXT, BEATS, OVER, bytesTaken, bytesKept, lineOver, lineKept, inputOver}
 use Rattle.transcript.specs.IntakeLaws.{beats-input, star-line, star-line-kept, plain-line, plain-line-kept, over-input}
@@ -62,13 +63,13 @@ prints-line m l k ls =
 
 -- ---- over
 
-end-over : (x : Session) → x .intake .phase ≡ OVER → endAfter x ≡ []
+end-over : (s : List ℕ) (x : Session) → x .intake .phase ≡ OVER → endAfter s x ≡ []
 unfolding endAfter
-end-over x o = simp (endAfter, ne-eqb (x .intake .phase) BEATS (λ g. omega arith))
+end-over s x o = simp (endAfter, ne-eqb (x .intake .phase) BEATS (λ g. omega arith))
 
 pub over-finished : (m : Machine) → m .session .intake .phase ≡ OVER → finished m ≡ []
 unfolding finished arrivalWorked
-over-finished m o = rw (over-input (m .session .intake) o) (end-over (m .session) o)
+over-finished m o = rw (over-input (m .session .intake) o) (end-over (m .set) (m .session) o)
 
 pub over-fed : (ls : List (List ℕ)) (m : Machine) → m .session .intake .phase ≡ OVER → fedLines m ls ≡ standing m
 unfolding fedLines
@@ -87,22 +88,22 @@ over-onward m o ls h = ap (λ (y : List ℕ). o ++ y) (over-prints ls m h) ∙ a
 
 module _ (s : List ℕ) (n : Totals) where
   -- after the last beat nothing more is read
-  pub beats-over : (ls : List (List ℕ)) → eqb (n .beats .0) maxBeats ≡ true → beatsText s n ls ≡ ended n
+  pub beats-over : (ls : List (List ℕ)) → eqb (n .beats .0) maxBeats ≡ true → beatsText s n ls ≡ ended s n
   unfolding beatsText
   beats-over [] h = refl
-  beats-over (l ∷ ls) h = either (λ (y : List ℕ). y ≡ ended n) (eqb (n .beats .0) maxBeats) (λ e. refl) (λ e. clash (cc))
+  beats-over (l ∷ ls) h = either (λ (y : List ℕ). y ≡ ended s n) (eqb (n .beats .0) maxBeats) (λ e. refl) (λ e. clash (cc))
 
-  beats-none : (l : List ℕ) (ls : List (List ℕ)) → eqb (n .beats .0) maxBeats ≡ false → lineLent l ≡ none → beatsText s n (l ∷ ls) ≡ errorLine (n .lines + 1)
+  pub beats-none : (l : List ℕ) (ls : List (List ℕ)) → eqb (n .beats .0) maxBeats ≡ false → lineLent l ≡ none → beatsText s n (l ∷ ls) ≡ errorLine (n .lines + 1)
   unfolding beatsText
   beats-none l ls h g =
       let P : List ℕ → Type 0 = λ y. y ≡ errorLine (n .lines + 1) in
       either P (eqb (n .beats .0) maxBeats) (λ e. clash (cc)) (λ e. byLent P (lineLent l) (λ u. refl) (λ x u. clash (cc)))
 
   pub beats-some : (l : List ℕ) (ls : List (List ℕ)) (x : Lent) → eqb (n .beats .0) maxBeats ≡ false → lineLent l ≡ some x →
-      beatsText s n (l ∷ ls) ≡ beatText s n x ++ beatsText s (counted n (answerOf s n x)) ls
+      beatsText s n (l ∷ ls) ≡ beatPrinted s n x ++ beatsText s (counted n (answerOf s n x)) ls
   unfolding beatsText
   beats-some l ls x h g =
-      let P : List ℕ → Type 0 = λ y. y ≡ beatText s n x ++ beatsText s (counted n (answerOf s n x)) ls in
+      let P : List ℕ → Type 0 = λ y. y ≡ beatPrinted s n x ++ beatsText s (counted n (answerOf s n x)) ls in
       either P (eqb (n .beats .0) maxBeats) (λ e. clash (cc)) (λ e. byLent P (lineLent l) (λ u. clash (cc)) (λ y u. let q : y ≡ x = cc in rw q))
 
 -- a machine that reads a beat line, with what was read of it
@@ -132,10 +133,10 @@ module _ (t s : List ℕ) (p : Place) (n : Totals) where
 
     -- the last beat, and any other
     abbrev lastBeat : Fed
-    lastBeat = record { machine = record { text = t; set = s; session = stopped (withTotals (awaiting .session) next) }; output = beatText s n x ++ ended next }
+    lastBeat = record { machine = record { text = t; set = s; session = stopped (withTotals (awaiting .session) next) }; output = beatPrinted s n x ++ ended s next }
 
     abbrev oneBeat : Fed
-    oneBeat = record { machine = beating t s p next noHalfLine; output = beatText s n x }
+    oneBeat = record { machine = beating t s p next noHalfLine; output = beatPrinted s n x }
 
     beat-last : eqb (next .beats .0) maxBeats ≡ true → beatEnd awaiting (some x) ≡ lastBeat
     unfolding beatEnd beatOf
@@ -169,7 +170,7 @@ module _ (t s : List ℕ) (p : Place) (n : Totals) where
       byOption (on (lineLent l) ≡ beatsText s n (l ∷ [])) (lineLent l)
       (λ e. ap on e ∙ ap lastOutput end-none ∙ append-nil (errorLine (n .lines + 1)) ∙ sym (beats-none s n l [] h e))
       (λ x e. decide (on (lineLent l) ≡ beatsText s n (l ∷ [])) (eqb (next x .beats .0) maxBeats)
-      (λ g. ap on e ∙ ap lastOutput (beat-last x g) ∙ append-nil (beatText s n x ++ ended (next x)) ∙ sym (beats-some s n l [] x h e))
+      (λ g. ap on e ∙ ap lastOutput (beat-last x g) ∙ append-nil (beatPrinted s n x ++ ended s (next x)) ∙ sym (beats-some s n l [] x h e))
       (λ g. ap on e ∙ ap lastOutput (beat-more x g) ∙ sym (beats-some s n l [] x h e)))
 
 module _ (t s : List ℕ) (p : Place) where
@@ -189,9 +190,9 @@ module _ (t s : List ℕ) (p : Place) where
       ∙ byOption (on (lineLent c) ≡ beatsText s n (c ∷ rest)) (lineLent c)
       (λ e. ap on e ∙ ap to (end-none t s p n) ∙ over-onward _ (errorLine (n .lines + 1)) (k ∷ ls) refl ∙ sym (beats-none s n c rest h e))
       (λ x e. decide (on (lineLent c) ≡ beatsText s n (c ∷ rest)) (eqb (next t s p n x .beats .0) maxBeats)
-      (λ z. ap on e ∙ ap to (beat-last t s p n x z) ∙ over-onward _ (beatText s n x ++ ended (next t s p n x)) (k ∷ ls) refl
-      ∙ ap (λ (y : List ℕ). beatText s n x ++ y) (sym (beats-over s (next t s p n x) rest z)) ∙ sym (beats-some s n c rest x h e))
-      (λ z. ap on e ∙ ap to (beat-more t s p n x z) ∙ ap (λ (y : List ℕ). beatText s n x ++ y) (beats-print (k ∷ ls) (next t s p n x) (λ u. clash (cc)) z)
+      (λ z. ap on e ∙ ap to (beat-last t s p n x z) ∙ over-onward _ (beatPrinted s n x ++ ended s (next t s p n x)) (k ∷ ls) refl
+      ∙ ap (λ (y : List ℕ). beatPrinted s n x ++ y) (sym (beats-over s (next t s p n x) rest z)) ∙ sym (beats-some s n c rest x h e))
+      (λ z. ap on e ∙ ap to (beat-more t s p n x z) ∙ ap (λ (y : List ℕ). beatPrinted s n x ++ y) (beats-print (k ∷ ls) (next t s p n x) (λ u. clash (cc)) z)
       ∙ sym (beats-some s n c rest x h e)))
 
 -- ---- set text: what is kept of it
@@ -234,12 +235,12 @@ module _ (c : ℕ) where
 
 -- ---- loading
 
-module _ (i : Input) where
-  pub loaded-zero : loadAnswer (i .text) .code ≡ 0 → loadedText i ≡ beatsText (loadSet (i .text)) noTotals (i .beats)
+module _ (v : View) (i : Input) where
+  pub loaded-zero : loadAnswer (i .text) .code ≡ 0 → loadedText v i ≡ beatsText (loadSet (i .text)) (noTotals v) (i .beats)
   unfolding loadedText
-  loaded-zero h = byCode (λ (y : List ℕ). y ≡ beatsText (loadSet (i .text)) noTotals (i .beats)) (loadAnswer (i .text) .code) (λ e. refl) (λ c e. absurd (omega arith))
+  loaded-zero h = byCode (λ (y : List ℕ). y ≡ beatsText (loadSet (i .text)) (noTotals v) (i .beats)) (loadAnswer (i .text) .code) (λ e. refl) (λ c e. absurd (omega arith))
 
-  loaded-suc : (c : ℕ) → loadAnswer (i .text) .code ≡ suc c → loadedText i ≡ loadLine (suc c) (loadAnswer (i .text) .line)
+  pub loaded-suc : (c : ℕ) → loadAnswer (i .text) .code ≡ suc c → loadedText v i ≡ loadLine (suc c) (loadAnswer (i .text) .line)
   unfolding loadedText
   loaded-suc c h =
       byCode (λ (y : List ℕ). y ≡ loadLine (suc c) (loadAnswer (i .text) .line)) (loadAnswer (i .text) .code) (λ e. absurd (omega arith)) (λ d e. let q : suc d ≡ suc c = sym e ∙ h in rw q)
@@ -253,19 +254,19 @@ long-answer : (t : List ℕ) → textSize < length t → loadAnswer t ≡ record
 unfolding loadAnswer
 long-answer t h = rw (long-outcome t h, loadAnswer)
 
-long-loaded : (t : List ℕ) (bs : List (List ℕ)) → textSize < length t → loadedText (record { text = t; beats = bs }) ≡ loadLine 1 0
-long-loaded t bs h =
+long-loaded : (v : View) (t : List ℕ) (bs : List (List ℕ)) → textSize < length t → loadedText v (record { text = t; beats = bs }) ≡ loadLine 1 0
+long-loaded v t bs h =
     let a = long-answer t h in
-    loaded-suc (record { text = t; beats = bs }) 0 (rw a) ∙ rw a
+    loaded-suc v (record { text = t; beats = bs }) 0 (rw a) ∙ rw a
 
 -- the bytes that are kept say all that the text does
-kept-load : (d : List ℕ) (bs : List (List ℕ)) → loadedText (record { text = take keptSize d; beats = bs }) ≡ loadedText (record { text = d; beats = bs })
-kept-load d bs =
-    decide (loadedText (record { text = take keptSize d; beats = bs }) ≡ loadedText (record { text = d; beats = bs })) (leb (length d) keptSize)
-    (λ e. ap (λ (y : List ℕ). loadedText (record { text = y; beats = bs })) (take-all keptSize d (leb-true (length d) keptSize e)))
+kept-load : (v : View) (d : List ℕ) (bs : List (List ℕ)) → loadedText v (record { text = take keptSize d; beats = bs }) ≡ loadedText v (record { text = d; beats = bs })
+kept-load v d bs =
+    decide (loadedText v (record { text = take keptSize d; beats = bs }) ≡ loadedText v (record { text = d; beats = bs })) (leb (length d) keptSize)
+    (λ e. ap (λ (y : List ℕ). loadedText v (record { text = y; beats = bs })) (take-all keptSize d (leb-true (length d) keptSize e)))
     (λ e. let h = leb-false (length d) keptSize e in
     let l = length-take keptSize d in
-    long-loaded (take keptSize d) bs (omega arith) ∙ sym (long-loaded d bs (omega arith)))
+    long-loaded v (take keptSize d) bs (omega arith) ∙ sym (long-loaded v d bs (omega arith)))
 
 -- ---- set text
 
@@ -273,25 +274,25 @@ kept-load d bs =
 abbrev atLine : ℕ → Place
 atLine n = record { size = n; start = n; star = 0 }
 
-abbrev texting : List ℕ → List ℕ → Place → Machine
-texting t s p = record {
+abbrev texting : View → List ℕ → List ℕ → Place → Machine
+texting v t s p = record {
   text = t;
   set = s;
-  session = record { intake = record { phase = TEXT; place = p; half = noHalfLine }; totals = noTotals };
+  session = record { intake = record { phase = TEXT; place = p; half = noHalfLine }; totals = noTotals v };
 }
 
 -- the text before what is left of the input
 abbrev withText : List ℕ → Input → Input
 withText d i = record { text = d ++ i .text; beats = i .beats }
 
-module _ (t s : List ℕ) (p : Place) where
+module _ (v : View) (t s : List ℕ) (p : Place) where
   -- the text is whole: beat lines are awaited
   abbrev whole : Machine
-  whole = awaiting t s p noTotals
+  whole = awaiting t s p (noTotals v)
 
   -- a text that is taken, and one that is not
   abbrev takenText : List ℕ → Fed
-  takenText x = record { machine = awaiting t (loadSet x) p noTotals; output = [] }
+  takenText x = record { machine = awaiting t (loadSet x) p (noTotals v); output = [] }
 
   abbrev refusedText : List ℕ → ℕ → Fed
   refusedText x c = record { machine = record { text = t; set = loadSet x; session = stopped (whole .session) }; output = loadLine (suc c) (loadAnswer x .line) }
@@ -305,93 +306,93 @@ module _ (t s : List ℕ) (p : Place) where
   opened-suc x c h = byCode (λ (y : Fed). y ≡ refusedText x c) (loadAnswer x .code) (λ e. absurd (omega arith)) (λ d e. let q : suc d ≡ suc c = sym e ∙ h in rw q)
 
   -- the text x is whole, and lines follow
-  opened-prints : (x k : List ℕ) (ls : List (List ℕ)) → onward (opened whole x) (k ∷ ls) ≡ loadedText (record { text = x; beats = beatLines (k ∷ ls) })
+  opened-prints : (x k : List ℕ) (ls : List (List ℕ)) → onward (opened whole x) (k ∷ ls) ≡ loadedText v (record { text = x; beats = beatLines (k ∷ ls) })
   opened-prints x k ls = by-code (loadAnswer x .code) refl
     where
-      by-code : (c : ℕ) → loadAnswer x .code ≡ c → onward (opened whole x) (k ∷ ls) ≡ loadedText (record { text = x; beats = beatLines (k ∷ ls) })
+      by-code : (c : ℕ) → loadAnswer x .code ≡ c → onward (opened whole x) (k ∷ ls) ≡ loadedText v (record { text = x; beats = beatLines (k ∷ ls) })
       by-code zero e =
-          ap (λ (f : Fed). onward f (k ∷ ls)) (opened-zero x e) ∙ beats-print t (loadSet x) p (k ∷ ls) noTotals (λ z. clash (cc)) refl
-          ∙ sym (loaded-zero (record { text = x; beats = beatLines (k ∷ ls) }) e)
+          ap (λ (f : Fed). onward f (k ∷ ls)) (opened-zero x e) ∙ beats-print t (loadSet x) p (k ∷ ls) (noTotals v) (λ z. clash (cc)) refl
+          ∙ sym (loaded-zero v (record { text = x; beats = beatLines (k ∷ ls) }) e)
       by-code (suc c) e =
           ap (λ (f : Fed). onward f (k ∷ ls)) (opened-suc x c e) ∙ over-onward _ (loadLine (suc c) (loadAnswer x .line)) (k ∷ ls) refl
-          ∙ sym (loaded-suc (record { text = x; beats = beatLines (k ∷ ls) }) c e)
+          ∙ sym (loaded-suc v (record { text = x; beats = beatLines (k ∷ ls) }) c e)
 
   -- and none does
-  opened-last : (x : List ℕ) → lastOutput (opened whole x) ≡ loadedText (record { text = x; beats = [] })
+  opened-last : (x : List ℕ) → lastOutput (opened whole x) ≡ loadedText v (record { text = x; beats = [] })
   unfolding endAfter beatsText
   opened-last x = by-code (loadAnswer x .code) refl
     where
-      by-code : (c : ℕ) → loadAnswer x .code ≡ c → lastOutput (opened whole x) ≡ loadedText (record { text = x; beats = [] })
-      by-code zero e = ap lastOutput (opened-zero x e) ∙ sym (loaded-zero (record { text = x; beats = [] }) e)
-      by-code (suc c) e = ap lastOutput (opened-suc x c e) ∙ append-nil (loadLine (suc c) (loadAnswer x .line)) ∙ sym (loaded-suc (record { text = x; beats = [] }) c e)
+      by-code : (c : ℕ) → loadAnswer x .code ≡ c → lastOutput (opened whole x) ≡ loadedText v (record { text = x; beats = [] })
+      by-code zero e = ap lastOutput (opened-zero x e) ∙ sym (loaded-zero v (record { text = x; beats = [] }) e)
+      by-code (suc c) e = ap lastOutput (opened-suc x c e) ∙ append-nil (loadLine (suc c) (loadAnswer x .line)) ∙ sym (loaded-suc v (record { text = x; beats = [] }) c e)
 
   -- the input is over: the text is whole, the line * left off
-  input-ends : finished (texting t s p) ≡ loadedText (record { text = take (lastSize p) t; beats = [] })
+  input-ends : finished (texting v t s p) ≡ loadedText v (record { text = take (lastSize p) t; beats = [] })
   unfolding finished inputOver arrivalWorked
   input-ends = opened-last (take (lastSize p) t)
 
-  finished-star : eqb (p .star) 1 ≡ true → finished (texting t s p) ≡ loadedText (record { text = take (p .start) t; beats = [] })
-  finished-star h = input-ends ∙ ap (λ (b : Bool). loadedText (record { text = take (cond b (p .start) (p .size)) t; beats = [] })) h
+  finished-star : eqb (p .star) 1 ≡ true → finished (texting v t s p) ≡ loadedText v (record { text = take (p .start) t; beats = [] })
+  finished-star h = input-ends ∙ ap (λ (b : Bool). loadedText v (record { text = take (cond b (p .start) (p .size)) t; beats = [] })) h
 
-  finished-text : eqb (p .star) 1 ≡ false → finished (texting t s p) ≡ loadedText (record { text = take (p .size) t; beats = [] })
-  finished-text h = input-ends ∙ ap (λ (b : Bool). loadedText (record { text = take (cond b (p .start) (p .size)) t; beats = [] })) h
+  finished-text : eqb (p .star) 1 ≡ false → finished (texting v t s p) ≡ loadedText v (record { text = take (p .size) t; beats = [] })
+  finished-text h = input-ends ∙ ap (λ (b : Bool). loadedText v (record { text = take (cond b (p .start) (p .size)) t; beats = [] })) h
 
   -- the line * is over
-  ended-star : starEnds (p .star) ≡ true → lineEnd (texting t s p) ≡ opened whole (take (p .start) t)
+  ended-star : starEnds (p .star) ≡ true → lineEnd (texting v t s p) ≡ opened whole (take (p .start) t)
   unfolding lineEnd lineOver lineKept arrivalWorked
-  ended-star h = let x = texting t s p .session .intake in rw (star-line x h, star-line-kept x h t)
+  ended-star h = let x = texting v t s p .session .intake in rw (star-line x h, star-line-kept x h t)
 
   -- any other line is
-  ended-text : starEnds (p .star) ≡ false → lineEnd (texting t s p) ≡ standing (texting (set t (p .size) LF) s (placeEnd p))
+  ended-text : starEnds (p .star) ≡ false → lineEnd (texting v t s p) ≡ standing (texting v (set t (p .size) LF) s (placeEnd p))
   unfolding lineEnd lineOver lineKept arrivalWorked
-  ended-text h = let x = texting t s p .session .intake in rw (plain-line x h, plain-line-kept x h t)
+  ended-text h = let x = texting v t s p .session .intake in rw (plain-line x h, plain-line-kept x h t)
 
-chunk-texting : (t s : List ℕ) (p : Place) (l : List ℕ) → chunk (texting t s p) l ≡ texting (putAt t (p .size) l) s (placeOn p l)
+chunk-texting : (v : View) (t s : List ℕ) (p : Place) (l : List ℕ) → chunk (texting v t s p) l ≡ texting v (putAt t (p .size) l) s (placeOn p l)
 unfolding chunk bytesTaken bytesKept
-chunk-texting t s p l = refl
+chunk-texting v t s p l = refl
 
-module _ (t s d l : List ℕ) (n : length t ≡ keptSize) (k : Begins keptSize t d) where
+module _ (v : View) (t s d l : List ℕ) (n : length t ≡ keptSize) (k : Begins keptSize t d) where
   abbrev size : ℕ
   size = min keptSize (length d)
 
   abbrev begin : Machine
-  begin = texting t s (atLine size)
+  begin = texting v t s (atLine size)
 
   -- before the line: the text as it stood
-  text-before : (bs : List (List ℕ)) → loadedText (record { text = take size (putAt t size l); beats = bs }) ≡ loadedText (record { text = d ++ []; beats = bs })
+  text-before : (bs : List (List ℕ)) → loadedText v (record { text = take size (putAt t size l); beats = bs }) ≡ loadedText v (record { text = d ++ []; beats = bs })
   text-before bs =
-      ap (λ (y : List ℕ). loadedText (record { text = y; beats = bs })) (take-put size t size l (omega arith) ∙ k) ∙ kept-load d bs
-      ∙ ap (λ (y : List ℕ). loadedText (record { text = y; beats = bs })) (sym (append-nil d))
+      ap (λ (y : List ℕ). loadedText v (record { text = y; beats = bs })) (take-put size t size l (omega arith) ∙ k) ∙ kept-load v d bs
+      ∙ ap (λ (y : List ℕ). loadedText v (record { text = y; beats = bs })) (sym (append-nil d))
 
   -- with the line
-  text-after : loadedText (record { text = take (placeOn (atLine size) l .size) (putAt t size l); beats = [] }) ≡ loadedText (record { text = d ++ l; beats = [] })
+  text-after : loadedText v (record { text = take (placeOn (atLine size) l .size) (putAt t size l); beats = [] }) ≡ loadedText v (record { text = d ++ l; beats = [] })
   unfolding placeOn
   text-after =
       let a = length-append d l in
       let q : min keptSize (size + length l) ≡ min keptSize (length (d ++ l)) = omega arith in
-      ap (λ (y : ℕ). loadedText (record { text = take y (putAt t size l); beats = [] })) q
-      ∙ ap (λ (y : List ℕ). loadedText (record { text = y; beats = [] })) (kept-put keptSize l t d n k) ∙ kept-load (d ++ l) []
+      ap (λ (y : ℕ). loadedText v (record { text = take y (putAt t size l); beats = [] })) q
+      ∙ ap (λ (y : List ℕ). loadedText v (record { text = y; beats = [] })) (kept-put keptSize l t d n k) ∙ kept-load v (d ++ l) []
 
   -- the last line of the text, without an LF
-  last-text : finished (chunk begin l) ≡ loadedText (withText d (cut (l ∷ [])))
+  last-text : finished (chunk begin l) ≡ loadedText v (withText d (cut (l ∷ [])))
   unfolding placeOn
   last-text =
       let p = placeOn (atLine size) l in
       let st = star-last l in
-      decide (finished (chunk begin l) ≡ loadedText (withText d (cut (l ∷ [])))) (isStar l)
-      (λ e. ap finished (chunk-texting t s (atLine size) l) ∙ finished-star (putAt t size l) s p (st ∙ e) ∙ text-before [] ∙ ap (λ (y : Input). loadedText (withText d y)) (sym (cut-star l e)))
-      (λ e. ap finished (chunk-texting t s (atLine size) l) ∙ finished-text (putAt t size l) s p (st ∙ e) ∙ text-after ∙ ap (λ (y : Input). loadedText (withText d y)) (sym (cut-last l e)))
+      decide (finished (chunk begin l) ≡ loadedText v (withText d (cut (l ∷ [])))) (isStar l)
+      (λ e. ap finished (chunk-texting v t s (atLine size) l) ∙ finished-star v (putAt t size l) s p (st ∙ e) ∙ text-before [] ∙ ap (λ (y : Input). loadedText v (withText d y)) (sym (cut-star l e)))
+      (λ e. ap finished (chunk-texting v t s (atLine size) l) ∙ finished-text v (putAt t size l) s p (st ∙ e) ∙ text-after ∙ ap (λ (y : Input). loadedText v (withText d y)) (sym (cut-last l e)))
 
   -- the line * and what follows it
-  star-onward : (k : List ℕ) (ls : List (List ℕ)) → isStar (withoutReturn l) ≡ true → onward (lineEnd (chunk begin l)) (k ∷ ls) ≡ loadedText (withText d (cut (l ∷ k ∷ ls)))
+  star-onward : (k : List ℕ) (ls : List (List ℕ)) → isStar (withoutReturn l) ≡ true → onward (lineEnd (chunk begin l)) (k ∷ ls) ≡ loadedText v (withText d (cut (l ∷ k ∷ ls)))
   unfolding placeOn
   star-onward k ls e =
       let p = placeOn (atLine size) l in
-      ap (λ (m : Machine). onward (lineEnd m) (k ∷ ls)) (chunk-texting t s (atLine size) l)
-      ∙ ap (λ (f : Fed). onward f (k ∷ ls)) (ended-star (putAt t size l) s p (star-ended l ∙ e))
-      ∙ opened-prints (putAt t size l) s p (take size (putAt t size l)) k ls
+      ap (λ (m : Machine). onward (lineEnd m) (k ∷ ls)) (chunk-texting v t s (atLine size) l)
+      ∙ ap (λ (f : Fed). onward f (k ∷ ls)) (ended-star v (putAt t size l) s p (star-ended l ∙ e))
+      ∙ opened-prints v (putAt t size l) s p (take size (putAt t size l)) k ls
       ∙ text-before (beatLines (k ∷ ls))
-      ∙ ap (λ (y : Input). loadedText (withText d y)) (sym (cut-here l k ls e))
+      ∙ ap (λ (y : Input). loadedText v (withText d y)) (sym (cut-here l k ls e))
 
   -- any other line, with its LF
   abbrev more : List ℕ
@@ -410,45 +411,45 @@ module _ (t s d l : List ℕ) (n : length t ≡ keptSize) (k : Begins keptSize t
   more-text = sym (text-append t size l (LF ∷ []) (omega arith))
 
   text-line : (k : List ℕ) (ls : List (List ℕ)) → isStar (withoutReturn l) ≡ false →
-      onward (lineEnd (chunk begin l)) (k ∷ ls) ≡ prints (texting (putAt t size more) s (atLine (min keptSize (length (d ++ more))))) (k ∷ ls)
+      onward (lineEnd (chunk begin l)) (k ∷ ls) ≡ prints (texting v (putAt t size more) s (atLine (min keptSize (length (d ++ more))))) (k ∷ ls)
   text-line k ls e =
       let p = placeOn (atLine size) l in
-      ap (λ (m : Machine). onward (lineEnd m) (k ∷ ls)) (chunk-texting t s (atLine size) l)
-      ∙ ap (λ (f : Fed). onward f (k ∷ ls)) (ended-text (putAt t size l) s p (star-ended-place e))
-      ∙ ap (λ (y : List ℕ). prints (texting y s (placeEnd p)) (k ∷ ls)) more-text
-      ∙ ap (λ (y : Place). prints (texting (putAt t size more) s y) (k ∷ ls)) more-place
+      ap (λ (m : Machine). onward (lineEnd m) (k ∷ ls)) (chunk-texting v t s (atLine size) l)
+      ∙ ap (λ (f : Fed). onward f (k ∷ ls)) (ended-text v (putAt t size l) s p (star-ended-place e))
+      ∙ ap (λ (y : List ℕ). prints (texting v y s (placeEnd p)) (k ∷ ls)) more-text
+      ∙ ap (λ (y : Place). prints (texting v (putAt t size more) s y) (k ∷ ls)) more-place
     where
       star-ended-place : isStar (withoutReturn l) ≡ false → starEnds (placeOn (atLine size) l .star) ≡ false
       star-ended-place h = unfold placeOn in (star-ended l ∙ h)
 
-  more-cut : (k : List ℕ) (ls : List (List ℕ)) → isStar (withoutReturn l) ≡ false → loadedText (withText (d ++ more) (cut (k ∷ ls))) ≡ loadedText (withText d (cut (l ∷ k ∷ ls)))
+  more-cut : (k : List ℕ) (ls : List (List ℕ)) → isStar (withoutReturn l) ≡ false → loadedText v (withText (d ++ more) (cut (k ∷ ls))) ≡ loadedText v (withText d (cut (l ∷ k ∷ ls)))
   more-cut k ls e =
       let c = cut (k ∷ ls) in
-      ap (λ (y : List ℕ). loadedText (record { text = y; beats = c .beats })) (append-assoc d more (c .text) ∙ ap (λ (y : List ℕ). d ++ y) (append-snoc l LF (c .text)))
-      ∙ ap (λ (y : Input). loadedText (withText d y)) (sym (cut-later l k ls e))
+      ap (λ (y : List ℕ). loadedText v (record { text = y; beats = c .beats })) (append-assoc d more (c .text) ∙ ap (λ (y : List ℕ). d ++ y) (append-snoc l LF (c .text)))
+      ∙ ap (λ (y : Input). loadedText v (withText d y)) (sym (cut-later l k ls e))
 
 -- the lines left behind the text d
-text-prints : (ls : List (List ℕ)) (t s d : List ℕ) → (ls ≡ [] → ⊥) → length t ≡ keptSize → Begins keptSize t d →
-    prints (texting t s (atLine (min keptSize (length d)))) ls ≡ loadedText (withText d (cut ls))
-text-prints [] t s d g n k = absurd (g refl)
-text-prints (l ∷ []) t s d g n k = prints-last (begin t s d l n k) l ∙ last-text t s d l n k
-text-prints (l ∷ h ∷ ls) t s d g n k =
-    let b = begin t s d l n k in
-    let u = more t s d l n k in
+text-prints : (v : View) (ls : List (List ℕ)) (t s d : List ℕ) → (ls ≡ [] → ⊥) → length t ≡ keptSize → Begins keptSize t d →
+    prints (texting v t s (atLine (min keptSize (length d)))) ls ≡ loadedText v (withText d (cut ls))
+text-prints v [] t s d g n k = absurd (g refl)
+text-prints v (l ∷ []) t s d g n k = prints-last (begin v t s d l n k) l ∙ last-text v t s d l n k
+text-prints v (l ∷ h ∷ ls) t s d g n k =
+    let b = begin v t s d l n k in
+    let u = more v t s d l n k in
     let z = min keptSize (length d) in
-    decide (prints b (l ∷ h ∷ ls) ≡ loadedText (withText d (cut (l ∷ h ∷ ls)))) (isStar (withoutReturn l))
-    (λ e. prints-line b l h ls ∙ star-onward t s d l n k h ls e)
-    (λ e. prints-line b l h ls ∙ text-line t s d l n k h ls e
-    ∙ text-prints (h ∷ ls) (putAt t z u) s (d ++ u) (λ y. clash (cc)) (put-length u t z ∙ n) (kept-put keptSize u t d n k)
-    ∙ more-cut t s d l n k h ls e)
+    decide (prints b (l ∷ h ∷ ls) ≡ loadedText v (withText d (cut (l ∷ h ∷ ls)))) (isStar (withoutReturn l))
+    (λ e. prints-line b l h ls ∙ star-onward v t s d l n k h ls e)
+    (λ e. prints-line b l h ls ∙ text-line v t s d l n k h ls e
+    ∙ text-prints v (h ∷ ls) (putAt t z u) s (d ++ u) (λ y. clash (cc)) (put-length u t z ∙ n) (kept-put keptSize u t d n k)
+    ∙ more-cut v t s d l n k h ls e)
 
 -- ---- the session
 
 -- a machine at the beginning, whatever its text and its set hold
-abbrev pub starting : List ℕ → List ℕ → Machine
-starting t s = record { text = t; set = s; session = begun }
+abbrev pub starting : View → List ℕ → List ℕ → Machine
+starting v t s = record { text = t; set = s; session = begun v }
 
 -- what it prints, and what it prints at the end of input, is all that the definition has
-pub session-prints : (text set t : List ℕ) → length text ≡ keptSize → let f = fedLines (starting text set) (textLines t) in f .output ++ finished (f .machine) ≡ synrun t
-unfolding prints synrun inputOf
-session-prints text set t n = text-prints (textLines t) text set [] (split-some LF t) n refl
+pub session-prints : (v : View) (text set t : List ℕ) → length text ≡ keptSize → let f = fedLines (starting v text set) (textLines t) in f .output ++ finished (f .machine) ≡ printout v t
+unfolding prints printout inputOf
+session-prints v text set t n = text-prints v (textLines t) text set [] (split-some LF t) n refl

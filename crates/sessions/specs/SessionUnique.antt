@@ -9,12 +9,13 @@ use Rattle.values.specs.Unique.{unique}
 use Rattle.values.specs.PutAt.{putAt}
 use Rattle.transcript.specs.declared.session.Session.{Session}
 use Rattle.transcript.specs.declared.session.Stepped.{Stepped}
+use Rattle.transcript.specs.declared.view.View.{View}
 use Rattle.transcript.specs.Intake.{OVER}
 use Rattle.transcript.specs.Machine.{begun, finishedText, worked}
 use Rattle.transcript.specs.SessionAnswers.{machineOf, stepAnswer}
 
-pub begin-unique : (x y : Session) → x ≡ begun → y ≡ begun → x ≡ y
-begin-unique x y p q = unique p q
+pub begin-unique : (view : View) (x y : Session) → x ≡ begun view → y ≡ begun view → x ≡ y
+begin-unique view x y p q = unique p q
 
 pub over-unique : (session : Session) (x y : Bool) → x ≡ eqb (session .intake .phase) OVER → y ≡ eqb (session .intake .phase) OVER → x ≡ y
 over-unique session x y p q = unique p q

@@ -26,6 +26,7 @@ use Rattle.engine.specs.NamedLine.{foundAt, found}
 use Rattle.engine.specs.Calls.{withLocked, withCancelled, called, lockedCall, lockCall, unlockCall, cancelCall, resetCancelled, zeroed, resetState, resetCall}
 use Rattle.engine.specs.ResetLaws.{reset-keeps}
 use Rattle.soundness.specs.GoodAnswers.{Not22}
+use Rattle.soundness.specs.CountSoundLaws.{reset-keeps-counts}
 use Rattle.soundness.specs.CellSoundLaws.{append-behind, CellsRight, FlagsRight, zero-cell, set-sound, state-right, right-state, flag-clear, flag-none, flag-beyond, lock-keeps, cancel-keeps, cells-swapped}
 
 -- ---- the line that a call names
@@ -59,7 +60,7 @@ locked-keeps s st n b h =
     let e = state-right s st h in
     called-keeps s st (found s st n) (λ k. withLocked st k b) h (found-named s st n) λ k l c.
     right-state s (withLocked st k b) (set-sound s st h)
-    (record { cells = e .cells; channels = e .channels; flags = lock-keeps (soundLines s .count) (st .locked) (st .cancelled) (st .memory) (e .flags) k l b c })
+    (record { cells = e .cells; channels = e .channels; flags = lock-keeps (soundLines s .count) (st .locked) (st .cancelled) (st .memory) (e .flags) k l b c; acts = e .acts })
 
 -- lock keeps a sound state sound
 pub lockCall-keeps : (s : List ℕ) (st : State) (n : ℕ) → isSound s st ≡ true → isSound s (lockCall s st n .state) ≡ true
@@ -78,7 +79,7 @@ cancelCall-keeps s st n h =
     let e = state-right s st h in
     called-keeps s st (found s st n) (λ k. withCancelled st k) h (found-named s st n) λ k l c.
     right-state s (withCancelled st k) (set-sound s st h)
-    (record { cells = e .cells; channels = e .channels; flags = cancel-keeps (soundLines s .count) (st .locked) (st .cancelled) (st .memory) (e .flags) k l })
+    (record { cells = e .cells; channels = e .channels; flags = cancel-keeps (soundLines s .count) (st .locked) (st .cancelled) (st .memory) (e .flags) k l; acts = e .acts })
 
 -- ---- reset
 
@@ -154,6 +155,7 @@ resetCall-keeps s st h =
       cells = cells-swapped (st .r) (st .cells) (zeroed (st .cells)) (e .cells) (zeroed-right (st .cells) (e .cells .right)) (zeroed-count (st .cells));
       channels = e .channels;
       flags = reset-flags (soundLines s .count) (soundLines s .items) (st .locked) (st .cancelled) (st .memory) (e .flags);
+      acts = reset-keeps-counts (soundLines s .count) (st .acts) (e .acts) _ maxLines;
     })
 
 -- ---- what else each leaves, and what it answers

@@ -23,6 +23,7 @@ use Rattle.engine.specs.declared.state.State.{State}
 use Rattle.engine.specs.Set.{soundLines}
 use Rattle.couplers.specs.Channel.{channelCount, freshChannels, isChannel, areChannels}
 use Rattle.engine.specs.State.{powerOn}
+use Rattle.engine.specs.ActCount.{isActCount, areActCounts}
 use Rattle.engine.specs.Sound.{allRanged, isOutput, isCell, areCells, allZero, isFifoSound, areFifos, isFlag, areFlags, stateSound, isSound}
 use Rattle.engine.specs.Write.{withRun}
 
@@ -156,30 +157,54 @@ pub each-fifo : (r c : List ℤ) (k : ℕ) → Unused (run r k) (countIn c k) �
 unfolding isFifoSound
 each-fifo r c k h = each-zero (drop (countIn c k) (run r k)) (λ i. getD-drop (countIn c k) (run r k) i (pos 0) ∙ h (countIn c k + i) (omega arith))
 
+-- ---- a test of every rank
+
+-- `all m j` asks m ranks from j on
+module _ (one : ℕ → Bool) (all : ℕ → ℕ → Bool) (none : (j : ℕ) → all zero j ≡ true) (more : (m j : ℕ) → all (suc m) j ≡ one j && all m (j + 1)) where
+  ranks-from : (m j : ℕ) → all m j ≡ true → (i k : ℕ) → i < m → k ≡ j + i → one k ≡ true
+  ranks-from zero j h i k l e = absurd (omega arith)
+  ranks-from (suc m) j h zero k l e = let q : k ≡ j = omega arith in rw q (both (one j) (all m (j + 1)) (sym (more m j) ∙ h) .0)
+  ranks-from (suc m) j h (suc i) k l e = ranks-from m (j + 1) (both (one j) (all m (j + 1)) (sym (more m j) ∙ h) .1) i k (omega arith) (omega arith)
+
+  from-ranks : (m j : ℕ) → ((k : ℕ) → j ≤ k → k < j + m → one k ≡ true) → all m j ≡ true
+  from-ranks zero j h = none j
+  from-ranks (suc m) j h = more m j ∙ and-true (h j (omega arith) (omega arith)) (from-ranks m (j + 1) (λ k l n. h k (omega arith) (omega arith)))
+
 -- ---- the flags of every line
 
--- cancelled lines without lock or memory, nothing for a rank that the set does not have
+-- cancelled lines without lock or memory, nothing for a rank that the set does not have: of rank k
+abbrev flagAt : ℕ → List Bool → List Bool → List Bool → ℕ → Bool
+flagAt count locked cancelled memory k = isFlag count k (getD locked k false) (getD cancelled k false) (getD memory k false)
+
+-- of every rank
 abbrev pub FlagsRight : ℕ → List Bool → List Bool → List Bool → Type 0
-FlagsRight count locked cancelled memory = (k : ℕ) → k < maxLines → isFlag count k (getD locked k false) (getD cancelled k false) (getD memory k false) ≡ true
-
-flags-from : (count : ℕ) (a b c : List Bool) (m j : ℕ) → areFlags count a b c m j ≡ true → (i k : ℕ) → i < m → k ≡ j + i → isFlag count k (getD a k false) (getD b k false) (getD c k false) ≡ true
-unfolding areFlags
-flags-from count a b c zero j h i k l e = absurd (omega arith)
-flags-from count a b c (suc m) j h zero k l e = let q : k ≡ j = omega arith in rw q (both (isFlag count j _ _ _) (areFlags count a b c m (j + 1)) h .0)
-flags-from count a b c (suc m) j h (suc i) k l e = flags-from count a b c m (j + 1) (both (isFlag count j _ _ _) (areFlags count a b c m (j + 1)) h .1) i k (omega arith) (omega arith)
-
-from-flags : (count : ℕ) (a b c : List Bool) (m j : ℕ) → ((k : ℕ) → j ≤ k → k < j + m → isFlag count k (getD a k false) (getD b k false) (getD c k false) ≡ true) → areFlags count a b c m j ≡ true
-unfolding areFlags
-from-flags count a b c zero j h = refl
-from-flags count a b c (suc m) j h = and-true (h j (omega arith) (omega arith)) (from-flags count a b c m (j + 1) (λ k l n. h k (omega arith) (omega arith)))
+FlagsRight count locked cancelled memory = (k : ℕ) → k < maxLines → flagAt count locked cancelled memory k ≡ true
 
 -- the test says it of every rank
 pub flags-each : (count : ℕ) (a b c : List Bool) → areFlags count a b c maxLines 0 ≡ true → FlagsRight count a b c
-flags-each count a b c h k l = flags-from count a b c maxLines 0 h k k l (omega arith)
+unfolding areFlags
+flags-each count a b c h k l = ranks-from (flagAt count a b c) (areFlags count a b c) (λ j. refl) (λ m j. refl) maxLines 0 h k k l (omega arith)
 
 -- and every rank makes the test true
 pub each-flags : (count : ℕ) (a b c : List Bool) → FlagsRight count a b c → areFlags count a b c maxLines 0 ≡ true
-each-flags count a b c h = from-flags count a b c maxLines 0 (λ k l m. h k (omega arith))
+unfolding areFlags
+each-flags count a b c h = from-ranks (flagAt count a b c) (areFlags count a b c) (λ j. refl) (λ m j. refl) maxLines 0 (λ k l m. h k (omega arith))
+
+-- ---- how often every line acted
+
+-- at most the top, 0 for a rank that the set does not have
+abbrev pub CountsRight : ℕ → List ℕ → Type 0
+CountsRight count acts = (k : ℕ) → k < maxLines → isActCount count k (getD acts k 0) ≡ true
+
+-- the test says it of every rank
+pub counts-each : (count : ℕ) (acts : List ℕ) → areActCounts count acts maxLines 0 ≡ true → CountsRight count acts
+unfolding areActCounts
+counts-each count acts h k l = ranks-from (λ j. isActCount count j (getD acts j 0)) (areActCounts count acts) (λ j. refl) (λ m j. refl) maxLines 0 h k k l (omega arith)
+
+-- and every rank makes the test true
+pub each-counts : (count : ℕ) (acts : List ℕ) → CountsRight count acts → areActCounts count acts maxLines 0 ≡ true
+unfolding areActCounts
+each-counts count acts h = from-ranks (λ j. isActCount count j (getD acts j 0)) (areActCounts count acts) (λ j. refl) (λ m j. refl) maxLines 0 (λ k l m. h k (omega arith))
 
 -- ---- a sound state
 
@@ -194,6 +219,7 @@ pub record StateRight (count : ℕ) (st : State) : Type 0 where
   pub cells : CellsSound (st .r) (st .cells)
   pub channels : areChannels (st .channels) channelCount ≡ true
   pub flags : FlagsRight count (st .locked) (st .cancelled) (st .memory)
+  pub acts : CountsRight count (st .acts)
 
 each-below : (P : ℕ → Type 0) → P 0 → P 1 → P 2 → P 3 → (k : ℕ) → k < fifos → P k
 each-below P a b c d zero l = a
@@ -209,6 +235,7 @@ sound-right count st h =
     let h1 = both (allRanged (st .r)) _ h .1 in
     let h2 = both (areCells (st .cells) 0) _ h1 .1 in
     let h3 = both (areFifos (st .r) (st .cells) fifos 0) _ h2 .1 in
+    let h4 = both (areChannels (st .channels) channelCount) _ h3 .1 in
     let f0 = both (areFifos (st .r) (st .cells) fifos 0) _ h2 .0 in
     let f1 = both (isFifoSound (st .r) (st .cells) 0) _ f0 .1 in
     let f2 = both (isFifoSound (st .r) (st .cells) 1) _ f1 .1 in
@@ -224,7 +251,8 @@ sound-right count st h =
             (fifo-each (st .r) (st .cells) 3 (both (isFifoSound (st .r) (st .cells) 3) _ f3 .0));
       };
       channels = both (areChannels (st .channels) channelCount) _ h3 .0;
-      flags = flags-each count (st .locked) (st .cancelled) (st .memory) (both (areChannels (st .channels) channelCount) _ h3 .1);
+      flags = flags-each count (st .locked) (st .cancelled) (st .memory) (both (areFlags count _ _ _ maxLines 0) _ h4 .0);
+      acts = counts-each count (st .acts) (both (areFlags count _ _ _ maxLines 0) _ h4 .1);
     }
 
 -- and what makes it true
@@ -238,7 +266,7 @@ right-sound count st h =
     (and-true (each-fifo (st .r) (st .cells) 1 (h .cells .unused 1 (omega arith)))
     (and-true (each-fifo (st .r) (st .cells) 2 (h .cells .unused 2 (omega arith)))
     (and-true (each-fifo (st .r) (st .cells) 3 (h .cells .unused 3 (omega arith))) refl))))
-    (and-true (h .channels) (each-flags count (st .locked) (st .cancelled) (st .memory) (h .flags)))))
+    (and-true (h .channels) (and-true (each-flags count (st .locked) (st .cancelled) (st .memory) (h .flags)) (each-counts count (st .acts) (h .acts))))))
 
 -- a set and a state are sound: the set is
 pub set-sound : (s : List ℕ) (st : State) → isSound s st ≡ true → soundLines s .sound ≡ true
@@ -291,11 +319,21 @@ flag-beyond count k a b c l h = let e = rw (le-ltb k count l) at h in by-flags a
     by-flags false true true e = clash (cc)
     by-flags false false true e = clash (cc)
 
+-- no act is right at every rank
+pub count-none : (count k : ℕ) → isActCount count k 0 ≡ true
+unfolding isActCount
+count-none count k = by-test (ltb k count)
+  where
+    by-test : (b : Bool) → cond b true true ≡ true
+    by-test true = refl
+    by-test false = refl
+
 -- the state at power-on is sound for any number of lines
 pub power-on-sound : (n : ℕ) → stateSound n powerOn ≡ true
 unfolding stateSound powerOn freshChannels areChannels isChannel allRanged areCells areFifos isFifoSound allZero isCell inRange outputOf wholeUnits equalTo lessThan
 power-on-sound n =
-    each-flags n (replicate maxLines false) (replicate maxLines false) (replicate maxLines false) (λ k l. rw (same-each maxLines k false) (flag-none n k))
+    and-true (each-flags n (replicate maxLines false) (replicate maxLines false) (replicate maxLines false) (λ k l. rw (same-each maxLines k false) (flag-none n k)))
+    (each-counts n (replicate maxLines 0) (λ k l. rw (same-each {A = ℕ} maxLines k 0) (count-none n k)))
 
 -- so it is sound for every sound set
 pub power-on : (s : List ℕ) → soundLines s .sound ≡ true → isSound s powerOn ≡ true

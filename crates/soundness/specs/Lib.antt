@@ -5,6 +5,7 @@ pub mod Call
 pub mod GoodAnswers
 pub mod SetSoundLaws
 pub mod CellSoundLaws
+pub mod CountSoundLaws
 pub mod CallSoundLaws
 pub mod WriteSoundLaws
 pub mod InStepLaws
@@ -12,6 +13,7 @@ pub mod WorkSoundLaws
 pub mod CurveSoundLaws
 pub mod PassLaws
 pub mod ActionSoundLaws
+pub mod ActedLaws
 pub mod LineLaws
 pub mod SoundLaws
 pub mod AnswerCodes

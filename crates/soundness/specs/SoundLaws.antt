@@ -17,7 +17,7 @@ use Rattle.values.specs.Time.{timer}
 use Rattle.values.specs.TimeLaws.{grown-keeps}
 use Rattle.values.specs.FifoLaws.{PlacesRanged, zero-in-range, InRange}
 use Rattle.values.specs.Numbers.{clash}
-use Rattle.tokens.specs.Token.{WHEN, WHENEVER, FROM, EVERY, isKeyword, setSize, maxActions}
+use Rattle.tokens.specs.Token.{WHEN, WHENEVER, FROM, EVERY, isKeyword, setSize, maxActions, maxLines}
 use Rattle.tokens.specs.Descent.{Answer, good, stop}
 use Rattle.couplers.specs.Channel.{channelCount}
 use Rattle.couplers.specs.ChannelLaws.{samples-in-range, samples-length, samples-sound}
@@ -40,13 +40,15 @@ use Rattle.engine.specs.Beat.{bufferSize, areInputs, Given, samplesIn, beatBegu
 use Rattle.engine.specs.Calls.{lockCall, unlockCall, cancelCall}
 use Rattle.engine.specs.InputLaws.{length-inputs, inputs-length}
 use Rattle.soundness.specs.Call.{Call, doBeat, doLock, doUnlock, doCancel, doReset, stateAfter, codeAfter, afterAll}
-use Rattle.soundness.specs.GoodAnswers.{Not22, Holds, holds-then}
+use Rattle.soundness.specs.GoodAnswers.{Not22, Holds, holds-then, holds-ok}
 use Rattle.engine.specs.SetLinesLaws.{lines-lined}
 use Rattle.soundness.specs.SetSoundLaws.{lines-known}
 use Rattle.soundness.specs.CellSoundLaws.{ranged-each, cell-ranged, timer-cell, right-timer, CellsSound, cell-keeps, memory-keeps, state-right, right-state, set-sound, power-on}
 use Rattle.soundness.specs.CallSoundLaws.{lockCall-keeps, unlockCall-keeps, cancelCall-keeps, resetCall-keeps, Answers, lockCall-answers, unlockCall-answers, cancelCall-answers, resetCall-r, resetCall-length, resetCall-code}
 use Rattle.soundness.specs.WriteSoundLaws.{BeatSound}
 use Rattle.soundness.specs.ActionSoundLaws.{WorldSound, condition-runs}
+use Rattle.soundness.specs.CountSoundLaws.{counted-keeps}
+use Rattle.soundness.specs.ActedLaws.{none-from, turns-below}
 use Rattle.soundness.specs.LineLaws.{actions-keep, LineClear, line-clear}
 
 -- ---- turns
@@ -190,11 +192,13 @@ beat-holds s st g l h =
     ifNot P (samplesIn st g .good) (λ c z. omega arith) λ c.
     let vars =
     begun-cells (st .r) (st .cells) (g .word) (samplesIn st g .values) (g .lent) (st .runs) (h .long) (h .sized) (samples-length (st .channels) (g .readings)) (samples-in-range (st .channels) (g .readings)) a (state-right s st e .cells) in
-    holds-then (λ (t : Turned). WorldSound (soundLines s .count) (st .cancelled) (t .world)) (λ t. Whole s (beatEnded st (samplesIn st g .channels) (t .world)))
+    let count = soundLines s .count in
+    holds-then (λ (t : Turned). WorldSound count (st .cancelled) (t .world) × (t .world .acted < 2 ^ (0 + count))) (λ t. Whole s (beatEnded st (samplesIn st g .channels) (t .world)))
     (allTurns s (soundLines s) st g) _
-    (turns-fine s (set-sound s st e) l (st .cancelled) (g .automatic) (soundLines s .count) 0 (beatBegun st g) (omega arith) (record { vars = vars; flags = state-right s st e .flags })) λ t f.
+    (holds-ok _ _ (allTurns s (soundLines s) st g) (turns-fine s (set-sound s st e) l (st .cancelled) (g .automatic) (soundLines s .count) 0 (beatBegun st g) (omega arith) (record { vars = vars; flags = state-right s st e .flags }))
+    (turns-below s (soundLines s .numbers) (st .cancelled) (g .automatic) (soundLines s .items) count 0 (beatBegun st g) (omega arith))) λ t (f, below).
     record {
-      sound = right-state s (beatEnded st (samplesIn st g .channels) (t .world)) (set-sound s st e) (record { cells = f .vars .state; channels = samples-sound (st .channels) (g .readings) (state-right s st e .channels); flags = f .flags });
+      sound = right-state s (beatEnded st (samplesIn st g .channels) (t .world)) (set-sound s st e) (record { cells = f .vars .state; channels = samples-sound (st .channels) (g .readings) (state-right s st e .channels); flags = f .flags; acts = counted-keeps count (st .acts) (state-right s st e .acts) (t .world .acted) (λ k l. none-from (t .world .acted) (0 + count) k below (omega arith)) maxLines });
       long = f .vars .long;
       sized = omega (arith, length-drop inputCount (t .world .vars .cells), f .vars .sized);
     }

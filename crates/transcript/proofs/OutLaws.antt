@@ -1,36 +1,42 @@
--- Text put at a place of a buffer, field by field and order by order.
-use mathlib.Core.Path.{_≡_, sym, ap, _∙_}
+-- Text put at a place of a buffer, field by field, order by order and row by row.
+use mathlib.Core.Path.{_≡_, refl, sym, ap, _∙_}
+use mathlib.Core.Bool.{Bool, cond}
 use mathlib.Core.List.{List, [], _∷_, _++_, append-assoc, append-nil}
-use Prim.Native.Nat.{ℕ, suc, _+_, _-_, _*_, _≤_, _<_}
+use Prim.Native.Nat.{ℕ, zero, suc, _+_, _-_, _*_, _≤_, _<_}
 use native.Mathlib.Omega.{arith}
 use native.Mathlib.Numerals.{add-one}
 use lib.ListN.{length, getD, drop, drop-of-length-le}
 use lib.Seq.{drop-cons, getD-drop, drop-drop}
 use Rattle.engine.specs.Order.{orderSize}
+use Rattle.engine.specs.Status.{noStatus}
+use Rattle.engine.specs.declared.status.LineStatus.{LineStatus}
+use Rattle.engine.specs.declared.status.Standing.{Standing}
 use Rattle.text.specs.Byte.{bytes, LF, SPACE}
 use Rattle.text.specs.Digits.{decimal, signedText}
-use Rattle.transcript.specs.Output.{spaced, printedLine, decimals, fourOf, orderLine, orderLines}
+use Rattle.values.specs.PutAt.{IsPut}
+use Rattle.transcript.specs.Output.{spaced, printedLine, decimals, fourOf, orderLine, orderLines, standingWord, statusLine, statusRows, statusRoom}
+use Rattle.transcript.specs.OutputLaws.{fields-room, kind-room, standing-room, status-room}
 
 -- ---- fields
 
--- a number alone
-pub field-alone : (n : ℕ) → spaced (decimals (n ∷ [])) ≡ SPACE ∷ decimal n
+-- a field alone
+pub field-alone : (f : List ℕ) → spaced (f ∷ []) ≡ SPACE ∷ f
 unfolding spaced
-field-alone n = ap (λ (y : List ℕ). SPACE ∷ y) (append-nil (decimal n))
+field-alone f = ap (λ (y : List ℕ). SPACE ∷ y) (append-nil f)
 
--- a number before others
-pub field-first : (n : ℕ) (ns : List ℕ) → spaced (decimals (n ∷ ns)) ≡ spaced (decimals (n ∷ [])) ++ spaced (decimals ns)
+-- a field before others
+pub field-first : (f : List ℕ) (fs : List (List ℕ)) → spaced (f ∷ fs) ≡ spaced (f ∷ []) ++ spaced fs
 unfolding spaced
-field-first n ns = ap (λ (y : List ℕ). SPACE ∷ (y ++ spaced (decimals ns))) (sym (append-nil (decimal n)))
+field-first f fs = ap (λ (y : List ℕ). SPACE ∷ (y ++ spaced fs)) (sym (append-nil f))
 
 pub three-fields : (a b c : ℕ) → spaced (decimals (a ∷ b ∷ c ∷ [])) ≡ (spaced (decimals (a ∷ [])) ++ spaced (decimals (b ∷ []))) ++ spaced (decimals (c ∷ []))
 three-fields a b c =
-    field-first a (b ∷ c ∷ []) ∙ ap (λ (y : List ℕ). spaced (decimals (a ∷ [])) ++ y) (field-first b (c ∷ [])) ∙ sym (append-assoc (spaced (decimals (a ∷ []))) (spaced (decimals (b ∷ []))) (spaced (decimals (c ∷ []))))
+    field-first (decimal a) (decimals (b ∷ c ∷ [])) ∙ ap (λ (y : List ℕ). spaced (decimals (a ∷ [])) ++ y) (field-first (decimal b) (decimals (c ∷ []))) ∙ sym (append-assoc (spaced (decimals (a ∷ []))) (spaced (decimals (b ∷ []))) (spaced (decimals (c ∷ []))))
 
 -- the numbers from place i on
 module _ (ns : List ℕ) (i : ℕ) where
   pub field-next : i < length ns → spaced (decimals (drop i ns)) ≡ spaced (decimals (getD ns i 0 ∷ [])) ++ spaced (decimals (drop (i + 1) ns))
-  field-next h = rw (drop-cons ns i 0 h, add-one i) (field-first (getD ns i 0) (drop (suc i) ns))
+  field-next h = rw (drop-cons ns i 0 h, add-one i) (field-first (decimal (getD ns i 0)) (decimals (drop (suc i) ns)))
 
   pub fields-over : length ns ≤ i → spaced (decimals (drop i ns)) ≡ []
   unfolding spaced
@@ -87,3 +93,54 @@ module _ (n : ℕ) (o : List ℕ) where
       let e : n - k ≡ suc (n - (k + 1)) = omega arith in
       let f : k * orderSize + orderSize ≡ (k + 1) * orderSize = omega arith in
       rw (e, drop-drop orderSize (k * orderSize) o, f)
+
+-- ---- the status picture
+
+-- where a field ends
+pub kind-near : (ids : Bool) {b t : List ℕ} {at q : ℕ} → IsPut b at (spaced (cond ids (bytes "IDS") (bytes "ID") ∷ [])) t q → q ≤ at + 4
+kind-near ids p = let e = p .behind in let f = ap length (field-alone (cond ids (bytes "IDS") (bytes "ID"))) in let r = kind-room ids in omega arith
+
+pub standing-near : (x : Standing) {b t : List ℕ} {at q : ℕ} → IsPut b at (spaced (standingWord x ∷ [])) t q → q ≤ at + 10
+standing-near x p = let e = p .behind in let f = ap length (field-alone (standingWord x)) in let r = standing-room x in omega arith
+
+pub number-near : (n : ℕ) {b t : List ℕ} {at q : ℕ} → IsPut b at (spaced (decimals (n ∷ []))) t q → q ≤ at + 11
+number-near n p = let e = p .behind in let r = fields-room (n ∷ []) in omega arith
+
+-- the fields of a row one behind the other
+four-behind : (w a b c d e : List ℕ) → w ++ ((a ++ (b ++ (c ++ d))) ++ e) ≡ ((((w ++ a) ++ b) ++ c) ++ d) ++ e
+four-behind w a b c d e = simp append-assoc
+
+pub row-is : (x : LineStatus) →
+    statusLine x ≡ ((((bytes "S" ++ spaced (cond (x .ids) (bytes "IDS") (bytes "ID") ∷ [])) ++ spaced (decimals (x .number ∷ []))) ++ spaced (standingWord (x .standing) ∷ [])) ++ spaced (decimals (x .acts ∷ []))) ++ (LF ∷ [])
+unfolding statusLine
+row-is x =
+    let k = cond (x .ids) (bytes "IDS") (bytes "ID") in
+    let w = standingWord (x .standing) in
+    let a = decimals (x .acts ∷ []) in
+    rw (field-first k (decimal (x .number) ∷ w ∷ a), field-first (decimal (x .number)) (w ∷ a), field-first w a)
+    (four-behind (bytes "S") (spaced (k ∷ [])) (spaced (decimals (x .number ∷ []))) (spaced (w ∷ [])) (spaced a) (LF ∷ []))
+
+pub row-near : (x : LineStatus) {b t : List ℕ} {at q : ℕ} → IsPut b at (statusLine x) t q → q ≤ at + statusRoom
+row-near x p = let e = p .behind in let r = status-room x in omega arith
+
+-- within a list it does not matter what is read past its end
+read-within : (xs : List LineStatus) (k : ℕ) (d e : LineStatus) → k < length xs → getD xs k d ≡ getD xs k e
+read-within [] k d e h = absurd (omega arith)
+read-within (x ∷ xs) zero d e h = refl
+read-within (x ∷ xs) (suc k) d e h = read-within xs k d e (omega arith)
+
+-- the rows from rank k on, of n
+abbrev pub rowsLeft : ℕ → List LineStatus → ℕ → List ℕ
+rowsLeft n xs k = statusRows (n - k) k xs
+
+module _ (n : ℕ) (xs : List LineStatus) where
+  pub all-rows : rowsLeft n xs 0 ≡ statusRows n 0 xs
+  all-rows = let e : n - 0 ≡ n = omega arith in rw e
+
+  pub no-row : (k : ℕ) → n ≤ k → rowsLeft n xs k ≡ []
+  unfolding statusRows
+  no-row k h = let e : n - k ≡ 0 = omega arith in rw e
+
+  pub row-less : (k : ℕ) (d : LineStatus) → k < n → k < length xs → rowsLeft n xs k ≡ statusLine (getD xs k d) ++ rowsLeft n xs (k + 1)
+  unfolding statusRows
+  row-less k d h w = let e : n - k ≡ suc (n - (k + 1)) = omega arith in rw (e, read-within xs k d noStatus w)

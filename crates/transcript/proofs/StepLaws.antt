@@ -9,6 +9,7 @@ use native.Mathlib.Omega.{arith}
 use borrow.Author.Tests.{eq-eqb, ne-eqb}
 use lib.ListN.{take}
 use Rattle.values.specs.Numbers.{clash}
+use Rattle.engine.specs.declared.state.State.{State}
 use Rattle.reader.specs.declared.load_text.Loaded.{Loaded}
 use Rattle.values.specs.PutAt.{IsPut}
 use Rattle.reader.specs.Load.{loadAnswer, loadSet}
@@ -18,19 +19,21 @@ use Rattle.transcript.specs.declared.intake.Ending.the-variants as E
 use Rattle.transcript.specs.declared.session.Session.{Session}
 use Rattle.transcript.specs.declared.beat_line.MaybeLent.{MaybeLent}
 use Rattle.transcript.specs.BeatLine.{Lent}
-use Rattle.transcript.specs.Output.{loadLine, errorLine, outSize, lastStart}
+use Rattle.transcript.specs.Output.{loadLine, errorLine, endRoom, outSize, lastStart}
+use Rattle.transcript.specs.declared.totals.Counts.{Counts}
 use Rattle.transcript.specs.declared.totals.Totals.{Totals}
 use Rattle.transcript.specs.Totals.{maxBeats, ended, areFit}
 use Rattle.transcript.specs.TotalsLaws.{FitTotals}
-use Rattle.transcript.specs.Tally.{counted, answerOf, beatText}
+use Rattle.transcript.specs.Tally.{counted, answerOf, beatPrinted}
 use Rattle.transcript.specs.SetText.{keptSize}
 use Rattle.transcript.specs.Intake.{OVER, withPhase, intakeFits, Arrival, nothing, wholeText, beatLine, Arrived, lineOver, lineKept, inputOver}
 use Rattle.transcript.specs.IntakeAnswers.{endingOf, sizeIn, lentBy, broughtBy}
 use Rattle.transcript.specs.IntakeLaws.{FitIntake, line-fit, input-fit, over-line}
 use Rattle.transcript.specs.Machine.{Machine, Fed, withIntake, withTotals, stopped, isFit, standing, opened, beatOf, beatEnd, arrivalWorked, lineEnd}
 use Rattle.transcript.specs.SessionAnswers.{IsFed, machineOf, sessionOf}
+use Rattle.transcript.specs.InPlace.{totalsOf}
 use Rattle.transcript.specs.MaybeLent.{maybeLent, lentIn, lentOr}
-use Rattle.transcript.specs.SessionRoomLaws.{LiveTotals, Lives, beat-room}
+use Rattle.transcript.specs.SessionRoomLaws.{LiveTotals, Lives, beat-printed-room}
 
 -- what is left to say once it is known what a session came to
 pub fed : {f : Fed} {m : Machine} {o b exit : List ℕ} {at q : ℕ} → f ≡ record { machine = m; output = o } → IsPut b at o exit q → IsFed f m b at exit q
@@ -51,20 +54,24 @@ unfit-intake x a = simp a
 
 -- ---- beats
 
--- behind a beat there is room for a line more
-pub end-near : (s : List ℕ) (n : Totals) (l : Lent) {b exit : List ℕ} {at q : ℕ} → at ≤ lastStart → IsPut b at (beatText s n l) exit q → q ≤ outSize
-end-near s n l w p = let e = p .behind in let r = beat-room s n l in omega arith
+-- behind a beat there is room for the end
+pub end-near : (s : List ℕ) (n : Totals) (l : Lent) {b exit : List ℕ} {at q : ℕ} → at ≤ lastStart → IsPut b at (beatPrinted s n l) exit q → q + endRoom ≤ outSize
+end-near s n l w p = let e = p .behind in let r = beat-printed-room s n l in omega arith
+
+-- the end of a state by another name
+pub ended-in : (s : List ℕ) (n : Counts) {x y : State} {b exit : List ℕ} {at q : ℕ} → x ≡ y → IsPut b at (ended s (totalsOf n x)) exit q → IsPut b at (ended s (totalsOf n y)) exit q
+ended-in s n e p = rw (← e) p
 
 -- a beat of a line that lends l, its totals y
 module _ (t s : List ℕ) (x : Session) (l : Lent) {y : Totals} (e : y ≡ counted (x .totals) (answerOf s (x .totals) l)) where
   beats-are : x .totals .beats .0 + 1 ≡ y .beats .0
   beats-are = ap (λ (z : Totals). z .beats .0) (sym e)
 
-  pub beat-last : y .beats .0 ≡ maxBeats → {i : Intake} → i ≡ withPhase (x .intake) OVER → beatOf (machineOf t s x) l ≡ record { machine = machineOf t s (sessionOf i y); output = beatText s (x .totals) l ++ ended y }
+  pub beat-last : y .beats .0 ≡ maxBeats → {i : Intake} → i ≡ withPhase (x .intake) OVER → beatOf (machineOf t s x) l ≡ record { machine = machineOf t s (sessionOf i y); output = beatPrinted s (x .totals) l ++ ended s y }
   unfolding beatOf
   beat-last h k = rw (k, e) (simp (beatOf, eq-eqb (x .totals .beats .0 + 1) maxBeats (beats-are ∙ h)))
 
-  pub beat-more : (y .beats .0 ≡ maxBeats → ⊥) → beatOf (machineOf t s x) l ≡ record { machine = machineOf t s (withTotals x y); output = beatText s (x .totals) l }
+  pub beat-more : (y .beats .0 ≡ maxBeats → ⊥) → beatOf (machineOf t s x) l ≡ record { machine = machineOf t s (withTotals x y); output = beatPrinted s (x .totals) l }
   unfolding beatOf
   beat-more h = rw e (simp (beatOf, ne-eqb (x .totals .beats .0 + 1) maxBeats (λ g. h (sym beats-are ∙ g))))
 

@@ -19,7 +19,7 @@ use Rattle.engine.specs.Held.{Held, stateHeld, givenTo, keptHeld, beatHeld, tur
 use Rattle.engine.specs.HeldLaws.{beat-over-lines, beat-any-buffer, held-is, put-back}
 use Rattle.engine.specs.Order.{orderSize, maxOrders}
 use Rattle.values.specs.PutAt.{IsPut}
-use Rattle.values.specs.PutLaws.{put-both, put-as}
+use Rattle.values.specs.PutLaws.{put-as}
 use Rattle.couplers.specs.declared.reading.Reading.{Reading}
 use Rattle.couplers.specs.declared.channel.Channel.{Channel}
 use Rattle.transcript.specs.declared.beat_line.Sent.{Sent}
@@ -28,13 +28,18 @@ use Rattle.transcript.specs.Output.{fourOf, codeLine, orderLine, orderLi
 use Rattle.transcript.specs.OutputLaws.{code-room}
 use Rattle.transcript.specs.declared.totals.Counts.{Counts}
 use Rattle.transcript.specs.declared.totals.Totals.{Totals}
-use Rattle.transcript.specs.Tally.{readingsIn, counted, givenBy, answerOf, bufferOf, beatText}
+use Rattle.transcript.specs.declared.view.View.{View}
+use Rattle.transcript.specs.Tally.{readingsIn, counted, givenBy, answerOf, bufferOf, beatText, printedBy, beatPrinted}
 use Rattle.transcript.specs.InPlace.{totalsOf, countsAfter, stateIn}
 use Rattle.transcript.specs.SessionRoomLaws.{beat-orders}
 
 -- where C ends
 pub code-near : (beat code orders : ℕ) {s t : List ℕ} {at q : ℕ} → IsPut s at (codeLine beat code orders) t q → q ≤ at + codeRoom
 code-near beat code orders h = let r = code-room beat code orders in let e = h .behind in omega arith
+
+-- by the view
+pub seen : (text : List ℕ) {v w : View} → v ≡ w → printedBy v text ≡ printedBy w text
+seen text e = ap (λ (x : View). printedBy x text) e
 
 -- ---- the readings that are sent, one after the other
 
@@ -99,16 +104,16 @@ module _ (s : List ℕ) (n : Counts) (l : Lent) (cancelled : List Bool) (h : Hel
       ap (λ (x : List Reading). wholeBeat s (stateHeld cancelled h) (record { automatic = l .automatic; word = l .word; readings = x; lent = l .positions; buffer = replicate bufferSize 0 })) sent
 
   -- it answers b, and leaves this in the arrays
-  module _ {b : BeatCode} {r c : List ℤ} {runs locked memory : List Bool} {o : List ℕ}
-      (e : (b ≡ turnedCode (h .channels) kept turned) × ((r ≡ heldAfter h kept turned .r) × ((c ≡ heldAfter h kept turned .cells) × ((runs ≡ heldAfter h kept turned .runs) × ((locked ≡ heldAfter h kept turned .locked) × ((memory ≡ heldAfter h kept turned .memory) × (o ≡ heldAfter h kept turned .buffer))))))) where
+  module _ {b : BeatCode} {r c : List ℤ} {runs locked memory : List Bool} {acts o : List ℕ}
+      (e : (b ≡ turnedCode (h .channels) kept turned) × ((r ≡ heldAfter h kept turned .r) × ((c ≡ heldAfter h kept turned .cells) × ((runs ≡ heldAfter h kept turned .runs) × ((locked ≡ heldAfter h kept turned .locked) × ((memory ≡ heldAfter h kept turned .memory) × ((acts ≡ heldAfter h kept turned .acts) × (o ≡ heldAfter h kept turned .buffer)))))))) where
     abbrev after : State
-    after = stateIn r c runs (b .channels) locked cancelled memory
+    after = stateIn r c runs (b .channels) locked cancelled memory acts
 
     put : (_≡_ {A = Beaten} (record { code = b .code; orders = b .orders; acted = b .acted; state = after }) (turnedAnswer (stateHeld cancelled h) kept (wholeBeat s (stateHeld cancelled h) (givenBy l)))) × (o ≡ buffered (h .buffer) (wholeBeat s (stateHeld cancelled h) (givenBy l)))
     put =
         let a = e .1 in
         let g = ap (λ (y : BeatCode). y .channels) (e .0) ∙ channels-same h kept turned in
-        let f = held-is {h = heldAfter h kept turned} (a .0) (a .1 .0) (a .1 .1 .0) g (a .1 .1 .1 .0) (a .1 .1 .1 .1 .0) (a .1 .1 .1 .1 .1) in
+        let f = held-is {h = heldAfter h kept turned} (a .0) (a .1 .0) (a .1 .1 .0) g (a .1 .1 .1 .0) (a .1 .1 .1 .1 .0) (a .1 .1 .1 .1 .1 .0) (a .1 .1 .1 .1 .1 .1) in
         put-back (stateHeld cancelled h) h kept refl whole (e .0) f refl
 
     answer-is : answerOf s before l ≡ record { code = b .code; orders = b .orders; acted = b .acted; state = after }
@@ -118,7 +123,7 @@ module _ (s : List ℕ) (n : Counts) (l : Lent) (cancelled : List Bool) (h : Hel
     pub few-orders : b .orders ≤ maxOrders
     few-orders = rw answer-is at (beat-orders s before l)
 
-    pub beat-counted : {y : Counts} → y ≡ countsAfter n (b .code) (b .orders) (b .channels) → totalsOf y (stateIn r c runs (y .channels) locked cancelled memory) ≡ counted before (answerOf s before l)
+    pub beat-counted : {y : Counts} → y ≡ countsAfter n (b .code) (b .orders) (b .channels) → totalsOf y (stateIn r c runs (y .channels) locked cancelled memory acts) ≡ counted before (answerOf s before l)
     beat-counted k = rw (k, answer-is)
 
     orders-printed : orderLines (b .orders) (bufferOf s before l) ≡ orderLines (b .orders) o
@@ -131,5 +136,6 @@ module _ (s : List ℕ) (n : Counts) (l : Lent) (cancelled : List Bool) (h : Hel
     unfolding beatText
     printed = rw (answer-is, orders-printed)
 
-    pub beat-put : {at : ℕ} {u v w : List ℕ} {p q : ℕ} → IsPut u at (codeLine (n .beats .0 + 1) (b .code) (b .orders)) v p → IsPut v p (orderLines (b .orders) o) w q → IsPut u at (beatText s before l) w q
-    beat-put f g = put-as printed (put-both f g)
+    pub beat-put : {at : ℕ} {u v : List ℕ} {q : ℕ} → IsPut u at (printedBy (n .view) (codeLine (n .beats .0 + 1) (b .code) (b .orders) ++ orderLines (b .orders) o)) v q → IsPut u at (beatPrinted s before l) v q
+    unfolding beatPrinted
+    beat-put f = put-as (ap (printedBy (n .view)) printed) f

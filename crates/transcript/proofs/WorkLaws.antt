@@ -9,15 +9,18 @@ use lib.ListN.{length, take, drop, length-drop}
 use lib.Seq.{drop-drop}
 use Rattle.text.specs.Byte.{inLine, run}
 use Rattle.text.specs.ByteLaws.{run-within}
+use Rattle.engine.specs.declared.state.State.{State}
 use Rattle.values.specs.PutAt.{putAt, IsPut}
 use Rattle.values.specs.PutLaws.{put-both, put-nothing}
 use Rattle.transcript.specs.declared.intake.Intake.{Intake}
 use Rattle.transcript.specs.declared.session.Session.{Session}
-use Rattle.transcript.specs.Output.{outSize, lastStart, lineRoom}
+use Rattle.transcript.specs.Output.{endRoom, outSize, lastStart, lineRoom}
+use Rattle.transcript.specs.declared.totals.Counts.{Counts}
 use Rattle.transcript.specs.declared.totals.Totals.{Totals}
 use Rattle.transcript.specs.Totals.{ended}
 use Rattle.transcript.specs.Intake.{BEATS, bytesTaken, bytesKept, inputOver}
 use Rattle.transcript.specs.Machine.{Machine, Fed, Work, withIntake, isFit, arrivalWorked, chunk, lineEnd, endAfter, lastOutput, finished, finishedText, workFrom, worked}
+use Rattle.transcript.specs.InPlace.{sessionIn}
 use Rattle.transcript.specs.SessionAnswers.{IsFed, IsWorked, machineOf, sessionOf, stepAnswer}
 use Rattle.transcript.specs.SessionRoomLaws.{Lives, fit-parts, fit-lives, chunk-lives, line-lives}
 
@@ -151,22 +154,26 @@ module _ {input : List ℕ} {w : Work} {buffer : List ℕ} {m : Machine} {i : �
 pub put-whole : {s a b t : List ℕ} {q : ℕ} → b ≡ a → IsPut s 0 a t q → (q ≡ length b) × (t ≡ putAt s 0 b)
 put-whole e h = rw e (let b = h .behind in omega arith, h .put)
 
--- what came last is put, and END behind it
-pub put-after : {f : Fed} {w : List ℕ} → w ≡ lastOutput f → {m : Machine} {b mid exit : List ℕ} {p q : ℕ} → IsFed f m b 0 mid p → IsPut mid p (endAfter (m .session)) exit q →
+-- what came last is put, and the end behind it
+pub put-after : {f : Fed} {w : List ℕ} → w ≡ lastOutput f → {m : Machine} {b mid exit : List ℕ} {p q : ℕ} → IsFed f m b 0 mid p → IsPut mid p (endAfter (m .set) (m .session)) exit q →
     (q ≡ length w) × (exit ≡ putAt b 0 w)
-put-after {f} e g p = put-whole (e ∙ ap (λ (x : Machine). f .output ++ endAfter (x .session)) (g .machine)) (put-both (g .output) p)
+put-after {f} e g p = put-whole (e ∙ ap (λ (x : Machine). f .output ++ endAfter (x .set) (x .session)) (g .machine)) (put-both (g .output) p)
 
--- and END has room there
-pub end-has-room : {f : Fed} {m : Machine} {b exit : List ℕ} {p : ℕ} → IsFed f m b 0 exit p → length (f .output) ≤ lineRoom → p ≤ outSize
+-- and the end has room there
+pub end-has-room : {f : Fed} {m : Machine} {b exit : List ℕ} {p : ℕ} → IsFed f m b 0 exit p → length (f .output) ≤ lineRoom → p + endRoom ≤ outSize
 end-has-room g h = let e = g .output .behind in omega arith
 
-pub end-beats : (x : Session) → x .intake .phase ≡ BEATS → endAfter x ≡ ended (x .totals)
-unfolding endAfter
-end-beats x h = simp (endAfter, eq-eqb _ _ h)
+-- with a state by another name
+pub end-in : (s : List ℕ) (i : Intake) (n : Counts) {x y : State} {b exit : List ℕ} {at q : ℕ} → x ≡ y → IsPut b at (endAfter s (sessionIn i n x)) exit q → IsPut b at (endAfter s (sessionIn i n y)) exit q
+end-in s i n e p = rw (← e) p
 
-pub end-else : (x : Session) → (x .intake .phase ≡ BEATS → ⊥) → endAfter x ≡ []
+pub end-beats : (s : List ℕ) (x : Session) → x .intake .phase ≡ BEATS → endAfter s x ≡ ended s (x .totals)
 unfolding endAfter
-end-else x h = simp (endAfter, ne-eqb _ _ h)
+end-beats s x h = simp (endAfter, eq-eqb _ _ h)
+
+pub end-else : (s : List ℕ) (x : Session) → (x .intake .phase ≡ BEATS → ⊥) → endAfter s x ≡ []
+unfolding endAfter
+end-else s x h = simp (endAfter, ne-eqb _ _ h)
 
 module _ (t s : List ℕ) (x : Session) where
   pub finish-unfit : isFit x ≡ false → finishedText (machineOf t s x) ≡ []

@@ -15,19 +15,19 @@ use Rattle.transcript.specs.Totals.{oneIf}
 
 -- the totals, of their state the channels only
 abbrev pub countsOf : Totals → Counts
-countsOf n = record { channels = n .state .channels; lines = n .lines; beats = n .beats; coded = n .coded; orders = n .orders }
+countsOf n = record { view = n .view; channels = n .state .channels; lines = n .lines; beats = n .beats; coded = n .coded; orders = n .orders }
 
 -- and with a state
 abbrev pub totalsOf : Counts → State → Totals
-totalsOf n x = record { state = x; lines = n .lines; beats = n .beats; coded = n .coded; orders = n .orders }
+totalsOf n x = record { view = n .view; state = x; lines = n .lines; beats = n .beats; coded = n .coded; orders = n .orders }
 
 -- the counts with a line and its beat, by its code, its orders and what the channels then keep
 abbrev pub countsAfter : Counts → ℕ → ℕ → List Channel → Counts
-countsAfter n code orders kept = record { channels = kept; lines = n .lines + 1; beats = record { 0 = n .beats .0 + 1 }; coded = n .coded + oneIf code; orders = n .orders + orders }
+countsAfter n code orders kept = record { view = n .view; channels = kept; lines = n .lines + 1; beats = record { 0 = n .beats .0 + 1 }; coded = n .coded + oneIf code; orders = n .orders + orders }
 
--- the state in its arrays: R, the cells of a beat, which timers run, what the channels keep, locks, cancels, memory
-abbrev pub stateIn : List ℤ → List ℤ → List Bool → List Channel → List Bool → List Bool → List Bool → State
-stateIn r c runs channels locked cancelled memory = record { r = r; cells = drop inputCount c; runs = runs; channels = channels; locked = locked; cancelled = cancelled; memory = memory }
+-- the state in its arrays: R, the cells of a beat, which timers run, what the channels keep, locks, cancels, memory, how often each line acted
+abbrev pub stateIn : List ℤ → List ℤ → List Bool → List Channel → List Bool → List Bool → List Bool → List ℕ → State
+stateIn r c runs channels locked cancelled memory acts = record { r = r; cells = drop inputCount c; runs = runs; channels = channels; locked = locked; cancelled = cancelled; memory = memory; acts = acts }
 
 -- the session
 abbrev pub sessionIn : Intake → Counts → State → Session

@@ -1,13 +1,10 @@
--- What is fit of a session that is held in place does not look at its state; and totals whose state is taken apart and put together. Assumes nothing.
+-- What is fit of a session that is held in place does not look at its state; and totals whose state is taken apart. Assumes nothing.
 use mathlib.Core.Path.{_≡_, sym, ap}
-use mathlib.Core.Bool.{Bool, true}
+use mathlib.Core.Bool.{true}
 use mathlib.Core.List.{List, []}
 use mathlib.Core.Logic.{inl, inr}
 use Prim.Native.Nat.{_≤_}
 use lib.IntN.{ℤ}
-use lib.ListN.{drop}
-use Rattle.couplers.specs.declared.channel.Channel.{Channel}
-use Rattle.working.specs.Variables.{inputCount}
 use Rattle.engine.specs.declared.state.State.{State}
 use Rattle.engine.specs.Cells.{spreadCells}
 use Rattle.engine.specs.HeldLaws.{state-apart}
@@ -50,13 +47,8 @@ pub record MayCome (b : Brought) (n : Counts) : Type 0 where
   pub kept : b .size ≤ keptSize
   pub counts : b .ending ≡ E.Beat → FitCounts n
 
--- ---- taken apart and put together
+-- ---- taken apart
 
 -- the state by its arrays, its cells spread
-pub totals-apart : (n : Totals) {k : Counts} {c : List ℤ} → let x = n .state in k ≡ countsOf n → c ≡ spreadCells (x .cells) → n ≡ totalsOf k (stateIn (x .r) c (x .runs) (k .channels) (x .locked) (x .cancelled) (x .memory))
+pub totals-apart : (n : Totals) {k : Counts} {c : List ℤ} → let x = n .state in k ≡ countsOf n → c ≡ spreadCells (x .cells) → n ≡ totalsOf k (stateIn (x .r) c (x .runs) (k .channels) (x .locked) (x .cancelled) (x .memory) (x .acts))
 totals-apart n e f = rw e (ap (totalsOf (countsOf n)) (sym (state-apart (n .state) [] f)))
-
--- and from its arrays, where d is its part of the cells
-pub totals-together : (c : List ℤ) (n : Counts) {y : Totals} {r d : List ℤ} {channels : List Channel} {runs locked cancelled memory : List Bool} → y ≡ totalsOf n (record { r = r; cells = d; runs = runs; channels = channels; locked = locked; cancelled = cancelled; memory = memory }) → d ≡ drop inputCount c →
-    y ≡ totalsOf n (stateIn r c runs channels locked cancelled memory)
-totals-together c n e f = rw (e, f)

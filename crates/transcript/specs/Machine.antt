@@ -1,4 +1,4 @@
--- A session of synrun as the code works it: line by line, whatever the pieces of its input. That this comes to what Synrun says is shown in the crate `sessions`. Definitions only.
+-- A session as the code works it: line by line, whatever the pieces of its input. That this comes to what Synrun says is shown in the crate `sessions`. Definitions only.
 use mathlib.Core.Bool.{Bool, true, false, _&&_}
 use mathlib.Core.List.{List, [], _∷_, _++_}
 use mathlib.Core.Option.{Option, none, some}
@@ -13,7 +13,8 @@ use Rattle.transcript.specs.declared.totals.Totals.{Totals}
 use Rattle.transcript.specs.BeatLine.{Lent}
 use Rattle.transcript.specs.Output.{loadLine, errorLine, outSize, lineRoom}
 use Rattle.transcript.specs.Totals.{maxBeats, noTotals, ended, areFit}
-use Rattle.transcript.specs.Tally.{counted, answerOf, beatText}
+use Rattle.transcript.specs.declared.view.View.{View}
+use Rattle.transcript.specs.Tally.{counted, answerOf, beatPrinted}
 use Rattle.transcript.specs.Intake.{BEATS, OVER, noIntake, withPhase, intakeFits, bytesTaken, bytesKept, Arrival, nothing, wholeText, beatLine, lineOver, lineKept, inputOver}
 
 -- the kept text, the set, and what is kept beside them
@@ -29,8 +30,8 @@ pub record Fed : Type 0 where
 
 -- ---- a session
 
-abbrev pub begun : Session
-begun = record { intake = noIntake; totals = noTotals }
+abbrev pub begun : View → Session
+begun v = record { intake = noIntake; totals = noTotals v }
 
 abbrev pub withIntake : Session → Intake → Session
 withIntake x i = record { intake = i; totals = x .totals }
@@ -64,9 +65,9 @@ opened m t =
 unfoldable pub beatOf : Machine → Lent → Fed
 beatOf m l =
     let n = counted (m .session .totals) (answerOf (m .set) (m .session .totals) l) in
-    let text = beatText (m .set) (m .session .totals) l in
+    let text = beatPrinted (m .set) (m .session .totals) l in
     elim (eqb (n .beats .0) maxBeats) [
-      | true ↦ record { machine = record { text = m .text; set = m .set; session = stopped (withTotals (m .session) n) }; output = text ++ ended n }
+      | true ↦ record { machine = record { text = m .text; set = m .set; session = stopped (withTotals (m .session) n) }; output = text ++ ended (m .set) n }
       | false ↦ record { machine = record { text = m .text; set = m .set; session = withTotals (m .session) n }; output = text }
     ]
 
@@ -112,12 +113,12 @@ fedLines m [] = record { machine = m; output = [] }
 fedLines m (l ∷ []) = record { machine = chunk m l; output = [] }
 fedLines m (l ∷ k ∷ ls) = let f = lineEnd (chunk m l) in behind (f .output) (fedLines (f .machine) (k ∷ ls))
 
--- END, where beat lines are still awaited
-unfoldable pub endAfter : Session → List ℕ
-endAfter x = elim (eqb (x .intake .phase) BEATS) [ true ↦ ended (x .totals) | false ↦ [] ]
+-- the end, where beat lines are still awaited
+unfoldable pub endAfter : List ℕ → Session → List ℕ
+endAfter s x = elim (eqb (x .intake .phase) BEATS) [ true ↦ ended s (x .totals) | false ↦ [] ]
 
 abbrev pub lastOutput : Fed → List ℕ
-lastOutput f = f .output ++ endAfter (f .machine .session)
+lastOutput f = f .output ++ endAfter (f .machine .set) (f .machine .session)
 
 -- the end of input
 unfoldable pub finished : Machine → List ℕ

@@ -1,8 +1,14 @@
--- What synrun prints (document 01, "On both sides of each edge"). Definitions only.
+-- The lines that a session prints (document 01, "On both sides of each edge"; document 02, Req 06). Definitions only.
+use mathlib.Core.Bool.{Bool, cond}
 use mathlib.Core.List.{List, [], _∷_, _++_}
 use Prim.Native.Nat.{ℕ, zero, suc, _+_, _*_}
 use lib.ListN.{getD, drop}
+use Rattle.tokens.specs.Token.{maxLines}
 use Rattle.engine.specs.Order.{orderSize, maxOrders}
+use Rattle.engine.specs.declared.status.Standing.{Standing}
+use Rattle.engine.specs.declared.status.Standing.the-variants.{Locked, Cancelled, Waiting}
+use Rattle.engine.specs.declared.status.LineStatus.{LineStatus}
+use Rattle.engine.specs.Status.{noStatus}
 use Rattle.text.specs.Byte.{bytes, LF, SPACE}
 use Rattle.text.specs.Digits.{decimal, signedText}
 
@@ -51,23 +57,41 @@ orderLines (suc n) b = orderLine b ++ orderLines n (drop orderSize b)
 unfoldable pub endLine : ℕ → ℕ → ℕ → List ℕ
 endLine beats coded orders = printedLine (bytes "END") (decimals (beats ∷ coded ∷ orders ∷ []))
 
+-- S kind number standing acts, of a line in the status picture
+abbrev pub standingWord : Standing → List ℕ
+standingWord Locked = bytes "locked"
+standingWord Cancelled = bytes "cancelled"
+standingWord Waiting = bytes "waiting"
+
+unfoldable pub statusLine : LineStatus → List ℕ
+statusLine x = printedLine (bytes "S") (cond (x .ids) (bytes "IDS") (bytes "ID") ∷ decimal (x .number) ∷ standingWord (x .standing) ∷ decimal (x .acts) ∷ [])
+
+-- so for n lines from rank k on
+unfoldable pub statusRows : ℕ → ℕ → List LineStatus → List ℕ
+statusRows zero k xs = []
+statusRows (suc n) k xs = statusLine (getD xs k noStatus) ++ statusRows n (k + 1) xs
+
 -- ---- how it is handed over
 
--- the bytes of C, of O and of END at most: a number has up to ten digits
+-- the bytes of C, of O and of S at most: a number has up to ten digits
 abbrev pub codeRoom : ℕ
 codeRoom = 35
 
 abbrev pub orderRoom : ℕ
 orderRoom = 47
 
+abbrev pub statusRoom : ℕ
+statusRoom = 38
+
+-- what is printed at the end at most: S for each line, which is more than END
 abbrev pub endRoom : ℕ
-endRoom = 37
+endRoom = statusRoom * maxLines
 
 -- what a beat prints at most: C, and O for each order
 abbrev pub beatRoom : ℕ
 beatRoom = codeRoom + orderRoom * maxOrders
 
--- and a line of input: END behind the last beat
+-- and a line of input: the end behind the last beat
 abbrev pub lineRoom : ℕ
 lineRoom = beatRoom + endRoom
 

@@ -10,16 +10,24 @@ use lib.Dec.{eqb}
 use lib.ListN.{length, take, length-append}
 use borrow.Author.Tests.{eqb-true, eqb-false}
 use Rattle.values.specs.Choice.{either, both, and-true}
+use Rattle.tokens.specs.Token.{maxLines}
 use Rattle.engine.specs.Order.{maxOrders}
+use Rattle.engine.specs.SetCountLaws.{sound-count}
+use Rattle.engine.specs.declared.state.State.{State}
+use Rattle.engine.specs.declared.status.Status.{Status as LineStates}
+use Rattle.engine.specs.Sound.{isSound}
+use Rattle.engine.specs.Status.{statusOf}
 use Rattle.reader.specs.Load.{loadAnswer}
 use Rattle.transcript.specs.declared.session.Session.{Session}
 use Rattle.transcript.specs.BeatLine.{Lent}
 use Rattle.transcript.specs.Output.{beatRoom, endRoom, lineRoom, outSize}
-use Rattle.transcript.specs.OutputLaws.{load-room, error-room, code-room, orders-room, end-room}
+use Rattle.transcript.specs.OutputLaws.{load-room, error-room, code-room, orders-room, end-room, rows-room}
 use Rattle.transcript.specs.declared.totals.Totals.{Totals}
-use Rattle.transcript.specs.Totals.{maxBeats, areFit}
+use Rattle.transcript.specs.declared.view.View.{View}
+use Rattle.transcript.specs.declared.view.View.the-variants.{Run, Status}
+use Rattle.transcript.specs.Totals.{maxBeats, picture, endBy, ended, areFit}
 use Rattle.transcript.specs.TotalsLaws.{FitTotals, fit-totals, totals-fit, counting-fit}
-use Rattle.transcript.specs.Tally.{counted, givenBy, answerOf, bufferOf, beatText}
+use Rattle.transcript.specs.Tally.{counted, givenBy, answerOf, bufferOf, beatText, printedBy, beatPrinted}
 use Rattle.transcript.specs.Machine.{Machine, Fed, isFit, opened, beatOf, beatEnd, chunk, lineEnd, finished, finishedText, stopped, standing, arrivalWorked, keeping, endAfter, lastOutput}
 use Rattle.transcript.specs.Intake.{BEATS, OVER, intakeFits, bytesTaken, Arrival, nothing, wholeText, beatLine, lineOver, lineKept, inputOver}
 use Rattle.transcript.specs.IntakeLaws.{FitIntake, intake-parts, intake-whole, phase-fit, bytes-fit, line-fit, over-bytes, over-bytes-kept, over-line as intake-line, over-line-kept}
@@ -57,6 +65,35 @@ beat-room s n l =
     let c = beat-orders s n l in
     simp length-append (omega arith)
 
+-- and prints no more of it, whatever the view
+printed-room : (v : View) (text : List ℕ) → Short beatRoom text → Short beatRoom (printedBy v text)
+printed-room Run text h = h
+printed-room Status text h = omega arith
+
+pub beat-printed-room : (s : List ℕ) (n : Totals) (l : Lent) → length (beatPrinted s n l) ≤ beatRoom
+unfolding beatPrinted
+beat-printed-room s n l = printed-room (n .view) (beatText s n l) (beat-room s n l)
+
+-- a picture has at most 32 lines
+pub status-count : (s : List ℕ) (st : State) → statusOf s st .count ≤ maxLines
+unfolding statusOf
+status-count s st = either (λ (x : LineStates). x .count ≤ maxLines) (isSound s st) (λ e. sound-count s) (λ e. omega arith)
+
+picture-room : (s : List ℕ) (st : State) → Short endRoom (picture s st)
+picture-room s st =
+    let x = statusOf s st in
+    let a = rows-room (x .count) 0 (x .lines) in
+    let b = status-count s st in
+    omega arith
+
+end-by-room : (v : View) (s : List ℕ) (n : Totals) → Short endRoom (endBy v s n)
+end-by-room Run s n = end-room (n .beats .0) (n .coded) (n .orders)
+end-by-room Status s n = picture-room s (n .state)
+
+-- what is printed at the end
+pub ended-room : (s : List ℕ) (n : Totals) → length (ended s n) ≤ endRoom
+ended-room s n = end-by-room (n .view) s n
+
 -- what is printed with it
 abbrev Prints : ℕ → Fed → Type 0
 Prints n f = length (f .output) ≤ n
@@ -65,8 +102,8 @@ beatOf-room : (m : Machine) (l : Lent) → Prints lineRoom (beatOf m l)
 unfolding beatOf
 beatOf-room m l =
     let n = counted (m .session .totals) (answerOf (m .set) (m .session .totals) l) in
-    let a = beat-room (m .set) (m .session .totals) l in
-    let b = end-room (n .beats .0) (n .coded) (n .orders) in
+    let a = beat-printed-room (m .set) (m .session .totals) l in
+    let b = ended-room (m .set) n in
     either (Prints lineRoom) (eqb (n .beats .0) maxBeats) (λ e. simp length-append (omega arith)) (λ e. omega arith)
 
 beat-end-room : (m : Machine) (o : Option Lent) → length (beatEnd m o .output) ≤ lineRoom
@@ -93,15 +130,12 @@ line-room m =
     omega arith
 
 -- and so does the end of input
-end-after-room : (x : Session) → Short endRoom (endAfter x)
+end-after-room : (s : List ℕ) (x : Session) → Short endRoom (endAfter s x)
 unfolding endAfter
-end-after-room x =
-    let n = x .totals in
-    let a = end-room (n .beats .0) (n .coded) (n .orders) in
-    either (Short endRoom) (eqb (x .intake .phase) BEATS) (λ e. a) (λ e. omega arith)
+end-after-room s x = either (Short endRoom) (eqb (x .intake .phase) BEATS) (λ e. ended-room s (x .totals)) (λ e. omega arith)
 
 last-room : (f : Fed) → Prints lineRoom f → Short outSize (lastOutput f)
-last-room f h = let a = end-after-room (f .machine .session) in simp length-append (omega arith)
+last-room f h = let a = end-after-room (f .machine .set) (f .machine .session) in simp length-append (omega arith)
 
 pub finished-room : (m : Machine) → length (finished m) ≤ outSize
 unfolding finished

@@ -1,4 +1,4 @@
--- All that synrun prints, from all that it reads (document 01, "On both sides of each edge"). Definitions only.
+-- All that synrun prints, and synstat, from all that it reads (document 01, "On both sides of each edge"; document 02, Req 06). Definitions only.
 use mathlib.Core.Bool.{true, false}
 use mathlib.Core.List.{List, [], _∷_, _++_}
 use mathlib.Core.Option.{none, some}
@@ -9,29 +9,39 @@ use Rattle.transcript.specs.BeatLine.{lineLent}
 use Rattle.transcript.specs.Output.{loadLine, errorLine}
 use Rattle.transcript.specs.declared.totals.Totals.{Totals}
 use Rattle.transcript.specs.Totals.{maxBeats, noTotals, ended}
-use Rattle.transcript.specs.Tally.{counted, answerOf, beatText}
+use Rattle.transcript.specs.declared.view.View.{View}
+use Rattle.transcript.specs.declared.view.View.the-variants.{Run, Status}
+use Rattle.transcript.specs.Tally.{counted, answerOf, beatPrinted}
 use Rattle.transcript.specs.Input.{Input, inputOf}
 
 -- the beats of the lines left
 unfoldable pub beatsText : List ℕ → Totals → List (List ℕ) → List ℕ
-beatsText s n [] = ended n
+beatsText s n [] = ended s n
 beatsText s n (l ∷ ls) =
     elim (eqb (n .beats .0) maxBeats) [
-      | true ↦ ended n
+      | true ↦ ended s n
       | false ↦
           elim (lineLent l) [
             | none ↦ errorLine (n .lines + 1)
-            | some x ↦ beatText s n x ++ beatsText s (counted n (answerOf s n x)) ls
+            | some x ↦ beatPrinted s n x ++ beatsText s (counted n (answerOf s n x)) ls
           ]
     ]
 
 -- L if loading fails; else the beats
-unfoldable pub loadedText : Input → List ℕ
-loadedText i =
+unfoldable pub loadedText : View → Input → List ℕ
+loadedText v i =
     elim (loadAnswer (i .text) .code) [
-      | zero ↦ beatsText (loadSet (i .text)) noTotals (i .beats)
+      | zero ↦ beatsText (loadSet (i .text)) (noTotals v) (i .beats)
       | suc c ↦ loadLine (suc c) (loadAnswer (i .text) .line)
     ]
 
-unfoldable pub synrun : List ℕ → List ℕ
-synrun t = loadedText (inputOf t)
+unfoldable pub printout : View → List ℕ → List ℕ
+printout v t = loadedText v (inputOf t)
+
+-- the run: each beat, and END
+abbrev pub synrun : List ℕ → List ℕ
+synrun t = printout Run t
+
+-- the status picture at its end
+abbrev pub synstat : List ℕ → List ℕ
+synstat t = printout Status t

@@ -1,5 +1,5 @@
 -- A beat of a session, counted, and what is printed of it (document 01, "On both sides of each edge"). Definitions only.
-use mathlib.Core.List.{List, _++_, map}
+use mathlib.Core.List.{List, [], _++_, map}
 use Prim.Native.Nat.{ℕ, _+_}
 use lib.ListN.{replicate}
 use Rattle.couplers.specs.declared.reading.Reading.{Reading}
@@ -8,6 +8,8 @@ use Rattle.transcript.specs.BeatLine.{Lent}
 use Rattle.engine.specs.declared.one_beat.Beaten.{Beaten}
 use Rattle.engine.specs.Beat.{bufferSize, Given, beatAnswer, beatBuffer}
 use Rattle.transcript.specs.Output.{codeLine, orderLines}
+use Rattle.transcript.specs.declared.view.View.{View}
+use Rattle.transcript.specs.declared.view.View.the-variants.{Run, Status}
 use Rattle.transcript.specs.declared.totals.Totals.{Totals}
 use Rattle.transcript.specs.Totals.{counting}
 
@@ -33,3 +35,11 @@ bufferOf s n l = beatBuffer s (n .state) (givenBy l)
 -- what is printed of a beat: C, then an O per order
 unfoldable pub beatText : List ℕ → Totals → Lent → List ℕ
 beatText s n l = codeLine (n .beats .0 + 1) (answerOf s n l .code) (answerOf s n l .orders) ++ orderLines (answerOf s n l .orders) (bufferOf s n l)
+
+-- by the view: nothing of a beat goes with the status picture
+abbrev pub printedBy : View → List ℕ → List ℕ
+printedBy Run text = text
+printedBy Status text = []
+
+unfoldable pub beatPrinted : List ℕ → Totals → Lent → List ℕ
+beatPrinted s n l = printedBy (n .view) (beatText s n l)

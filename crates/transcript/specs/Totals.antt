@@ -1,4 +1,4 @@
--- The beat lines and the beats of a session, counted, and END (document 01, "On both sides of each edge"). Definitions only.
+-- The beat lines and the beats of a session, counted, and what is printed at its end (document 01, "On both sides of each edge"; document 02, Req 06). Definitions only.
 use mathlib.Core.Bool.{Bool, _&&_}
 use mathlib.Core.List.{List}
 use Prim.Native.Nat.{ℕ, zero, suc, _+_, _*_}
@@ -6,7 +6,10 @@ use lib.Dec.{eqb, leb, ltb}
 use Rattle.engine.specs.Order.{maxOrders}
 use Rattle.engine.specs.declared.state.State.{State}
 use Rattle.engine.specs.State.{powerOn}
-use Rattle.transcript.specs.Output.{endLine}
+use Rattle.engine.specs.Status.{statusOf}
+use Rattle.transcript.specs.declared.view.View.{View}
+use Rattle.transcript.specs.declared.view.View.the-variants.{Run, Status}
+use Rattle.transcript.specs.Output.{endLine, statusRows}
 use Rattle.transcript.specs.declared.totals.Totals.{Totals}
 
 -- after 1,000,000 beats a session ends as at the end of input
@@ -14,11 +17,24 @@ abbrev pub maxBeats : ℕ
 maxBeats = 1000000
 
 -- before the first beat
-abbrev pub noTotals : Totals
-noTotals = record { state = powerOn; lines = 0; beats = record { 0 = 0 }; coded = 0; orders = 0 }
+abbrev pub noTotals : View → Totals
+noTotals v = record { view = v; state = powerOn; lines = 0; beats = record { 0 = 0 }; coded = 0; orders = 0 }
 
-abbrev pub ended : Totals → List ℕ
-ended n = endLine (n .beats .0) (n .coded) (n .orders)
+-- END
+abbrev pub endCounts : Totals → List ℕ
+endCounts n = endLine (n .beats .0) (n .coded) (n .orders)
+
+-- the status picture of the set s
+abbrev pub picture : List ℕ → State → List ℕ
+picture s st = let x = statusOf s st in statusRows (x .count) 0 (x .lines)
+
+-- at the end, over the set s: END, or the picture
+abbrev pub endBy : View → List ℕ → Totals → List ℕ
+endBy Run s n = endCounts n
+endBy Status s n = picture s (n .state)
+
+abbrev pub ended : List ℕ → Totals → List ℕ
+ended s n = endBy (n .view) s n
 
 -- one more beat with a code
 abbrev pub oneIf : ℕ → ℕ
@@ -27,7 +43,7 @@ oneIf (suc c) = 1
 
 -- the totals with a line and its beat, by its code, its orders and the state that it leaves
 abbrev pub counting : Totals → ℕ → ℕ → State → Totals
-counting n code orders x = record { state = x; lines = n .lines + 1; beats = record { 0 = n .beats .0 + 1 }; coded = n .coded + oneIf code; orders = n .orders + orders }
+counting n code orders x = record { view = n .view; state = x; lines = n .lines + 1; beats = record { 0 = n .beats .0 + 1 }; coded = n .coded + oneIf code; orders = n .orders + orders }
 
 -- totals that a session may have with a beat still to come: each line was a beat
 unfoldable pub areFit : Totals → Bool

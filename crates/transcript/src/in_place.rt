@@ -31,8 +31,12 @@ use crate::totals::Counts;
 use crate::totals::MAX_BEATS;
 use crate::totals::put_end;
 use crate::totals::put_error;
+use couplers::channel::CHANNELS;
+use couplers::channel::Channel;
 use engine::ORDERS;
 use engine::READ;
+use engine::State;
+use engine::kept_cells;
 use engine::read_lines;
 use reader::Loaded;
 use reader::load;
@@ -67,7 +71,33 @@ pub struct Piece {
 
 // ---- what came in is worked
 
-// A beat line that lends something: C, an O per order, and END behind the last beat.
+// The state that is held in the arrays.
+pub fn state_in(
+    r: &[i32; RS],
+    cells: &[i32; CELLS],
+    runs: &[bool; TIMERS],
+    channels: [Channel; CHANNELS],
+    locked: &[bool; LINES],
+    cancelled: &[bool; LINES],
+    memory: &[bool; LINES],
+    acts: &[u32; LINES],
+) -> State
+    ensures { λ x. ⌜ x ≡ stateIn (now (r .entry)) (now (cells .entry)) (now (runs .entry)) channels (now (locked .entry)) (now (cancelled .entry)) (now (memory .entry)) (now (acts .entry)) ⌝ }
+{
+    let kept = kept_cells(cells);
+    State {
+        r: *r,
+        cells: kept,
+        runs: *runs,
+        channels: channels,
+        locked: *locked,
+        cancelled: *cancelled,
+        memory: *memory,
+        acts: *acts,
+    }
+}
+
+// A beat line that lends something: what is printed of the beat, and the end behind the last beat.
 fn work_beat(
     intake: Intake,
     counts: Counts,
@@ -79,13 +109,14 @@ fn work_beat(
     locked: &mut [bool; LINES],
     cancelled: &[bool; LINES],
     memory: &mut [bool; LINES],
+    acts: &mut [u32; LINES],
     orders: &mut [u8; ORDERS],
     lent: MaybeLent,
     out: &mut [u8],
     at: usize,
 ) -> Ended
     requires { ⌜ (now lines ≡ linesWritten (now set)) × (FitCounts counts × (at ≤ lastStart)) ⌝ }
-    ensures { λ x. ⌜ ((t : List ℕ) → IsFed (beatOf (machineOf t (now (set .entry)) (sessionIn intake counts (stateIn (now (r .entry)) (now (cells .entry)) (now (runs .entry)) (counts .channels) (now (locked .entry)) (now (cancelled .entry)) (now (memory .entry))))) (lentIn lent)) (machineOf t (now (set .entry)) (sessionIn (x .intake) (x .counts) (stateIn (now (r .exit)) (now (cells .exit)) (now (runs .exit)) (x .counts .channels) (now (locked .exit)) (now (cancelled .entry)) (now (memory .exit))))) (now (out .entry)) at (now (out .exit)) (x .end)) ⌝ }
+    ensures { λ x. ⌜ ((t : List ℕ) → IsFed (beatOf (machineOf t (now (set .entry)) (sessionIn intake counts (stateIn (now (r .entry)) (now (cells .entry)) (now (runs .entry)) (counts .channels) (now (locked .entry)) (now (cancelled .entry)) (now (memory .entry)) (now (acts .entry))))) (lentIn lent)) (machineOf t (now (set .entry)) (sessionIn (x .intake) (x .counts) (stateIn (now (r .exit)) (now (cells .exit)) (now (runs .exit)) (x .counts .channels) (now (locked .exit)) (now (cancelled .entry)) (now (memory .exit)) (now (acts .exit))))) (now (out .entry)) at (now (out .exit)) (x .end)) ⌝ }
 {
     let t = tally_beat(
         counts,
@@ -97,6 +128,7 @@ fn work_beat(
         locked,
         cancelled,
         memory,
+        acts,
         orders,
         lent,
         out,
@@ -104,7 +136,9 @@ fn work_beat(
     );
     let next = t.counts;
     if next.beats.0 == MAX_BEATS.0 {
-        let end = put_end(next, out, t.end);
+        let channels = next.channels;
+        let state = state_in(r, cells, runs, channels, locked, cancelled, memory, acts);
+        let end = put_end(next, set, state, out, t.end);
         return Ended {
             intake: stop(intake),
             counts: next,
@@ -130,13 +164,14 @@ fn beat_end(
     locked: &mut [bool; LINES],
     cancelled: &[bool; LINES],
     memory: &mut [bool; LINES],
+    acts: &mut [u32; LINES],
     orders: &mut [u8; ORDERS],
     lent: MaybeLent,
     out: &mut [u8],
     at: usize,
 ) -> Ended
     requires { ⌜ (now lines ≡ linesWritten (now set)) × (FitCounts counts × (at ≤ lastStart)) ⌝ }
-    ensures { λ x. ⌜ ((t : List ℕ) → IsFed (beatEnd (machineOf t (now (set .entry)) (sessionIn intake counts (stateIn (now (r .entry)) (now (cells .entry)) (now (runs .entry)) (counts .channels) (now (locked .entry)) (now (cancelled .entry)) (now (memory .entry))))) (lentOr lent)) (machineOf t (now (set .entry)) (sessionIn (x .intake) (x .counts) (stateIn (now (r .exit)) (now (cells .exit)) (now (runs .exit)) (x .counts .channels) (now (locked .exit)) (now (cancelled .entry)) (now (memory .exit))))) (now (out .entry)) at (now (out .exit)) (x .end)) ⌝ }
+    ensures { λ x. ⌜ ((t : List ℕ) → IsFed (beatEnd (machineOf t (now (set .entry)) (sessionIn intake counts (stateIn (now (r .entry)) (now (cells .entry)) (now (runs .entry)) (counts .channels) (now (locked .entry)) (now (cancelled .entry)) (now (memory .entry)) (now (acts .entry))))) (lentOr lent)) (machineOf t (now (set .entry)) (sessionIn (x .intake) (x .counts) (stateIn (now (r .exit)) (now (cells .exit)) (now (runs .exit)) (x .counts .channels) (now (locked .exit)) (now (cancelled .entry)) (now (memory .exit)) (now (acts .exit))))) (now (out .entry)) at (now (out .exit)) (x .end)) ⌝ }
 {
     let good = lent.good;
     if good {
@@ -151,6 +186,7 @@ fn beat_end(
             locked,
             cancelled,
             memory,
+            acts,
             orders,
             lent,
             out,
@@ -217,13 +253,14 @@ pub fn work_arrival(
     locked: &mut [bool; LINES],
     cancelled: &[bool; LINES],
     memory: &mut [bool; LINES],
+    acts: &mut [u32; LINES],
     orders: &mut [u8; ORDERS],
     out: &mut [u8],
     at: usize,
 ) -> Ended
     requires { ⌜ (now lines ≡ linesWritten (now set)) × (MayCome b counts × (at ≤ lastStart)) ⌝ }
     ensures { λ x. ⌜ now (lines .exit) ≡ linesWritten (now (set .exit)) ⌝ }
-    ensures { λ x. ⌜ ((a : Arrived) → b ≡ broughtBy a → IsFed (arrivalWorked (machineOf (now (text .entry)) (now (set .entry)) (sessionIn (a .intake) counts (stateIn (now (r .entry)) (now (cells .entry)) (now (runs .entry)) (counts .channels) (now (locked .entry)) (now (cancelled .entry)) (now (memory .entry))))) (a .arrival)) (machineOf (now (text .entry)) (now (set .exit)) (sessionIn (x .intake) (x .counts) (stateIn (now (r .exit)) (now (cells .exit)) (now (runs .exit)) (x .counts .channels) (now (locked .exit)) (now (cancelled .entry)) (now (memory .exit))))) (now (out .entry)) at (now (out .exit)) (x .end)) ⌝ }
+    ensures { λ x. ⌜ ((a : Arrived) → b ≡ broughtBy a → IsFed (arrivalWorked (machineOf (now (text .entry)) (now (set .entry)) (sessionIn (a .intake) counts (stateIn (now (r .entry)) (now (cells .entry)) (now (runs .entry)) (counts .channels) (now (locked .entry)) (now (cancelled .entry)) (now (memory .entry)) (now (acts .entry))))) (a .arrival)) (machineOf (now (text .entry)) (now (set .exit)) (sessionIn (x .intake) (x .counts) (stateIn (now (r .exit)) (now (cells .exit)) (now (runs .exit)) (x .counts .channels) (now (locked .exit)) (now (cancelled .entry)) (now (memory .exit)) (now (acts .exit))))) (now (out .entry)) at (now (out .exit)) (x .end)) ⌝ }
 {
     let intake = b.intake;
     let ending = b.ending;
@@ -257,6 +294,7 @@ pub fn work_arrival(
                 locked,
                 cancelled,
                 memory,
+                acts,
                 orders,
                 lent,
                 out,
@@ -279,13 +317,14 @@ fn line_end(
     locked: &mut [bool; LINES],
     cancelled: &[bool; LINES],
     memory: &mut [bool; LINES],
+    acts: &mut [u32; LINES],
     orders: &mut [u8; ORDERS],
     out: &mut [u8],
     at: usize,
 ) -> Ended
     requires { ⌜ (now lines ≡ linesWritten (now set)) × (LivesOn intake counts × (at ≤ lastStart)) ⌝ }
     ensures { λ x. ⌜ now (lines .exit) ≡ linesWritten (now (set .exit)) ⌝ }
-    ensures { λ x. ⌜ IsFed (lineEnd (machineOf (now (text .entry)) (now (set .entry)) (sessionIn intake counts (stateIn (now (r .entry)) (now (cells .entry)) (now (runs .entry)) (counts .channels) (now (locked .entry)) (now (cancelled .entry)) (now (memory .entry)))))) (machineOf (now (text .exit)) (now (set .exit)) (sessionIn (x .intake) (x .counts) (stateIn (now (r .exit)) (now (cells .exit)) (now (runs .exit)) (x .counts .channels) (now (locked .exit)) (now (cancelled .entry)) (now (memory .exit))))) (now (out .entry)) at (now (out .exit)) (x .end) ⌝ }
+    ensures { λ x. ⌜ IsFed (lineEnd (machineOf (now (text .entry)) (now (set .entry)) (sessionIn intake counts (stateIn (now (r .entry)) (now (cells .entry)) (now (runs .entry)) (counts .channels) (now (locked .entry)) (now (cancelled .entry)) (now (memory .entry)) (now (acts .entry)))))) (machineOf (now (text .exit)) (now (set .exit)) (sessionIn (x .intake) (x .counts) (stateIn (now (r .exit)) (now (cells .exit)) (now (runs .exit)) (x .counts .channels) (now (locked .exit)) (now (cancelled .entry)) (now (memory .exit)) (now (acts .exit))))) (now (out .entry)) at (now (out .exit)) (x .end) ⌝ }
 {
     let b = end_line(intake, text);
     work_arrival(
@@ -300,6 +339,7 @@ fn line_end(
         locked,
         cancelled,
         memory,
+        acts,
         orders,
         out,
         at,
@@ -321,12 +361,13 @@ pub fn work_lines(
     locked: &mut [bool; LINES],
     cancelled: &[bool; LINES],
     memory: &mut [bool; LINES],
+    acts: &mut [u32; LINES],
     orders: &mut [u8; ORDERS],
     input: &[u8],
     out: &mut [u8; OUT],
 ) -> Piece
     requires { ⌜ (now lines ≡ linesWritten (now set)) × ((y : State) → isFit (sessionIn intake counts y) ≡ true) ⌝ }
-    ensures { λ x. ⌜ IsWorked (worked (machineOf (now (text .entry)) (now (set .entry)) (sessionIn intake counts (stateIn (now (r .entry)) (now (cells .entry)) (now (runs .entry)) (counts .channels) (now (locked .entry)) (now (cancelled .entry)) (now (memory .entry))))) (now (input .entry))) (machineOf (now (text .exit)) (now (set .exit)) (sessionIn (x .intake) (x .counts) (stateIn (now (r .exit)) (now (cells .exit)) (now (runs .exit)) (x .counts .channels) (now (locked .exit)) (now (cancelled .entry)) (now (memory .exit))))) (x .taken) (now (out .entry)) (now (out .exit)) (x .written) ⌝ }
+    ensures { λ x. ⌜ IsWorked (worked (machineOf (now (text .entry)) (now (set .entry)) (sessionIn intake counts (stateIn (now (r .entry)) (now (cells .entry)) (now (runs .entry)) (counts .channels) (now (locked .entry)) (now (cancelled .entry)) (now (memory .entry)) (now (acts .entry))))) (now (input .entry))) (machineOf (now (text .exit)) (now (set .exit)) (sessionIn (x .intake) (x .counts) (stateIn (now (r .exit)) (now (cells .exit)) (now (runs .exit)) (x .counts .channels) (now (locked .exit)) (now (cancelled .entry)) (now (memory .exit)) (now (acts .exit))))) (x .taken) (now (out .entry)) (now (out .exit)) (x .written) ⌝ }
 {
     let mut kept = intake;
     let mut n = counts;
@@ -355,6 +396,7 @@ pub fn work_lines(
             locked,
             cancelled,
             memory,
+            acts,
             orders,
             out,
             at,

@@ -1,33 +1,44 @@
-// The lines that synrun prints, each at a place of a lent buffer; the answer is the place behind it.
+// The lines that a session prints, each at a place of a lent buffer; the answer is the place behind it.
 ghost use mathlib.Core.Path.{_≡_};
+ghost use mathlib.Core.Bool.{cond};
 ghost use mathlib.Core.List.{[], _∷_, _++_};
 ghost use Prim.Native.Nat.{_+_, _*_, _≤_, _<_};
 ghost use lib.ListN.{length, getD, drop};
 ghost use Rattle.engine.specs.Beat.{bufferSize};
 ghost use Rattle.engine.specs.Order.{maxOrders};
+ghost use Rattle.text.specs.Byte.{bytes};
+ghost use Rattle.tokens.specs.Token.{maxLines};
 ghost use Rattle.values.specs.PutAt.{putAt, IsPut};
-ghost use Rattle.transcript.specs.Output.{spaced, printedLine, decimals, fourOf, loadLine, errorLine, codeLine, orderLine, orderLines, endLine, orderRoom, outSize};
+ghost use Rattle.transcript.specs.Output.{spaced, printedLine, decimals, fourOf, loadLine, errorLine, codeLine, orderLine, orderLines, endLine, standingWord, statusLine, statusRows, orderRoom, statusRoom, outSize};
+use engine::LineStatus;
 use engine::MAX_ORDERS;
 use engine::ORDER_BYTES;
+use engine::Standing;
 use text::buffer::put;
 use text::buffer::put_bytes;
 use text::bytes::LF;
 use text::bytes::SPACE;
 use text::digits::put_number;
 use text::digits::put_signed;
+use tokens::token::LINES;
 
 const C: u8 = 67;
 
 const O: u8 = 79;
 
-// The bytes of C, of O and of END at most: a number has up to ten digits.
+const S: u8 = 83;
+
+// The bytes of C, of O and of S at most: a number has up to ten digits.
 const CODE_ROOM: usize = 35;
 
 const ORDER_ROOM: usize = 47;
 
-const END_ROOM: usize = 37;
+const STATUS_ROOM: usize = 38;
 
-// What a line of input prints at most: C, an O per order, and END behind the last beat.
+// What is printed at the end at most: an S per line, which is more than END.
+const END_ROOM: usize = STATUS_ROOM * LINES;
+
+// What a line of input prints at most: C, an O per order, and the end behind the last beat.
 const LINE_ROOM: usize = CODE_ROOM + ORDER_ROOM * MAX_ORDERS + END_ROOM;
 
 // The last place where what a line of input prints may begin.
@@ -188,6 +199,72 @@ pub fn order_lines(out: &mut [u8], at: usize, orders: &[u8], n: u32) -> usize
     let mut k: usize = 0;
     while k < count {
         p = order_line(out, p, orders, k * ORDER_BYTES);
+        k += 1;
+    }
+    p
+}
+
+// ---- the status picture
+
+// A word behind a space.
+fn put_word(out: &mut [u8], at: usize, word: &[u8]) -> usize
+    requires { ⌜ (at ≤ outSize + 36) × (length (now word) ≤ 9) ⌝ }
+    ensures { λ x. ⌜ IsPut (now (out .entry)) at (spaced (now (word .entry) ∷ [])) (now (out .exit)) x ⌝ }
+{
+    put(out, at, SPACE);
+    let p = at + 1;
+    put_bytes(out, p, word);
+    p + word.len()
+}
+
+// ID or IDS.
+fn put_kind(out: &mut [u8], at: usize, ids: bool) -> usize
+    requires { ⌜ at ≤ outSize + 1 ⌝ }
+    ensures { λ x. ⌜ IsPut (now (out .entry)) at (spaced (cond ids (bytes "IDS") (bytes "ID") ∷ [])) (now (out .exit)) x ⌝ }
+{
+    if ids {
+        return put_word(out, at, b"IDS");
+    }
+    put_word(out, at, b"ID")
+}
+
+// Locked, cancelled or waiting.
+fn put_standing(out: &mut [u8], at: usize, standing: Standing) -> usize
+    requires { ⌜ at ≤ outSize + 36 ⌝ }
+    ensures { λ x. ⌜ IsPut (now (out .entry)) at (spaced (standingWord standing ∷ [])) (now (out .exit)) x ⌝ }
+{
+    match standing {
+        Standing::Locked => put_word(out, at, b"locked"),
+        Standing::Cancelled => put_word(out, at, b"cancelled"),
+        Standing::Waiting => put_word(out, at, b"waiting"),
+    }
+}
+
+// S kind number standing acts
+fn status_line(out: &mut [u8], at: usize, row: LineStatus) -> usize
+    requires { ⌜ at ≤ outSize ⌝ }
+    ensures { λ x. ⌜ IsPut (now (out .entry)) at (statusLine row) (now (out .exit)) x ⌝ }
+{
+    let standing = row.standing;
+    put(out, at, S);
+    let p = put_kind(out, at + 1, row.ids);
+    let q = put_field(out, p, row.number as u32);
+    let r = put_standing(out, q, standing);
+    let end = put_field(out, r, row.acts);
+    put(out, end, LF);
+    end + 1
+}
+
+// The first rows of a picture.
+pub fn status_rows(out: &mut [u8], at: usize, rows: [LineStatus; LINES], count: usize) -> usize
+    requires { ⌜ (at + statusRoom * count ≤ outSize) × (count ≤ maxLines) ⌝ }
+    ensures { λ x. ⌜ IsPut (now (out .entry)) at (statusRows count 0 rows) (now (out .exit)) x ⌝ }
+{
+    let mut p = at;
+    let mut k: usize = 0;
+    while k < count {
+        let row = rows[k];
+        p = status_line(out, p, row);
         k += 1;
     }
     p

@@ -1,15 +1,15 @@
-// A session of synrun: over a piece of input the lines of its set are read once, its state is taken apart into arrays, the piece is worked in them, and the session is put together.
+// A session: over a piece of input the lines of its set are read once, its state is taken apart into arrays, the piece is worked in them, and the session is put together.
 ghost use mathlib.Core.Path.{_≡_};
-ghost use Prim.Native.Nat.{_≤_};
+ghost use Prim.Native.Nat.{_+_, _≤_};
 ghost use lib.Dec.{eqb};
 ghost use lib.ListN.{length};
 ghost use Rattle.values.specs.PutAt.{putAt, IsPut};
-ghost use Rattle.engine.specs.declared.state.State.{State};
 ghost use Rattle.transcript.specs.Intake.{OVER};
 ghost use Rattle.transcript.specs.Machine.{begun, isFit, endAfter, finishedText, worked};
-ghost use Rattle.transcript.specs.Output.{outSize};
+ghost use Rattle.transcript.specs.Output.{endRoom, outSize};
 ghost use Rattle.transcript.specs.SessionAnswers.{machineOf, stepAnswer};
 ghost use Rattle.transcript.specs.InPlace.{sessionIn};
+use crate::in_place::state_in;
 use crate::in_place::work_arrival;
 use crate::in_place::work_lines;
 use crate::intake::BEATS;
@@ -27,10 +27,10 @@ use crate::totals::counts_of;
 use crate::totals::no_totals;
 use crate::totals::put_end;
 use crate::totals::totals_of;
+use crate::view::View;
 use engine::ORDERS;
 use engine::READ;
 use engine::State;
-use engine::kept_cells;
 use engine::read_lines;
 use engine::spread_cells;
 use tokens::token::SIZE;
@@ -49,12 +49,12 @@ pub struct Stepped {
 }
 
 // Before the first byte of input.
-pub fn begin() -> Session
-    ensures { λ x. ⌜ x ≡ begun ⌝ }
+pub fn begin(view: View) -> Session
+    ensures { λ x. ⌜ x ≡ begun view ⌝ }
 {
     Session {
         intake: no_intake(),
-        totals: no_totals(),
+        totals: no_totals(view),
     }
 }
 
@@ -109,6 +109,7 @@ pub fn step(
     let mut locked = state.locked;
     let cancelled = state.cancelled;
     let mut memory = state.memory;
+    let mut acts = state.acts;
     let mut orders = [0u8; ORDERS];
     let intake = session.intake;
     let w = work_lines(
@@ -123,21 +124,22 @@ pub fn step(
         &mut locked,
         &cancelled,
         &mut memory,
+        &mut acts,
         &mut orders,
         input,
         out,
     );
-    let kept = kept_cells(&cells);
     let channels = w.counts.channels;
-    let next = State {
-        r: r,
-        cells: kept,
-        runs: runs,
-        channels: channels,
-        locked: locked,
-        cancelled: cancelled,
-        memory: memory,
-    };
+    let next = state_in(
+        &r,
+        &cells,
+        &runs,
+        channels,
+        &locked,
+        &cancelled,
+        &memory,
+        &acts,
+    );
     let after = w.intake;
     let s = Session {
         intake: after,
@@ -150,16 +152,23 @@ pub fn step(
     }
 }
 
-// END, where beat lines are still awaited.
-fn put_last(intake: Intake, counts: Counts, out: &mut [u8], at: usize) -> usize
-    requires { ⌜ at ≤ outSize ⌝ }
-    ensures { λ x. ⌜ ((y : State) → IsPut (now (out .entry)) at (endAfter (sessionIn intake counts y)) (now (out .exit)) x) ⌝ }
+// The end, where beat lines are still awaited.
+fn put_last(
+    intake: Intake,
+    counts: Counts,
+    set: &[u32; SIZE],
+    state: State,
+    out: &mut [u8],
+    at: usize,
+) -> usize
+    requires { ⌜ at + endRoom ≤ outSize ⌝ }
+    ensures { λ x. ⌜ IsPut (now (out .entry)) at (endAfter (now (set .entry)) (sessionIn intake counts state)) (now (out .exit)) x ⌝ }
 {
     let phase = intake.phase;
     if phase != BEATS {
         return at;
     }
-    put_end(counts, out, at)
+    put_end(counts, set, state, out, at)
 }
 
 // The end of input: what is still to be printed, and how many bytes it is.
@@ -182,6 +191,7 @@ pub fn finish(session: Session, text: &[u8; KEPT], set: &[u32; SIZE], out: &mut 
     let mut locked = state.locked;
     let cancelled = state.cancelled;
     let mut memory = state.memory;
+    let mut acts = state.acts;
     let mut orders = [0u8; ORDERS];
     let intake = session.intake;
     let f = work_arrival(
@@ -196,11 +206,23 @@ pub fn finish(session: Session, text: &[u8; KEPT], set: &[u32; SIZE], out: &mut 
         &mut locked,
         &cancelled,
         &mut memory,
+        &mut acts,
         &mut orders,
         out,
         0,
     );
     let after = f.intake;
     let counts = f.counts;
-    put_last(after, counts, out, f.end)
+    let channels = counts.channels;
+    let last = state_in(
+        &r,
+        &cells,
+        &runs,
+        channels,
+        &locked,
+        &cancelled,
+        &memory,
+        &acts,
+    );
+    put_last(after, counts, &own, last, out, f.end)
 }

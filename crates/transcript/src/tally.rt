@@ -1,11 +1,13 @@
 // A beat of a session, worked in place and counted, and the lines that are printed of it.
 ghost use mathlib.Core.Path.{_≡_};
+ghost use mathlib.Core.List.{_++_};
 ghost use Prim.Native.Nat.{_≤_};
 ghost use Rattle.values.specs.PutAt.{IsPut};
+ghost use Rattle.engine.specs.Order.{maxOrders};
 ghost use Rattle.engine.specs.ReadLines.{linesWritten};
 ghost use Rattle.transcript.specs.MaybeLent.{lentIn};
-ghost use Rattle.transcript.specs.Output.{lastStart};
-ghost use Rattle.transcript.specs.Tally.{readingsIn, counted, answerOf, beatText};
+ghost use Rattle.transcript.specs.Output.{codeLine, orderLines, lastStart};
+ghost use Rattle.transcript.specs.Tally.{readingsIn, counted, answerOf, printedBy, beatPrinted};
 ghost use Rattle.transcript.specs.InPlace.{totalsOf, stateIn};
 ghost use Rattle.transcript.specs.InPlaceLaws.{FitCounts};
 use crate::beat_line::MaybeLent;
@@ -14,6 +16,7 @@ use crate::printing::code_line;
 use crate::printing::order_lines;
 use crate::totals::Counts;
 use crate::totals::count;
+use crate::view::View;
 use couplers::channel::CHANNELS;
 use couplers::reading::Reading;
 use couplers::reading::reading_of;
@@ -48,7 +51,29 @@ fn readings_in(sent: [Sent; CHANNELS]) -> [Reading; CHANNELS]
     x
 }
 
-// The beat over what a line told: C and an O per order are put, and it is counted. What the order buffer has behind the orders of this beat is not looked at.
+// What is printed of a beat, by the view: C and an O per order, or nothing.
+fn put_beat(
+    view: View,
+    beat: u32,
+    code: u8,
+    n: u32,
+    orders: &[u8],
+    out: &mut [u8],
+    at: usize,
+) -> usize
+    requires { ⌜ (at ≤ lastStart) × (n ≤ maxOrders) ⌝ }
+    ensures { λ x. ⌜ IsPut (now (out .entry)) at (printedBy view (codeLine beat code n ++ orderLines n (now (orders .entry)))) (now (out .exit)) x ⌝ }
+{
+    match view {
+        View::Run => {
+            let p = code_line(out, at, beat, code, n);
+            order_lines(out, p, orders, n)
+        }
+        View::Status => at,
+    }
+}
+
+// The beat over what a line told: what is printed of it is put, and it is counted. What the order buffer has behind the orders of this beat is not looked at.
 pub fn tally_beat(
     counts: Counts,
     set: &[u32; SIZE],
@@ -59,14 +84,15 @@ pub fn tally_beat(
     locked: &mut [bool; LINES],
     cancelled: &[bool; LINES],
     memory: &mut [bool; LINES],
+    acts: &mut [u32; LINES],
     orders: &mut [u8; ORDERS],
     lent: MaybeLent,
     out: &mut [u8],
     at: usize,
 ) -> Tallied
     requires { ⌜ (now lines ≡ linesWritten (now set)) × (FitCounts counts × (at ≤ lastStart)) ⌝ }
-    ensures { λ x. ⌜ totalsOf (x .counts) (stateIn (now (r .exit)) (now (cells .exit)) (now (runs .exit)) (x .counts .channels) (now (locked .exit)) (now (cancelled .entry)) (now (memory .exit))) ≡ counted (totalsOf counts (stateIn (now (r .entry)) (now (cells .entry)) (now (runs .entry)) (counts .channels) (now (locked .entry)) (now (cancelled .entry)) (now (memory .entry)))) (answerOf (now (set .entry)) (totalsOf counts (stateIn (now (r .entry)) (now (cells .entry)) (now (runs .entry)) (counts .channels) (now (locked .entry)) (now (cancelled .entry)) (now (memory .entry)))) (lentIn lent)) ⌝ }
-    ensures { λ x. ⌜ IsPut (now (out .entry)) at (beatText (now (set .entry)) (totalsOf counts (stateIn (now (r .entry)) (now (cells .entry)) (now (runs .entry)) (counts .channels) (now (locked .entry)) (now (cancelled .entry)) (now (memory .entry)))) (lentIn lent)) (now (out .exit)) (x .end) ⌝ }
+    ensures { λ x. ⌜ totalsOf (x .counts) (stateIn (now (r .exit)) (now (cells .exit)) (now (runs .exit)) (x .counts .channels) (now (locked .exit)) (now (cancelled .entry)) (now (memory .exit)) (now (acts .exit))) ≡ counted (totalsOf counts (stateIn (now (r .entry)) (now (cells .entry)) (now (runs .entry)) (counts .channels) (now (locked .entry)) (now (cancelled .entry)) (now (memory .entry)) (now (acts .entry)))) (answerOf (now (set .entry)) (totalsOf counts (stateIn (now (r .entry)) (now (cells .entry)) (now (runs .entry)) (counts .channels) (now (locked .entry)) (now (cancelled .entry)) (now (memory .entry)) (now (acts .entry)))) (lentIn lent)) ⌝ }
+    ensures { λ x. ⌜ IsPut (now (out .entry)) at (beatPrinted (now (set .entry)) (totalsOf counts (stateIn (now (r .entry)) (now (cells .entry)) (now (runs .entry)) (counts .channels) (now (locked .entry)) (now (cancelled .entry)) (now (memory .entry)) (now (acts .entry)))) (lentIn lent)) (now (out .exit)) (x .end) ⌝ }
 {
     let sent = lent.sent;
     let readings = readings_in(sent);
@@ -81,6 +107,7 @@ pub fn tally_beat(
         locked,
         cancelled,
         memory,
+        acts,
         channels,
         lent.automatic,
         lent.word,
@@ -89,8 +116,8 @@ pub fn tally_beat(
         orders,
     );
     let n = b.orders;
-    let p = code_line(out, at, counts.beats.0 + 1, b.code, n);
-    let end = order_lines(out, p, orders, n);
+    let view = counts.view;
+    let end = put_beat(view, counts.beats.0 + 1, b.code, n, orders, out, at);
     let kept = b.channels;
     Tallied {
         counts: count(counts, b.code, n, kept),

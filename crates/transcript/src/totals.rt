@@ -1,18 +1,22 @@
-// What a session has come to so far, a beat line that is counted, and the lines that are printed of it: END and E.
+// What a session has come to so far, a beat line that is counted, and what is printed of it: the end, and E.
 ghost use mathlib.Core.Path.{_≡_};
 ghost use Prim.Native.Nat.{_+_, _≤_, _<_};
 ghost use Rattle.engine.specs.Order.{maxOrders};
 ghost use Rattle.values.specs.PutAt.{IsPut};
-ghost use Rattle.transcript.specs.Output.{errorLine, endLine, outSize};
-ghost use Rattle.transcript.specs.Totals.{noTotals, oneIf, areFit, maxBeats};
+ghost use Rattle.transcript.specs.Output.{errorLine, endRoom, outSize};
+ghost use Rattle.transcript.specs.Totals.{noTotals, picture, ended, oneIf, areFit, maxBeats};
 ghost use Rattle.transcript.specs.InPlace.{countsOf, totalsOf, countsAfter};
 ghost use Rattle.transcript.specs.InPlaceLaws.{FitCounts};
 use crate::printing::end_line;
 use crate::printing::error_line;
+use crate::printing::status_rows;
+use crate::view::View;
 use couplers::channel::CHANNELS;
 use couplers::channel::Channel;
 use engine::State;
 use engine::power_on;
+use engine::status_of;
+use tokens::token::SIZE;
 use values::time::Beats;
 
 // After so many beats a session ends.
@@ -20,8 +24,9 @@ pub const MAX_BEATS: Beats = Beats(1000000);
 
 const MAX_ORDERS: u32 = engine::MAX_ORDERS as u32;
 
-// So far: the state, the beat lines, the beats, those with a code, the orders.
+// So far: what is printed, the state, the beat lines, the beats, those with a code, the orders.
 pub struct Totals {
+    pub view: View,
     pub state: State,
     pub lines: u32,
     pub beats: Beats,
@@ -31,6 +36,7 @@ pub struct Totals {
 
 // The same, of the state the channels only: the rest is held by its arrays while a piece of input is worked.
 pub struct Counts {
+    pub view: View,
     pub channels: [Channel; CHANNELS],
     pub lines: u32,
     pub beats: Beats,
@@ -39,10 +45,11 @@ pub struct Counts {
 }
 
 // Before the first beat.
-pub fn no_totals() -> Totals
-    ensures { λ x. ⌜ x ≡ noTotals ⌝ }
+pub fn no_totals(view: View) -> Totals
+    ensures { λ x. ⌜ x ≡ noTotals view ⌝ }
 {
     Totals {
+        view: view,
         state: power_on(),
         lines: 0,
         beats: Beats(0),
@@ -56,7 +63,9 @@ pub fn counts_of(totals: Totals) -> Counts
 {
     let beats = totals.beats;
     let channels = totals.state.channels;
+    let view = totals.view;
     Counts {
+        view: view,
         channels: channels,
         lines: totals.lines,
         beats: beats,
@@ -69,7 +78,9 @@ pub fn totals_of(counts: Counts, state: State) -> Totals
     ensures { λ x. ⌜ x ≡ totalsOf counts state ⌝ }
 {
     let beats = counts.beats;
+    let view = counts.view;
     Totals {
+        view: view,
         state: state,
         lines: counts.lines,
         beats: beats,
@@ -109,7 +120,9 @@ pub fn count(counts: Counts, code: u8, orders: u32, kept: [Channel; CHANNELS]) -
 {
     let beats = counts.beats.0;
     let coded = one_if(code);
+    let view = counts.view;
     Counts {
+        view: view,
         channels: kept,
         lines: counts.lines + 1,
         beats: Beats(beats + 1),
@@ -118,12 +131,26 @@ pub fn count(counts: Counts, code: u8, orders: u32, kept: [Channel; CHANNELS]) -
     }
 }
 
-// END
-pub fn put_end(counts: Counts, out: &mut [u8], at: usize) -> usize
-    requires { ⌜ at ≤ outSize ⌝ }
-    ensures { λ x. ⌜ IsPut (now (out .entry)) at (endLine (counts .beats .0) (counts .coded) (counts .orders)) (now (out .exit)) x ⌝ }
+// The status picture.
+fn put_picture(set: &[u32; SIZE], state: State, out: &mut [u8], at: usize) -> usize
+    requires { ⌜ at + endRoom ≤ outSize ⌝ }
+    ensures { λ x. ⌜ IsPut (now (out .entry)) at (picture (now (set .entry)) state) (now (out .exit)) x ⌝ }
 {
-    end_line(out, at, counts.beats.0, counts.coded, counts.orders)
+    let x = status_of(set, state);
+    let rows = x.lines;
+    status_rows(out, at, rows, x.count)
+}
+
+// The end, by the view: END, or the status picture.
+pub fn put_end(counts: Counts, set: &[u32; SIZE], state: State, out: &mut [u8], at: usize) -> usize
+    requires { ⌜ at + endRoom ≤ outSize ⌝ }
+    ensures { λ x. ⌜ IsPut (now (out .entry)) at (ended (now (set .entry)) (totalsOf counts state)) (now (out .exit)) x ⌝ }
+{
+    let view = counts.view;
+    match view {
+        View::Run => end_line(out, at, counts.beats.0, counts.coded, counts.orders),
+        View::Status => put_picture(set, state, out, at),
+    }
 }
 
 // E of the line behind those that were taken.

@@ -9,16 +9,17 @@ use crate::host_line::LONGEST_PRINT;
 use crate::load::TEXT;
 use crate::print::BUFFER;
 use crate::random::Random;
+use crate::set::LINES;
 
 const BUFFERS: [usize; 8] = [2048, 2048, 2047, 0, 4096, 2049, 2055, 2040];
 const PRINT_BUFFERS: [usize; 12] =
     [4096, 4096, 4096, 4095, 4095, 4097, 4098, 4104, 0, 1, LONGEST_PRINT, LONGEST_PRINT];
 const LISTS: [usize; 8] = [6, 6, 6, 6, 5, 7, 0, 16];
-const ILL_FORMED: [&str; 33] = [
+const ILL_FORMED: [&str; 36] = [
     "", "Q", "L", "L 256", "L -1", "R 1", "B A 0 4097 6", "B A 0 2048 17", "V Z 0 0", "V M 32 0", "V O 0 0",
     "V L 0 2", "S C 1 1", "T 0 0 #", "N 1000000", "D 0", "P", "P 8193", "P -1", "P 4096 1", "B A 0 2048 6 1",
-    "V K 0 1", "V K 1 2", "V B 1 7FC00000", "V B 9 00000000", "V Q 1 256",
-    "F 0 2 1", "F 4 2 1", "F 1 99 1", "F 1 2 #", "S F 0 0", "S F 4 0", "S F 1 4",
+    "V K 0 1", "V K 1 2", "V B 1 7FC00000", "V B 9 00000000", "V Q 1 256", "F 0 2 1", "F 4 2 1", "F 1 99 1",
+    "F 1 2 #", "S F 0 0", "S F 4 0", "S F 1 4", "I 0", "V A 32 0", "V A 0 4294967296",
 ];
 /// Lines that are ill-formed if the set does not have the curve.
 const OF_NO_CURVE: [&str; 4] = ["F 1 4 0", "F 3 15 1", "S F 1 2", "S F 2 3"];
@@ -33,6 +34,11 @@ const FAULTS: [i64; 8] = [0, 1, 24, 24, 25, 25, 26, 255];
 const BITS: [&str; 10] = [
     "00000000", "80000000", "00000001", "3D800000", "49742400", "C9742400", "49742401", "C9742401",
     "7F7FFFFF", "FF800000",
+];
+/// Acts of a line around their top.
+const ACTS: [i64; 10] = [
+    0, 1, 3_999_999_997, 3_999_999_998, 3_999_999_999, 3_999_999_999, 3_999_999_999, 4_000_000_000,
+    4_000_000_001, 4_294_967_295,
 ];
 /// Tokens put in another's place; no keyword, so that no memory changes its meaning.
 const TOKENS: [&str; 26] = [
@@ -95,7 +101,8 @@ impl Session<'_> {
         match self.random.below(200) {
             0..=99 => self.beat(),
             100..=134 => self.host_call(),
-            135..=154 => self.add("D"),
+            135..=148 => self.add("D"),
+            149..=154 => self.add("I"),
             155..=164 => self.lent_beat(),
             165..=180 => self.damage_episode(),
             181 => self.state_damage(),
@@ -109,7 +116,8 @@ impl Session<'_> {
     }
 
     fn call(&mut self) {
-        match self.random.below(13) {
+        match self.random.below(15) {
+            13..=14 => self.add("I"),
             0..=4 => self.beat(),
             5 => self.lent_beat(),
             6 => self.add("R"),
@@ -225,8 +233,10 @@ impl Session<'_> {
         let flag = self.random.below(2) as i64;
         let rank =
             if self.random.chance(95) { self.random.below(self.set.lines.len().max(1)) } else { 31 } as i64;
-        if self.random.chance(22) {
-            return self.channel_damage();
+        match self.random.below(100) {
+            0..=21 => return self.channel_damage(),
+            22..=33 => return self.acts_damage(),
+            _ => {}
         }
         let (letter, index, value) = match self.random.below(14) {
             0 => ("O", self.random.between(1, 16), raw),
@@ -261,6 +271,19 @@ impl Session<'_> {
             let readings = vec!["00000000"; channel as usize - 1].join(" ");
             self.add(format!("A 0 {readings} B").replace("  ", " "));
         }
+    }
+
+    /// The counts of one line, or of all, come near their top; beats and the picture follow.
+    fn acts_damage(&mut self) {
+        let lines = if self.lines_known { self.set.lines.len() } else { 1 };
+        let rank = if self.random.chance(95) { self.random.below(lines) } else { LINES - 1 };
+        let acts = self.random.pick(&ACTS);
+        let ranks = if self.random.chance(30) { 0..lines } else { rank..rank + 1 };
+        ranks.for_each(|rank| self.add(format!("V A {rank} {acts}")));
+        for _ in 0..self.random.below(4) {
+            self.beat();
+        }
+        self.add("I");
     }
 
     fn set_damage(&mut self) {

@@ -1,4 +1,4 @@
-//! Random inputs by seed: set text with beats, host sessions, short and long, and set text for prints.
+//! Random inputs by seed: set text with beats, for `synrun` and for `synstat`, host sessions, short and long, and set text for prints.
 
 mod beats;
 mod curve;
@@ -34,6 +34,8 @@ pub fn input(form: Form, seed: u64) -> Vec<u8> {
     match form {
         Form::Synrun if seed % 10 == 0 => long_synrun_input(&mut Random::new(4 * seed)),
         Form::Synrun => synrun_input(&mut Random::new(4 * seed)),
+        Form::Stat if seed % 10 == 0 => long_synrun_input(&mut Random::new(!seed)),
+        Form::Stat => synrun_input(&mut Random::new(!seed)),
         Form::Host => host::session(&mut Random::new(4 * seed + 1)),
         Form::Long => long::session(&mut Random::new(4 * seed + 2)),
         Form::Print => print::input(&mut Random::new(4 * seed + 3)),

@@ -25,8 +25,10 @@ reset-spec =
     (λ c. search needs)
     (λ c κs. omega (arith, whole c))
     (λ c κs. rw (c .before .before .before .before .before .before .before .before .before .before .sound-lines .ensures) (sound-count _))
+    (λ c κs. search needs)
     (λ c.
-    let d = c .before .before .before .before .before in
+    let x = c .before .before .before in
+    let d = x .before .before .before .before .before in
     let b = d .before .before .before in
     let a = b .before .before in
-    sym (reset-sound _ _ (sound-as _ _ _ (a .before .sound-lines .ensures) (not-false _ (a .if1 .left)) _ (b .before .is-state-sound .ensures) ∙ not-false _ (b .if2 .left)) _ (a .before .sound-lines .ensures) _ (d .zero-cells .ensures) _ (c .cancel-ids .ensures))))
+    sym (reset-sound _ _ (sound-as _ _ _ (a .before .sound-lines .ensures) (not-false _ (a .if1 .left)) _ (b .before .is-state-sound .ensures) ∙ not-false _ (b .if2 .left)) _ (a .before .sound-lines .ensures) _ (d .zero-cells .ensures) _ (x .cancel-ids .ensures) _ (c .reset-acts .ensures))))

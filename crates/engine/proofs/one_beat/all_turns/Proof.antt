@@ -12,7 +12,7 @@ use Rattle.engine.specs.WriteAnswers.{varsOf}
 use Rattle.engine.specs.ActionAnswers.{worldOf}
 use Rattle.engine.specs.TurnAnswers.{IsTurned}
 use Rattle.engine.proofs.TurnLaws.{turned-good, turned-stop}
-use Rattle.engine.proofs.BeatLaws.{refuses, answers, leaves}
+use Rattle.engine.proofs.BeatLaws.{undoes, answers, leaves, counts-done, counts-undone}
 use Rattle.engine.proofs.one_beat.all_turns.Statement.{statement}
 use Rattle.engine.proofs.one_beat.all_turns.Tie as tie
 
@@ -21,7 +21,7 @@ start c = c .before .before .before .before .before .before .before .before .bef
 
 -- what is held before
 abbrev before : tie.After-turns → Held
-before c = let a = start c .args in heldIn (now (a .r)) (now (a .cells)) (now (a .runs)) (a .before) (now (a .locked)) (now (a .memory)) (now (a .orders))
+before c = let a = start c .args in heldIn (now (a .r)) (now (a .cells)) (now (a .runs)) (a .before) (now (a .locked)) (now (a .memory)) (now (a .acts)) (now (a .orders))
 
 -- all turns, the world that they left, and that they came to it
 abbrev all : tie.After-turns → Answer Turned
@@ -40,23 +40,29 @@ all-turns-spec =
     (λ c κs. search needs)
     (λ c κs. search needs)
     (λ c κs. search needs)
+    (λ c κs. search needs)
+    (λ c κs. search needs)
     (λ c.
     let i = c .before in
-    let d = i .before in
-    refuses (before d) (start d .args .kept) (all d) (c .refused .ensures) (turned-stop (d .turns .result) (world d) (all d) (came d) (not-true _ (i .if1 .taken))))
+    let n = i .before in
+    let d = n .before .before .before in
+    let b = not-true _ (i .if1 .taken) in
+    undoes (before d) (start d .args .kept) (all d) (c .refused .ensures) (turned-stop (d .turns .result) (world d) (all d) (came d) b) (counts-undone (now (start d .args .acts)) (d .turns .result) (n .before .counted .ensures) (n .count-acts .ensures) b))
     (λ c. search needs)
-    (λ c κs. let d = c .before .before .before .before .before in (omega (arith, d .turns .ensures .1 .0), start d .pre .1 .1 .1))
-    (λ c κs. omega (arith, c .before .before .before .before .before .before .before .before .turns .ensures .1 .0))
+    (λ c κs. let d = c .before .before .before .before .before .before .before .before in (omega (arith, d .turns .ensures .1 .0), start d .pre .1 .1 .1))
+    (λ c κs. omega (arith, c .before .before .before .before .before .before .before .before .before .before .before .turns .ensures .1 .0))
     (λ c. search needs)
     (λ c.
     let p = c .before .before .before in
-    let i = c .before .before .before .before .before .before .before .before in
-    let d = i .before in
+    let i = p .before .before .before .before .before in
+    let n = i .before in
+    let d = n .before .before .before in
     let o = d .turns .last .1 .1 .1 .1 in
-    let w = turned-good (d .turns .result) (world d) (all d) (came d) (not-false _ (i .if1 .left)) in
-    let n = p .copy-orders .ensures in
+    let g = not-false _ (i .if1 .left) in
+    let w = turned-good (d .turns .result) (world d) (all d) (came d) g in
+    let b = p .copy-orders .ensures in
     let v = varsOf (o .0) (o .1 .0) (o .1 .1 .0) in
     let f = d .turns .result .progress in (
-      answers (before d) (start d .args .kept) (all d) v (o .1 .1 .1 .0) (o .1 .1 .1 .1 .0) (o .1 .1 .1 .1 .1 .0) f _ (w .1) (n .1) (c .finished .ensures),
-      leaves (before d) (start d .args .kept) (all d) v (o .1 .1 .1 .0) (o .1 .1 .1 .1 .0) (o .1 .1 .1 .1 .1 .0) f _ (w .1) (n .1) (c .finished .ensures) (n .0),
+      answers (before d) (start d .args .kept) (all d) v (o .1 .1 .1 .0) (o .1 .1 .1 .1 .0) (o .1 .1 .1 .1 .1 .0) f _ (w .1) (b .1) (c .finished .ensures),
+      leaves (before d) (start d .args .kept) (all d) v (o .1 .1 .1 .0) (o .1 .1 .1 .1 .0) (o .1 .1 .1 .1 .1 .0) f _ (w .1) (b .1) (c .finished .ensures) (counts-done (now (start d .args .acts)) (d .turns .result) (n .before .counted .ensures) (n .count-acts .ensures) g) (b .0),
     )))

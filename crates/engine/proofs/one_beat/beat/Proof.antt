@@ -20,11 +20,11 @@ beat-spec =
     (λ c. search needs)
     (λ c.
     let b = c .before .before .before .before .before in
-    let p = b .before .before .before .before .before .before .before .before .before .before .before .before .before .before in
+    let p = b .before .before .before .before .before .before .before .before .before .before .before .before .before .before .before .before in
     let l = p .before .before .before .before in
     let a = l .before .before .before .args in
     let st = a .state in
     let e = state-apart st (now (a .orders)) (p .spread-cells .ensures) in
-    put-back st (heldIn (st .r) (p .spread-cells .result) (st .runs) (st .channels) (st .locked) (st .memory) (now (a .orders))) (sampledAll (st .channels) (a .readings) .channels) e
+    put-back st (heldIn (st .r) (p .spread-cells .result) (st .runs) (st .channels) (st .locked) (st .memory) (st .acts) (now (a .orders))) (sampledAll (st .channels) (a .readings) .channels) e
     (beat-over-lines (now (a .set)) st (record { automatic = a .automatic; word = a .inputs; readings = a .readings; lent = now (a .lent); buffer = now (a .orders) }) (l .read-lines .ensures) e)
     (b .beat-held .ensures .0) (b .beat-held .ensures .1) (c .before .kept-cells .ensures)))

@@ -6,7 +6,8 @@ use mathlib.Core.Bool.{true}
 use denote.Ref.{now}
 use Rattle.couplers.specs.Channel.{channelCount, areChannels}
 use Rattle.working.specs.Variables.{fifos}
-use Rattle.engine.specs.Sound.{allRanged, areCells, areFifos, stateSound}
+use Rattle.tokens.specs.Token.{maxLines}
+use Rattle.engine.specs.Sound.{allRanged, areCells, areFifos, areFlags, stateSound}
 use Rattle.engine.proofs.sound.is_held_sound.Statement.{statement}
 use Rattle.engine.proofs.sound.is_held_sound.Tie as tie
 
@@ -22,6 +23,9 @@ ok3 c = sym (c .before .are-fifos .ensures) ∙ not-false _ (c .if3 .left)
 
 ok4 : (c : tie.Else4) → areChannels (c .before .before .before .before .before .before .before .before .before .args .channels) channelCount ≡ true
 ok4 c = sym (c .before .are-channels .ensures) ∙ not-false _ (c .if4 .left)
+
+ok5 : (c : tie.Else5) → let a = c .before .before .before .before .before .before .before .before .before .before .before .args in areFlags (a .count) (now (a .locked)) (now (a .cancelled)) (now (a .memory)) maxLines 0 ≡ true
+ok5 c = sym (c .before .are-flags .ensures) ∙ not-false _ (c .if5 .left)
 
 pub is-held-sound-spec : {M : Type 1} → statement M
 unfolding stateSound
@@ -41,7 +45,14 @@ is-held-sound-spec =
     simp (stateSound, ok1 (e .before .before), ok2 e, ok3 f, sym (c .before .are-channels .ensures) ∙ not-true _ (c .if4 .taken)))
     (λ c κs. search needs)
     (λ c runs.
-    let d = c .before in
+    let d = c .before .before in
     let f = d .before .before in
     let e = f .before .before in
-    simp (stateSound, ok1 (e .before .before), ok2 e, ok3 f, ok4 d) (c .are-flags .ensures)))
+    simp (stateSound, ok1 (e .before .before), ok2 e, ok3 f, ok4 d, sym (c .before .are-flags .ensures) ∙ not-true _ (c .if5 .taken)))
+    (λ c κs. search needs)
+    (λ c runs.
+    let g = c .before in
+    let d = g .before .before in
+    let f = d .before .before in
+    let e = f .before .before in
+    simp (stateSound, ok1 (e .before .before), ok2 e, ok3 f, ok4 d, ok5 g) (c .are-act-counts .ensures)))

@@ -9,4 +9,4 @@ is-state-sound-spec =
     (tie.spec
     (λ c. search needs)
     (λ c κs. search needs)
-    (λ c. c .is-held-sound .ensures (c .before .before .before .before .before .before .before .before .before .before .before .before .args .state .runs)))
+    (λ c. c .is-held-sound .ensures (c .before .before .before .before .before .before .before .before .before .before .before .before .before .before .args .state .runs)))

@@ -12,7 +12,7 @@ beat-end-spec =
     (tie.spec
     (λ c κs. search needs)
     (λ c. search needs)
-    (λ c t. let p = c .before .before in fed-as (beat-good t _ _ _ (p .before .before .before .before .before .before .before .before .if1 .taken)) (p .work-beat .ensures t))
+    (λ c t. let p = c .before .before in fed-as (beat-good t _ _ _ (p .before .before .before .before .before .before .before .before .before .if1 .taken)) (p .work-beat .ensures t))
     (λ c κs. let p = c .before .before .before .pre .1 in let f = p .0 powerOn in (omega (arith, f .beats, f .lines), omega (arith, p .1)))
     (λ c κs. search needs)
     (λ c. search needs)

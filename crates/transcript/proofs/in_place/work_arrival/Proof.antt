@@ -25,7 +25,7 @@ work-arrival-spec =
     (λ c κs. search needs)
     (λ c. search needs)
     (λ c κs.
-    let b = c .before .before .before .before .before .before .before .before .before .before in
+    let b = c .before .before .before .before .before .before .before .before .before .before .before in
     let p = b .before .before .before .before .pre in
     (p .0, (p .1 .0 .counts (b .enum-told3 .given .1), p .1 .1)))
     (λ c. (c .before .before .before .before .pre .0, λ a e. fed (came-nothing _ _ _ a e (c .enum-told .given .1)) put-nothing))
@@ -36,4 +36,5 @@ work-arrival-spec =
     (λ c. search needs)
     (λ c.
     let b = c .before .before in
-    (b .before .before .before .before .before .before .before .before .before .before .before .before .before .before .before .pre .0, λ a e. fed-as (came-beat _ _ _ a e (b .before .before .before .before .before .before .before .before .before .before .before .enum-told3 .given .1)) (b .beat-end .ensures _))))
+    let m = b .before .before .before .before .before .before .before .before .before .before .before .before in
+    (m .before .before .before .before .pre .0, λ a e. fed-as (came-beat _ _ _ a e (m .enum-told3 .given .1)) (b .beat-end .ensures _))))

@@ -24,4 +24,4 @@ put-field-spec =
     let m = c .before .before in
     let p = m .before .before .before .before in
     let n = p .before .before .before .args .n in
-    put-as (field-alone n) (put-both (put-byte (p .put .ensures)) (put-sized (decimal n) (m .put-number .ensures .1) (m .put-number .ensures .0)))))
+    put-as (field-alone (decimal n)) (put-both (put-byte (p .put .ensures)) (put-sized (decimal n) (m .put-number .ensures .1) (m .put-number .ensures .0)))))

@@ -11,7 +11,7 @@ use Rattle.transcript.specs.InPlaceLaws.{fit-counts, totals-apart}
 use Rattle.transcript.specs.SessionRoomLaws.{fit-parts, arrival-room}
 use Rattle.transcript.proofs.StepLaws.{input-told}
 use Rattle.values.specs.PutLaws.{put-nothing}
-use Rattle.transcript.proofs.WorkLaws.{put-whole, put-after, end-has-room, finish-unfit, finish-fit}
+use Rattle.transcript.proofs.WorkLaws.{put-whole, put-after, end-has-room, end-in, finish-unfit, finish-fit}
 use Rattle.transcript.proofs.session.finish.Statement.{statement}
 use Rattle.transcript.proofs.session.finish.Tie as tie
 
@@ -29,22 +29,24 @@ finish-spec =
     (λ c κs. search needs)
     (λ c κs. search needs)
     (λ c κs.
-    let k = c .before .before .before .before .before .before .before .before .before .before in
+    let k = c .before .before .before .before .before .before .before .before .before .before .before in
     let b = k .before in
-    let l = b .before .before .before .before .before .before .before .before .before .before .before .before in
-    let f = fit-parts _ (fit (l .before .before .before .before)) in
-    (l .read-lines .ensures, (record { kept = input-told _ (f .intake) (b .end-input .ensures); counts = λ h y. rw (k .counts-of .ensures) (fit-counts (countsOf (l .before .before .before .before .before .before .args .session .totals)) (f .totals) y) }, omega arith)))
+    let l = b .before .before .before .before .before .before .before .before .before .before .before .before .before in
+    let i = l .before .before .before .before in
+    let f = fit-parts _ (fit i) in
+    (l .read-lines .ensures, (record { kept = input-told _ (f .intake) (b .end-input .ensures); counts = λ h y. rw (k .counts-of .ensures) (fit-counts (countsOf (i .before .before .args .session .totals)) (f .totals) y) }, omega arith)))
+    (λ c κs. search needs)
     (λ c κs.
-    let w = c .before .before .before in
-    let b = w .before .before .before .before .before .before .before .before .before .before .before .before in
-    let x = b .before .before .before .before .before .before .before .before .before .before .before .before .before .before .before .before .before .before .args .session in
-    end-has-room (w .work-arrival .ensures .1 (inputOver (x .intake)) (b .end-input .ensures)) (arrival-room _ _))
+    let w = c .before .before .before .before .before .before .before .before .before .before .before .before .before in
+    let b = w .before .before .before .before .before .before .before .before .before .before .before .before .before in
+    end-has-room (w .work-arrival .ensures .1 (inputOver (b .before .before .before .before .before .before .before .before .before .before .before .before .before .before .before .before .before .before .before .args .session .intake)) (b .end-input .ensures)) (arrival-room _ _))
     (λ c.
-    let w = c .before .before .before .before in
-    let k = w .before .before .before .before .before .before .before .before .before .before .before in
+    let y = c .before .before .before in
+    let w = y .before .before .before .before .before .before .before .before .before .before .before in
+    let k = w .before .before .before .before .before .before .before .before .before .before .before .before in
     let b = k .before in
-    let p = b .before .before .before .before .before .before in
+    let p = b .before .before .before .before .before .before .before in
     let i = p .before .before .before .before .before .before .before .before .before .before in
     let x = i .before .before .args .session in
     put-after (finish-fit _ _ _ (fit i) (totals-apart (x .totals) (k .counts-of .ensures) (p .spread-cells .ensures)))
-    (w .work-arrival .ensures .1 (inputOver (x .intake)) (b .end-input .ensures)) (c .put-last .ensures _)))
+    (w .work-arrival .ensures .1 (inputOver (x .intake)) (b .end-input .ensures)) (end-in _ _ (w .work-arrival .result .counts) (y .state-in .ensures) (c .put-last .ensures))))

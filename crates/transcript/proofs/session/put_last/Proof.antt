@@ -9,7 +9,7 @@ pub put-last-spec : {M : Type 1} → statement M
 put-last-spec =
     tie.close
     (tie.spec
-    (λ c y. put-as (end-else _ (c .if1 .taken)) put-nothing)
+    (λ c. put-as (end-else _ _ (c .if1 .taken)) put-nothing)
     (λ c κs. search needs)
     (λ c. search needs)
-    (λ c y. let p = c .before .before in put-as (end-beats _ (p .before .before .if1 .left)) (p .put-end .ensures)))
+    (λ c. let p = c .before .before in put-as (end-beats _ _ (p .before .before .if1 .left)) (p .put-end .ensures)))

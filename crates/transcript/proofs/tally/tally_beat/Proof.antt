@@ -10,20 +10,20 @@ use Rattle.engine.specs.Held.{Held, heldIn}
 use Rattle.engine.specs.Order.{maxOrders}
 use Rattle.engine.specs.State.{powerOn}
 use Rattle.transcript.specs.MaybeLent.{lentIn}
-use Rattle.transcript.proofs.TallyBeatLaws.{code-near, few-orders, beat-counted, beat-put}
+use Rattle.transcript.proofs.TallyBeatLaws.{few-orders, beat-counted, beat-put}
 use Rattle.transcript.proofs.tally.tally_beat.Statement.{statement}
 use Rattle.transcript.proofs.tally.tally_beat.Tie as tie
 
 -- what the beat is lent
 abbrev held : tie.Start → Held
-held s = let a = s .args in heldIn (now (a .r)) (now (a .cells)) (now (a .runs)) (a .counts .channels) (now (a .locked)) (now (a .memory)) (now (a .orders))
+held s = let a = s .args in heldIn (now (a .r)) (now (a .cells)) (now (a .runs)) (a .counts .channels) (now (a .locked)) (now (a .memory)) (now (a .acts)) (now (a .orders))
 
-size : (c : tie.After-beat-over) → length (now (c .before .before .before .before .before .before .before .before .before .before .before .before .before .args .orders)) ≡ bufferSize
+size : (c : tie.After-beat-over) → length (now (c .before .before .before .before .before .before .before .before .before .before .before .before .before .before .args .orders)) ≡ bufferSize
 size c = search needs
 
 few : (c : tie.After-beat-over) → c .beat-over .result .orders ≤ maxOrders
 few c =
-    let r = c .before .before .before .before .before .before .before .before .before .before in
+    let r = c .before .before .before .before .before .before .before .before .before .before .before in
     let s = r .before .before .before in
     let a = s .args in
     few-orders (now (a .set)) (a .counts) (lentIn (a .lent)) (now (a .cancelled)) (held s) (s .pre .0) (size c) (r .readings-in .ensures) (c .beat-over .ensures)
@@ -33,25 +33,18 @@ tally-beat-spec =
     tie.close
     (tie.spec
     (λ c κs. search needs)
-    (λ c. search needs)
+    (λ c. search (needs, c .before .before .before .before .before .before .before .before .before .before .before .before .good .1 .1 .1 .1 .1 .1 .1 .1 .1 .1 .1 .0))
     (λ c κs. search needs)
     (λ c. let f = c .before .before .before .before .before .before .before .before .before .before .before .before .before .before .before .pre .1 .0 powerOn in omega (arith, f .beats))
-    (λ c κs. let w = c .before .before .before .before .before .before .before .before .before .before .before .before .before .before .before .pre .1 .1 in omega arith)
-    (λ c κs.
-    let l = c .before .before .before .before .before in
-    let b = l .before .before .before in
-    let n = few b in
-    let near = code-near _ _ _ (l .code-line .ensures) in
-    (omega (arith, b .before .before .before .before .before .before .before .before .before .before .before .before .before .pre .1 .1), n))
-    (λ c κs. let b = c .before .before .before .before .before .before .before .before .before .before .before .before in (b .before .before .before .before .before .before .before .before .before .before .before .before .before .pre .1 .0, few b))
+    (λ c κs. let b = c .before .before .before .before in (b .before .before .before .before .before .before .before .before .before .before .before .before .before .before .pre .1 .1, few b))
+    (λ c κs. let b = c .before .before .before .before .before .before .before .before in (b .before .before .before .before .before .before .before .before .before .before .before .before .before .before .pre .1 .0, few b))
     (λ c. search needs)
     (λ c.
-    let o = c .before .before .before .before in
-    let l = o .before .before .before .before .before .before in
-    let b = l .before .before .before in
-    let r = b .before .before .before .before .before .before .before .before .before .before in
+    let p = c .before .before .before .before in
+    let b = p .before .before .before .before .before in
+    let r = b .before .before .before .before .before .before .before .before .before .before .before in
     let s = r .before .before .before in
     let a = s .args in (
       beat-counted (now (a .set)) (a .counts) (lentIn (a .lent)) (now (a .cancelled)) (held s) (s .pre .0) (size b) (r .readings-in .ensures) (b .beat-over .ensures) (c .count .ensures),
-      beat-put (now (a .set)) (a .counts) (lentIn (a .lent)) (now (a .cancelled)) (held s) (s .pre .0) (size b) (r .readings-in .ensures) (b .beat-over .ensures) (l .code-line .ensures) (o .order-lines .ensures),
+      beat-put (now (a .set)) (a .counts) (lentIn (a .lent)) (now (a .cancelled)) (held s) (s .pre .0) (size b) (r .readings-in .ensures) (b .beat-over .ensures) (p .put-beat .ensures),
     )))
