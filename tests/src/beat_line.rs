@@ -1,9 +1,28 @@
-//! A beat line of a script: mode, input word, up to eight readings and up to six positions.
+//! The lines of a script: program end, control reset, and a beat with its mode, input word, up to eight readings and up to six positions.
 
 use crate::beat::Mode;
 use crate::control::POSITIONS;
 use crate::fields::{fields, signed, unsigned};
 use crate::reading::{Reading, CHANNELS};
+
+/// A line of a script of `synrun`.
+#[derive(Clone, PartialEq, Eq, Debug)]
+pub enum ScriptLine {
+    Beat(BeatLine),
+    ProgramEnd,
+    ControlReset,
+}
+
+impl ScriptLine {
+    /// None if the line is ill-formed.
+    pub fn read(line: &[u8]) -> Option<ScriptLine> {
+        match line {
+            b"PE" => Some(ScriptLine::ProgramEnd),
+            b"RS" => Some(ScriptLine::ControlReset),
+            _ => BeatLine::read(line).map(ScriptLine::Beat),
+        }
+    }
+}
 
 #[derive(Clone, PartialEq, Eq, Debug)]
 pub struct BeatLine {

@@ -1,4 +1,4 @@
-//! The control as the host sees it: load, beat, lock, unlock, cancel, reset, status.
+//! The control as the host sees it: load, beat, lock, unlock, cancel, program end, reset, status.
 
 use crate::beat::{set_lock, Beat, Inputs};
 use crate::beat_line::BeatLine;
@@ -149,7 +149,30 @@ impl Control {
         self.on_line(number, Entry::Cancel, |line| cancel(line, slip))
     }
 
-    /// Cancels ID lines, frees IDS lines, clears markers, parameters and timers.
+    /// Program end: cancels each ID line still live, as the host's cancel does, and nothing else.
+    pub fn program_end(&mut self) -> Code {
+        if let Err(code) = self.demand_sound() {
+            return code;
+        }
+        if self.slip == Slip::ProgramEndResets {
+            return self.reset();
+        }
+        let mut ended = Vec::new();
+        for (rank, line) in self.set.lines().into_iter().flatten().enumerate() {
+            let meant = line.scope == Scope::Id || self.slip == Slip::ProgramEndCancelsAll;
+            let known = &mut self.state.lines[rank];
+            self.seen.program_end(line.scope, known);
+            if meant && !known.cancelled {
+                cancel(known, self.slip);
+                ended.push(rank);
+            }
+        }
+        self.seen.row_stays(&self.state.channels, "row through a program end");
+        self.witness.program_end(&ended);
+        Code::Success
+    }
+
+    /// Control reset: cancels ID lines, frees IDS lines, clears markers, parameters and timers.
     pub fn reset(&mut self) -> Code {
         if let Err(code) = self.demand_sound() {
             return code;

@@ -19,9 +19,10 @@ use std::collections::BTreeMap;
 
 const MOVES: [&str; 4] = ["POS and POS", "POS and MOV", "MOV and POS", "MOV and MOV"];
 const ALARMS: [u8; 5] = [30, 31, 32, 33, 34];
-const HOST_FORMS: [&str; 34] = [
+const HOST_FORMS: [&str; 35] = [
     "A", "M", "B", "L", "U", "C", "R", "P", "N", "K", "G", "D", "T", "F", "S N", "S I", "S C", "S X", "S F",
     "V O", "V M", "V P", "V R", "V T", "V U", "V F", "V L", "V C", "V E", "V K", "V B", "V Q", "V A", "I",
+    "E",
 ];
 
 /// How often each thing occurred, by name.
@@ -69,6 +70,10 @@ impl Coverage {
         self.refused(set_text);
         if [Form::Synrun, Form::Stat].contains(&form) && !output.starts_with("L ") {
             self.note(format!("{}load 0", group(form)));
+        }
+        if [Form::Synrun, Form::Stat].contains(&form) {
+            let calls = script.iter().filter(|line| [&b"PE"[..], b"RS"].contains(line));
+            calls.for_each(|line| self.note(format!("{} line {}", form.name(), host_form(line))));
         }
         if [Form::Host, Form::Long].contains(&form) {
             script.iter().for_each(|line| self.note(format!("{} line {}", form.name(), host_form(line))));
@@ -234,7 +239,9 @@ fn expected() -> Vec<String> {
         for call in ["L", "U", "C"] {
             names.extend([0, 22, 40].map(|code| format!("{form} call {call} {code}")));
         }
-        names.extend([0, 22].map(|code| format!("{form} call R {code}")));
+        for call in ["R", "E"] {
+            names.extend([0, 22].map(|code| format!("{form} call {call} {code}")));
+        }
         names.extend([0, 22].map(|code| format!("{form} status {code}")));
         let prints = host_print_seen::expected(form == "long");
         names.extend(prints.iter().map(|name| format!("{form} print {name}")));
@@ -244,6 +251,9 @@ fn expected() -> Vec<String> {
         names.extend(["E", "END"].map(|end| format!("{form} ends with {end}")));
     }
     names.push("host status of no line".into());
+    for form in ["synrun", "stat"] {
+        names.extend(["PE", "RS"].map(|line| format!("{form} line {line}")));
+    }
     names.extend(["long load 0".into(), "long ends with END".into()]);
     names.extend((0..=14).map(|code| format!("print load {code}")));
     names.extend((0..=14).map(|code| format!("stat load {code}")));

@@ -108,6 +108,7 @@ impl<W: Write, R: Read> HostCalls<'_, W, R> {
             HostLine::Lock(line) => self.host_call(number, b'L', line)?,
             HostLine::Unlock(line) => self.host_call(number, b'U', line)?,
             HostLine::Cancel(line) => self.host_call(number, b'C', line)?,
+            HostLine::ProgramEnd => self.host_call(number, b'E', 0)?,
             HostLine::Reset => self.host_call(number, b'R', 0)?,
             HostLine::Status => self.status(number)?,
             HostLine::Print(length) => self.print(number, length)?,

@@ -26,6 +26,7 @@ pub enum HostLine {
     Lock(u8),
     Unlock(u8),
     Cancel(u8),
+    ProgramEnd,
     Reset,
     /// A print into a buffer of so many bytes.
     Print(usize),
@@ -80,6 +81,7 @@ impl HostLine {
             (b"L", [number]) => Some(HostLine::Lock(byte(number)?)),
             (b"U", [number]) => Some(HostLine::Unlock(byte(number)?)),
             (b"C", [number]) => Some(HostLine::Cancel(byte(number)?)),
+            (b"E", []) => Some(HostLine::ProgramEnd),
             (b"R", []) => Some(HostLine::Reset),
             (b"I", []) => Some(HostLine::Status),
             (b"P", [bytes]) => Some(HostLine::Print(below(bytes, LONGEST_PRINT as i64)?)),

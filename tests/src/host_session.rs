@@ -52,6 +52,7 @@ impl<'a> Session<'a> {
             HostLine::Lock(number) => self.host_call(|control| control.lock(number))?,
             HostLine::Unlock(number) => self.host_call(|control| control.unlock(number))?,
             HostLine::Cancel(number) => self.host_call(|control| control.cancel(number))?,
+            HostLine::ProgramEnd => self.host_call(Control::program_end)?,
             HostLine::Reset => self.host_call(Control::reset)?,
             HostLine::Status => self.status()?,
             HostLine::Print(length) => self.print(length)?,

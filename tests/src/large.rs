@@ -3,12 +3,18 @@
 use crate::cases::Case;
 use crate::runner::Form;
 
-/// Beats after which the program ends.
+/// Lines after which the program ends.
 const BEATS: usize = 1_000_000;
 const ZEROS: usize = 1_000_000;
 
 pub fn all() -> Vec<Case> {
-    vec![beats_without_end(), last_beat_ill_formed(), zeros_without_end()]
+    vec![
+        beats_without_end(),
+        last_beat_ill_formed(),
+        calls_count_toward_the_lines(),
+        calls_count_toward_k(),
+        zeros_without_end(),
+    ]
 }
 
 fn case(name: &str, input: String, expected: String) -> Case {
@@ -31,6 +37,20 @@ fn last_beat_ill_formed() -> Case {
     let input = format!("ID=1 WHENEVER FALSE DO POS[X]=1\n*\n{}?\n", "M 0\n".repeat(BEATS - 1));
     let good: String = (1..BEATS).map(|beat| format!("C {beat} 0 0\n")).collect();
     case("large-beat-1000000-ill-formed", input, format!("{good}E {BEATS}\n"))
+}
+
+/// Program ends and control resets among the lines that are worked; the beats behind them are not.
+fn calls_count_toward_the_lines() -> Case {
+    let input =
+        format!("IDS=1 DO SETAL(65000)\n*\n{}{}?\n", "PE\nRS\n".repeat(BEATS / 2 - 1), "A 0\n".repeat(3));
+    let expected = "C 1 0 1\nO 1 5 0 65000\nC 2 0 1\nO 1 5 0 65000\nEND 2 0 2\n";
+    case("large-pe-and-rs-count-toward-1000000", input, expected.into())
+}
+
+/// The last line that is worked is ill-formed, and those before it are no beats.
+fn calls_count_toward_k() -> Case {
+    let input = format!("IDS=1 DO SETAL(65000)\n*\n{}PE \n", "RS\n".repeat(BEATS - 1));
+    case("large-rs-then-line-1000000-ill-formed", input, format!("E {BEATS}\n"))
 }
 
 /// A beat line of leading zeros.

@@ -4,9 +4,9 @@ use crate::beat::Turn;
 use crate::code::Code;
 use crate::reading::{Channel, Reading};
 use crate::set::{Set, LINES};
-use crate::state::TOP_ACTS;
+use crate::state::{LineState, TOP_ACTS};
 use crate::status::{Standing, Status};
-use crate::token::{Keyword, Name};
+use crate::token::{Keyword, Name, Scope};
 use crate::tree::{Line, Variable};
 use crate::witness::Witness;
 use std::cmp::Ordering;
@@ -40,13 +40,14 @@ const DAMAGE_EVENTS: [&str; 5] = [
     "curve damage 22 by a curve gone", "curve damage in use",
 ];
 /// What is counted of readings and channels.
-const READING_EVENTS: [&str; 27] = [
+const READING_EVENTS: [&str; 28] = [
     "reading +0", "reading -0", "reading below the normal numbers", "reading exact", "reading under a half",
     "reading over a half", "reading half down to even", "reading half up to even", "reading below zero",
     "reading of the top", "reading just under the top", "reading just over the top", "reading out of range",
     "reading +infinity", "reading -infinity", "reading quiet NaN", "reading signalling NaN", "reading break",
     "reading short", "23, never good", "23 after 25 faulty beats", "row of 1 ends", "row of 24 ends",
     "row of 25 ends", "row through a refused beat", "row through an alarmed beat", "row through a reset",
+    "row through a program end",
 ];
 /// What is counted of acts and of the status picture.
 const STATUS_EVENTS: [&str; 14] = [
@@ -54,6 +55,11 @@ const STATUS_EVENTS: [&str; 14] = [
     "status ID waiting", "status ID locked", "status ID cancelled", "status IDS waiting",
     "status IDS locked", "status IDS cancelled", "status cancelled with acts", "status acts 1",
     "status acts 3999999999", "status acts 4000000000",
+];
+/// What is counted of program ends.
+const END_EVENTS: [&str; 6] = [
+    "program end, ID line live", "program end, ID line locked", "program end, ID line cancelled",
+    "program end, IDS line live", "program end, IDS line locked", "program end, IDS line cancelled",
 ];
 /// What is counted for each keyword; the bare word is for lines without.
 const BY_KEYWORD: [(&str, &[&str]); 8] = [
@@ -81,7 +87,8 @@ impl Seen {
         let by_keyword =
             BY_KEYWORD.iter().flat_map(|(way, words)| words.iter().map(move |word| [way, *word].concat()));
         let of_curves = CURVE_EVENTS.iter().chain(&DAMAGE_EVENTS);
-        let events = EVENTS.iter().chain(of_curves).chain(&READING_EVENTS).chain(&STATUS_EVENTS);
+        let of_calls = STATUS_EVENTS.iter().chain(&END_EVENTS);
+        let events = EVENTS.iter().chain(of_curves).chain(&READING_EVENTS).chain(of_calls);
         let names = events.map(|name| name.to_string()).chain(by_keyword);
         Seen { counts: Some(names.map(|name| (name, 0)).collect()), ..Seen::default() }
     }
@@ -191,6 +198,18 @@ impl Seen {
         if acts > 0 {
             self.note(if cancelled { "acts kept by a reset" } else { "acts zeroed by a reset" });
         }
+    }
+
+    /// Notes what a program end meets.
+    pub fn program_end(&mut self, scope: Scope, known: &LineState) {
+        self.note(match (scope, known.cancelled, known.locked) {
+            (Scope::Id, true, _) => "program end, ID line cancelled",
+            (Scope::Id, _, true) => "program end, ID line locked",
+            (Scope::Id, _, _) => "program end, ID line live",
+            (Scope::Ids, true, _) => "program end, IDS line cancelled",
+            (Scope::Ids, _, true) => "program end, IDS line locked",
+            (Scope::Ids, _, _) => "program end, IDS line live",
+        });
     }
 
     /// Notes what a status picture shows.

@@ -69,6 +69,10 @@ pub enum Slip {
     ActsOfCancelledClearedAtReset,
     /// A reset clears no count.
     ActsKeptAtReset,
+    /// Program end is a control reset.
+    ProgramEndResets,
+    /// Program end cancels IDS lines too.
+    ProgramEndCancelsAll,
     /// A print keeps zeros at the end of a fraction.
     PrintKeepsZeros,
     /// A print has a space between a word or number and a variable.
@@ -81,6 +85,8 @@ pub enum Slip {
     PastReset,
     /// It looks back for conditions to the line's last release only.
     BackToRelease,
+    /// Program end is written into the history as a start.
+    ProgramEndIsAStart,
     /// Failed beats are written into the history.
     FailedBeatsWritten,
     /// LOCK and UNLOCK in text are not.
@@ -89,7 +95,7 @@ pub enum Slip {
 
 impl Slip {
     /// In what the control prints.
-    pub const PRINTED: [Slip; 35] = [
+    pub const PRINTED: [Slip; 37] = [
         Slip::EveryByLevel,
         Slip::MemoryClearedAtUnlock,
         Slip::MemoryClearedAtSkip,
@@ -121,13 +127,15 @@ impl Slip {
         Slip::ActsClearedAtCancel,
         Slip::ActsOfCancelledClearedAtReset,
         Slip::ActsKeptAtReset,
+        Slip::ProgramEndResets,
+        Slip::ProgramEndCancelsAll,
         Slip::PrintKeepsZeros,
         Slip::PrintSpacesDollar,
         Slip::PrintShortensChains,
         Slip::PrintEndsInLf,
     ];
     /// In the flags of lines, or in the history or its rule, so that the two part.
-    pub const PARTING: [Slip; 13] = [
+    pub const PARTING: [Slip; 14] = [
         Slip::EveryByLevel,
         Slip::MemoryClearedAtUnlock,
         Slip::MemoryClearedAtSkip,
@@ -139,25 +147,30 @@ impl Slip {
         Slip::ActsKeptAtReset,
         Slip::PastReset,
         Slip::BackToRelease,
+        Slip::ProgramEndIsAStart,
         Slip::FailedBeatsWritten,
         Slip::TextLocksNotWritten,
     ];
 
-    /// Whether programs of this form can show it: `synrun` has no reset and no damage and prints no count, `synprint` has no
-    /// beat, and `synstat` prints counts alone.
+    /// Whether programs of this form can show it: `synrun` has no damage and prints no count, `synprint` has no beat, and
+    /// `synstat` prints counts alone.
     pub fn shows_in(self, form: Form) -> bool {
         match form {
-            Form::Synrun => !self.is_in_prints() && !self.is_of_hosts() && !self.is_in_counts(),
+            Form::Synrun => !self.is_in_prints() && !self.is_of_damage() && !self.is_in_counts(),
             Form::Host | Form::Long => !self.is_in_prints(),
             Form::Print => self.is_in_prints() || self.is_in_loading(),
-            Form::Stat => [Slip::TurnsCounted, Slip::EveryByLevel, Slip::WritesKeptAtAlarm].contains(&self),
+            Form::Stat => self.shows_in_counts(),
         }
     }
 
-    fn is_of_hosts(self) -> bool {
-        let at_reset = [Slip::MemoryKeptAtReset, Slip::ChannelsClearedAtReset];
-        let of_damage = [Slip::CurvesAsLoaded, Slip::CurveOfAnyNumber];
-        at_reset.contains(&self) || of_damage.contains(&self)
+    fn is_of_damage(self) -> bool {
+        [Slip::CurvesAsLoaded, Slip::CurveOfAnyNumber].contains(&self)
+    }
+
+    fn shows_in_counts(self) -> bool {
+        let in_turns = [Slip::EveryByLevel, Slip::WritesKeptAtAlarm, Slip::ProgramEndResets];
+        let of_no_call = [Slip::ActsPastTheTop, Slip::ActsClearedAtCancel];
+        in_turns.contains(&self) || (self.is_in_counts() && !of_no_call.contains(&self))
     }
 
     fn is_in_counts(self) -> bool {

@@ -1,6 +1,6 @@
 //! What the program `synrun` prints for its input.
 
-use crate::beat_line::BeatLine;
+use crate::beat_line::ScriptLine;
 use crate::code::Code;
 use crate::control::{Answer, Control, BUFFER};
 use crate::load::Refusal;
@@ -8,8 +8,8 @@ use crate::order::Order;
 use crate::text;
 use std::io::{self, Write};
 
-/// Beats after which the program ends.
-const BEATS: usize = 1_000_000;
+/// Lines of a script, after which the program ends.
+const LINES: usize = 1_000_000;
 
 /// Counts that the END line gives.
 #[derive(Default)]
@@ -62,14 +62,23 @@ pub fn work(
         return Ok(End::Refused(refusal));
     }
     let mut buffer = [0; BUFFER];
-    for (number, line) in (1..).zip(text::lines(script).take(BEATS)) {
-        let Some(beat) = BeatLine::read(line) else {
-            return Ok(End::IllFormed(number));
-        };
-        let answer = control.beat(&beat, &mut buffer);
-        tell(answer, &buffer)?;
+    for (number, line) in (1..).zip(text::lines(script).take(LINES)) {
+        match ScriptLine::read(line) {
+            None => return Ok(End::IllFormed(number)),
+            Some(ScriptLine::ProgramEnd) => sound(control.program_end()),
+            Some(ScriptLine::ControlReset) => sound(control.reset()),
+            Some(ScriptLine::Beat(beat)) => {
+                let answer = control.beat(&beat, &mut buffer);
+                tell(answer, &buffer)?;
+            }
+        }
     }
     Ok(End::Whole)
+}
+
+/// The answer of a call that only a set or state not sound can refuse.
+fn sound(code: Code) {
+    assert!(code == Code::Success, "a loaded set and its state are sound");
 }
 
 pub fn run(input: &[u8], control: &mut Control, out: &mut dyn Write) -> io::Result<()> {

@@ -41,6 +41,14 @@ impl Witness {
         }
     }
 
+    /// Program end is the cancel of each ID line still live, and no start.
+    pub fn program_end(&mut self, ended: &[usize]) {
+        if self.slip == Some(Slip::ProgramEndIsAStart) {
+            return self.write(Entry::Reset);
+        }
+        ended.iter().for_each(|rank| self.write(Entry::Cancel(*rank)));
+    }
+
     /// LOCK or UNLOCK in text, of a cancelled line too.
     pub fn text_lock(&mut self, line: usize, locks: bool) {
         if self.slip != Some(Slip::TextLocksNotWritten) {

@@ -1,6 +1,6 @@
 -- The actions of a line neither read the flags nor the memory: the same actions in a world with other flags do the same, and what they do to the locks is what they write
 -- down. Assumes nothing.
-use mathlib.Core.Path.{_≡_, refl, ap, _∙_}
+use mathlib.Core.Path.{_≡_, refl, ap}
 use mathlib.Core.Bool.{Bool, true, false}
 use mathlib.Core.List.{List, [], _∷_, _++_}
 use Prim.Native.Nat.{ℕ, zero, suc, _+_}

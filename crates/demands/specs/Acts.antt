@@ -11,7 +11,7 @@ use Rattle.checking.specs.declared.line.Line.{Line}
 use Rattle.engine.specs.ActCount.{isActed}
 use Rattle.engine.specs.Action.{World, fromValueOrAlarm}
 use Rattle.demands.specs.History.{History, takesByRule, triesByRule, actsByRule}
-use Rattle.soundness.specs.Call.{Call, doBeat, doLock, doUnlock, doCancel, doReset}
+use Rattle.soundness.specs.Call.{Call, doBeat, doLock, doUnlock, doCancel, doProgramEnd, doControlReset}
 use Rattle.demands.specs.Run.{Reply}
 
 -- what a line's condition gives in this world: its real value, worked from the variables (no, if an alarm ends it)
@@ -30,13 +30,14 @@ triesNow l k r = takesByRule l k r && triesByRule (l .keyword) k r
 abbrev pub actsNow : List ℕ → Line → ℕ → History → World → Bool
 actsNow s l k r x = takesByRule l k r && actsByRule (l .keyword) k r (triesByRule (l .keyword) k r && conditionNow s l x)
 
--- has the line of rank k acted since the last start, the load or a reset that was taken: looking back over the calls and their replies
+-- has the line of rank k acted since the last start, the load or a control reset that was taken: looking back over the calls and their replies
 abbrev pub actedIn : ℕ → Call → Reply → Bool → Bool
 actedIn k (doBeat g) x before = isActed (x .acted) k || before
 actedIn k (doLock n) x before = before
 actedIn k (doUnlock n) x before = before
 actedIn k (doCancel n) x before = before
-actedIn k doReset x before = cond (eqb (x .code) 0) false before
+actedIn k doProgramEnd x before = before
+actedIn k doControlReset x before = cond (eqb (x .code) 0) false before
 
 abbrev pub actedSince : ℕ → List (Call × Reply) → Bool
 actedSince k [] = false

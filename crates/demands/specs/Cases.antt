@@ -34,7 +34,7 @@ use Rattle.engine.specs.Keyword.{tries, acts, remembers}
 use Rattle.engine.specs.Turn.{takesTurn, doTurn, tryTurn, turnOf, turnsFrom}
 use Rattle.engine.specs.Beat.{bufferSize, areInputs, beatAnswer, beatBuffer, beatBegun, beatEnded, wholeBeat}
 use Rattle.engine.specs.NamedLine.{foundAt, found}
-use Rattle.engine.specs.Calls.{called, lockedCall, lockCall, unlockCall, cancelCall, resetCancelled, zeroed, resetState, resetCall}
+use Rattle.engine.specs.Calls.{called, lockedCall, lockCall, unlockCall, cancelCall, endedLine, programEnded, programEndCall, resetCancelled, zeroed, controlResetState, controlResetCall}
 use Rattle.text.specs.Byte.{bytes, run}
 use Rattle.text.specs.Word.{wordToken}
 use Rattle.text.specs.Number.{written, isFit, numberToken}
@@ -48,7 +48,8 @@ use Rattle.grammar.specs.TreeFault.{rightFault, isRemovalTree, assignedFault, a
 use Rattle.grammar.specs.TreeNames.{actionsNames, namesIn, eachKnown}
 use Rattle.grammar.specs.TreeOf.{factorsGuess, productGuess, termsGuess, sumGuess, sumsGuess, expressionGuess, operandFirst, operandGuess, actionGuess, actionsGuess, conditionGuess, lineGuess, sameTokens, ifWritten, treeOf}
 use Rattle.reader.specs.Load.{faultOf, lineBelow, tokensFault, faultBelow, keptWith, rowsFrom, firstNot, named, outcome, loadSet}
-use Rattle.soundness.specs.Call.{Call, doBeat, doLock, doUnlock, doCancel, doReset}
+use Rattle.soundness.specs.Call.{Call, doBeat, doLock, doUnlock, doCancel, doProgramEnd, doControlReset}
+use Rattle.soundness.specs.ProgramEnd.{liveIds}
 use Rattle.demands.specs.Run.{engineRun, step, runFrom}
 
 -- a set of four lines
@@ -101,28 +102,31 @@ faultCounts cs = take 2 (engineRun (loadSet (bytes coupled)) cs .kept .acts)
 
 -- 1. input 1 on, on, off, on: EVERY (1) acts in beats 1 and 4, WHEN (2) in 1, FROM (4) in 1 to 4
 -- 2. EVERY, true, then locked while the input is off and on again, then released: its turn before was true, no second act; a line that is not in the set gives 40
--- 3. a reset cancels the ID lines for good and starts the IDS line anew
+-- 3. a control reset cancels the ID lines for good and starts the IDS line anew
 -- 4. LOCK in text (8): line 1 acts before it in the same beat, and is locked from the next on; released by the host, it acts at its next rise only
 -- 5. without AUTOMATIC the ID lines take no turn; a beat with a short buffer gives 20 and leaves all as it was
 -- 6. couplers: a fault of a channel that was never good gives 23; infinity is a fault
 -- 7. the last good value serves for 25 faulty beats, breaks and shorts alike; the 26th gives 23, as does the next, and a good reading ends it
--- 8. beats that are refused or undone, and a reset, neither count nor end the row: after 24 faulty beats there is just one more
+-- 8. beats that are refused or undone, and a control reset, neither count nor end the row: after 24 faulty beats there is just one more
 -- 9. 21 is asked before 23
--- 10. counts: a line that a lock holds back keeps its own; so do the ID lines that a reset cancels, and a line that the host cancels, while the others begin at 0
+-- 10. counts: a line that a lock holds back keeps its own; so do the ID lines that a control reset cancels, and a line that the host cancels, while the others begin at 0
 -- 11. an undone beat counts nothing
+-- 12. program end cancels the ID lines, which a lock then does not find; the IDS lines go on, one with its true condition and the other with its lock; the counts go on
 pub runs :
     (words (beat 1 ∷ beat 1 ∷ beat 0 ∷ beat 1 ∷ []) ≡ (0, 5) ∷ (0, 4) ∷ (0, 4) ∷ (0, 7) ∷ [])
     × (words (beat 1 ∷ doLock 1 ∷ beat 0 ∷ beat 1 ∷ doUnlock 1 ∷ beat 1 ∷ doLock 9 ∷ []) ≡ (unknownLine, 0) ∷ (0, 4) ∷ (0, 0) ∷ (0, 4) ∷ (0, 4) ∷ (0, 0) ∷ (0, 7) ∷ [])
-    × (words (beat 1 ∷ beat 0 ∷ doReset ∷ beat 0 ∷ beat 1 ∷ doLock 1 ∷ doCancel 3 ∷ beat 1 ∷ doReset ∷ beat 1 ∷ []) ≡ (0, 0) ∷ (0, 0) ∷ (0, 0) ∷ (0, 0) ∷ (unknownLine, 0) ∷ (0, 4) ∷ (0, 0) ∷ (0, 0) ∷ (0, 4) ∷ (0, 7) ∷ [])
+    × (words (beat 1 ∷ beat 0 ∷ doControlReset ∷ beat 0 ∷ beat 1 ∷ doLock 1 ∷ doCancel 3 ∷ beat 1 ∷ doControlReset ∷ beat 1 ∷ []) ≡ (0, 0) ∷ (0, 0) ∷ (0, 0) ∷ (0, 0) ∷ (unknownLine, 0) ∷ (0, 4) ∷ (0, 0) ∷ (0, 0) ∷ (0, 4) ∷ (0, 7) ∷ [])
     × (words (beat 3 ∷ beat 0 ∷ doUnlock 1 ∷ beat 1 ∷ beat 0 ∷ beat 1 ∷ []) ≡ (0, 5) ∷ (0, 4) ∷ (0, 4) ∷ (0, 0) ∷ (0, 4) ∷ (0, 15) ∷ [])
     × (words (beatWith false 1 (replicate bufferSize 0) ∷ beatWith true 1 [] ∷ beat 1 ∷ []) ≡ (0, 7) ∷ (shortBuffer, 0) ∷ (0, 4) ∷ [])
     × (faultWords (reads Break ∷ reads (Volts (inf false)) ∷ reads volts ∷ reads Break ∷ []) ≡ (0, 1) ∷ (0, 1) ∷ (faultyChannel, 0) ∷ (faultyChannel, 0) ∷ [])
     × (faultWords (reads volts ∷ replicate 20 (reads Break) ++ (replicate 5 (reads Short) ++ (reads Break ∷ reads Short ∷ reads volts ∷ reads Break ∷ []))) ≡ (0, 1) ∷ (0, 1) ∷ (faultyChannel, 0) ∷ (faultyChannel, 0) ∷ replicate 26 (0, 1))
-    × (faultWords (reads volts ∷ replicate 24 (reads Break) ++ (readsUndone Break ∷ readsUndone volts ∷ doReset ∷ readsAlone volts ∷ reads Break ∷ reads Break ∷ []))
+    × (faultWords (reads volts ∷ replicate 24 (reads Break) ++ (readsUndone Break ∷ readsUndone volts ∷ doControlReset ∷ readsAlone volts ∷ reads Break ∷ reads Break ∷ []))
     ≡ (faultyChannel, 0) ∷ (0, 1) ∷ (wrongNumbers, 0) ∷ (0, 0) ∷ (zeroDivisor, 0) ∷ (zeroDivisor, 0) ∷ replicate 25 (0, 1))
     × (faultWords (readsAlone Break ∷ reads Break ∷ []) ≡ (faultyChannel, 0) ∷ (wrongNumbers, 0) ∷ [])
     × (counts (beat 1 ∷ beat 3 ∷ doLock 3 ∷ beat 0 ∷ []) ≡ 1 ∷ 1 ∷ 2 ∷ 1 ∷ [])
-    × (counts (beat 3 ∷ beat 2 ∷ doCancel 4 ∷ doReset ∷ beat 1 ∷ []) ≡ 1 ∷ 1 ∷ 1 ∷ 2 ∷ [])
+    × (counts (beat 3 ∷ beat 2 ∷ doCancel 4 ∷ doControlReset ∷ beat 1 ∷ []) ≡ 1 ∷ 1 ∷ 1 ∷ 2 ∷ [])
     × (faultCounts (reads volts ∷ readsUndone volts ∷ []) ≡ 1 ∷ 0 ∷ [])
-unfolding inRange valued quotientOf lessThan equalTo wholeUnits outputOf grownTimer isIndex indexOf isIndexed indexAt joined more readProduct readSum readRest readExpression readVariable operandFrom readOperand sumAt expressionAt isInside cellOf variableValue lower opensTooMany wantingFault numberFault readFault joinSights sight isWritable writeFault codeFault idFault callFault countFault numberOf isRemoval assignedAt assignmentAt commandAt unindexedAt actionAt actionsAt lineParts bodyAt restAt lineAt joinTruths joinValues valueOver conditionValue rightValue linesFrom linesRead rankIn namesKnown curvesSound allKnown namedLines soundLines powerOn freshChannels thousandthsOf signedThousandths nearestEven isChannel areChannels sampledFault allGood valuesSampled channelsSampled sampledAll grownCells inputCells beatCells allRanged isCell areCells allZero isFifoSound areFifos isFlag areFlags isActCount areActCounts oneMore countedActs resetActs stateSound isSound writeCell writeInside writeTo lockOf takenAt assignmentOf commandOf actionOf actionsOf tries acts remembers takesTurn doTurn tryTurn turnOf turnsFrom areInputs beatBegun beatEnded wholeBeat beatAnswer beatBuffer foundAt found called lockedCall lockCall unlockCall cancelCall resetCancelled zeroed resetState resetCall step runFrom run wordToken written isFit numberToken wordFirst behindPoint numberWith numberFirst signFirst firstToken tokensFrom tokensOf split withoutReturn withoutComment bodies isBlank numbered tokenLines numbersOf leastFrom leastAbove rising placed curveSlots setOf factorsGuess productGuess termsGuess sumGuess sumsGuess expressionGuess operandFirst operandGuess actionGuess actionsGuess conditionGuess lineGuess sameTokens ifWritten treeOf operandTokens actionTokens actionsTokens conditionTokens lineTokens rightFault isRemovalTree assignedFault actionFault actionsFault lineFault actionsNames namesIn eachKnown faultOf tokensFault faultBelow lineBelow keptWith rowsFrom firstNot named outcome loadSet emptySet withoutMark withLine operandMeaning movesAt movesOf partsFault isAmong areApart movesFault alarmOf
-runs = (refl, refl, refl, refl, refl, refl, refl, refl, refl, refl, refl, refl)
+    × (words (beat 1 ∷ doLock 4 ∷ doProgramEnd ∷ beat 2 ∷ doLock 1 ∷ doProgramEnd ∷ []) ≡ (0, 0) ∷ (unknownLine, 0) ∷ (0, 4) ∷ (0, 0) ∷ (0, 0) ∷ (0, 7) ∷ [])
+    × (counts (beat 1 ∷ doProgramEnd ∷ beat 3 ∷ []) ≡ 1 ∷ 1 ∷ 2 ∷ 1 ∷ [])
+unfolding inRange valued quotientOf lessThan equalTo wholeUnits outputOf grownTimer isIndex indexOf isIndexed indexAt joined more readProduct readSum readRest readExpression readVariable operandFrom readOperand sumAt expressionAt isInside cellOf variableValue lower opensTooMany wantingFault numberFault readFault joinSights sight isWritable writeFault codeFault idFault callFault countFault numberOf isRemoval assignedAt assignmentAt commandAt unindexedAt actionAt actionsAt lineParts bodyAt restAt lineAt joinTruths joinValues valueOver conditionValue rightValue linesFrom linesRead rankIn namesKnown curvesSound allKnown namedLines soundLines powerOn freshChannels thousandthsOf signedThousandths nearestEven isChannel areChannels sampledFault allGood valuesSampled channelsSampled sampledAll grownCells inputCells beatCells allRanged isCell areCells allZero isFifoSound areFifos isFlag areFlags isActCount areActCounts oneMore countedActs resetActs stateSound isSound writeCell writeInside writeTo lockOf takenAt assignmentOf commandOf actionOf actionsOf tries acts remembers takesTurn doTurn tryTurn turnOf turnsFrom areInputs beatBegun beatEnded wholeBeat beatAnswer beatBuffer foundAt found called lockedCall lockCall unlockCall cancelCall endedLine programEnded programEndCall liveIds resetCancelled zeroed controlResetState controlResetCall step runFrom run wordToken written isFit numberToken wordFirst behindPoint numberWith numberFirst signFirst firstToken tokensFrom tokensOf split withoutReturn withoutComment bodies isBlank numbered tokenLines numbersOf leastFrom leastAbove rising placed curveSlots setOf factorsGuess productGuess termsGuess sumGuess sumsGuess expressionGuess operandFirst operandGuess actionGuess actionsGuess conditionGuess lineGuess sameTokens ifWritten treeOf operandTokens actionTokens actionsTokens conditionTokens lineTokens rightFault isRemovalTree assignedFault actionFault actionsFault lineFault actionsNames namesIn eachKnown faultOf tokensFault faultBelow lineBelow keptWith rowsFrom firstNot named outcome loadSet emptySet withoutMark withLine operandMeaning movesAt movesOf partsFault isAmong areApart movesFault alarmOf
+runs = (refl, refl, refl, refl, refl, refl, refl, refl, refl, refl, refl, refl, refl, refl)

@@ -31,13 +31,14 @@ use Rattle.engine.specs.NamedLine.{found}
 use Rattle.engine.specs.Calls.{withLocked, called, lockedCall, lockCall, unlockCall}
 use Rattle.engine.specs.SetCountLaws.{sound-count}
 use Rattle.demands.specs.History.{History, after, isAutomatic, everTrue, wasTrue, takesByRule, triesByRule, actsByRule}
-use Rattle.soundness.specs.Call.{Call, doBeat, doLock, doUnlock, doCancel, doReset}
-use Rattle.demands.specs.Run.{Now, coded, noted, rankOf, codeByRule, cleared, engineRun, Rest, stateBy, samplesBy, begunBy, byRank, cancelledBy, tryByRule, turnByRule, turnsByRule, beatByRule, stepByRule, resetByRule, runByRuleFrom, runByRule, beatenByRule}
+use Rattle.soundness.specs.Call.{Call, doBeat, doLock, doUnlock, doCancel, doProgramEnd, doControlReset}
+use Rattle.demands.specs.Run.{Now, coded, noted, rankOf, endEntries, codeByRule, endCodeByRule, cleared, engineRun, Rest, stateBy, samplesBy, begunBy, byRank, cancelledBy, tryByRule, turnByRule, turnsByRule, beatByRule, stepByRule, controlResetByRule, runByRuleFrom, runByRule, beatenByRule}
 use Rattle.engine.specs.ActCount.{isActed}
 use Rattle.demands.specs.Acts.{conditionNow, triesNow, actsNow, actedSince}
 use Rattle.tokens.specs.AnswerLaws.{Ok, is-ok, bind-ok}
 use Rattle.demands.specs.ActionRuleLaws.{noteAll, Noted, actions-noted}
 use Rattle.demands.specs.TurnRuleLaws.{flagged, flaggedTurn, Quiet, takes-same, turn-same, turns-same, turns-quiet}
+use Rattle.demands.specs.EndRuleLaws.{end-ever}
 use Rattle.demands.specs.ActLaws.{Done, done, no-other}
 use Rattle.demands.specs.Demand3.{beat-same, demand-3}
 
@@ -214,13 +215,13 @@ module _ (s : List ℕ) (k : ℕ) (h : k < soundLines s .count) (w : getD (sound
       go (good t) e i = let d = beat-done s (n .kept) (n .history) g t k h e in once-good g n t (d .0) (d .1) (d .2) f i
       go (stop c) e i = f (or-either (isActed 0 k) (actedSince k (n .told)) i (no-bit k))
 
-  once-reset : (n : Now Rest) → Once n → Once (resetByRule s n)
-  unfolding resetByRule
+  once-reset : (n : Now Rest) → Once n → Once (controlResetByRule s n)
+  unfolding controlResetByRule
   once-reset n f = go (isSound s (stateBy (soundLines s) (n .kept) (n .history)))
     where
       go : (a : Bool) → let x : Now Rest = elim a [
-        | true ↦ record { kept = cleared (n .kept) (soundLines s) (n .history); history = resets ∷ n .history; told = (doReset, coded 0) ∷ n .told }
-        | false ↦ record { kept = n .kept; history = n .history; told = (doReset, coded 22) ∷ n .told }
+        | true ↦ record { kept = cleared (n .kept) (soundLines s) (n .history); history = resets ∷ n .history; told = (doControlReset, coded 0) ∷ n .told }
+        | false ↦ record { kept = n .kept; history = n .history; told = (doControlReset, coded 22) ∷ n .told }
       ] in Once x
       go true g = g
       go false g = f g
@@ -231,7 +232,8 @@ module _ (s : List ℕ) (k : ℕ) (h : k < soundLines s .count) (w : getD (sound
   once-step (doLock i) n f = λ g. noted-ever (codeByRule s (n .kept) (n .history) i) (locks (rankOf s i) true ∷ []) (n .history) refl ∙ f g
   once-step (doUnlock i) n f = λ g. noted-ever (codeByRule s (n .kept) (n .history) i) (locks (rankOf s i) false ∷ []) (n .history) refl ∙ f g
   once-step (doCancel i) n f = λ g. noted-ever (codeByRule s (n .kept) (n .history) i) (cancels (rankOf s i) ∷ []) (n .history) refl ∙ f g
-  once-step doReset n f = once-reset n f
+  once-step doProgramEnd n f = λ g. noted-ever (endCodeByRule s (n .kept) (n .history)) (endEntries (soundLines s) (byRank (cancelledBy (soundLines s) (n .history)))) (n .history) (end-ever (soundLines s) (byRank (cancelledBy (soundLines s) (n .history))) k (n .history)) ∙ f g
+  once-step doControlReset n f = once-reset n f
 
   once-run : (cs : List Call) (n : Now Rest) → Once n → Once (runByRuleFrom s cs n)
   unfolding runByRuleFrom

@@ -2,17 +2,15 @@
 -- assumes nothing.
 use mathlib.Core.Path.{_≡_, refl, sym, ap, _∙_}
 use mathlib.Core.Logic.{_≢_}
-use mathlib.Core.Bool.{Bool, true, false, cond, not, _&&_, and-true}
+use mathlib.Core.Bool.{Bool, true, false, cond, not, _&&_}
 use mathlib.Core.List.{List, [], _∷_, _++_}
-use Prim.Native.Nat.{ℕ, _+_, min, _<_, _≤_}
+use Prim.Native.Nat.{ℕ, _+_, min, _<_}
 use native.Mathlib.Omega.{arith}
-use lib.Dec.{eqb, ltb}
+use lib.Dec.{eqb}
 use lib.ListN.{length, getD}
-use borrow.Author.Tests.{lt-ltb}
 use Rattle.values.specs.Choice.{either}
 use Rattle.values.specs.FifoLaws.{same-each}
 use Rattle.values.specs.Codes.{unsound}
-use Rattle.values.specs.Numbers.{clash}
 use Rattle.tokens.specs.Token.{maxLines}
 use Rattle.tokens.specs.Descent.{Answer, good, stop}
 use Rattle.engine.specs.declared.set.Lines.{Lines}
@@ -22,16 +20,16 @@ use Rattle.engine.specs.declared.calls.Called.{Called}
 use Rattle.engine.specs.Set.{noLine, soundLines}
 use Rattle.engine.specs.State.{powerOn}
 use Rattle.engine.specs.Sound.{isSound}
-use Rattle.engine.specs.ActCount.{actsTop, isActed, oneMore, resetActs}
-use Rattle.engine.specs.Turn.{beatIn, resets, Turned, turnsFrom}
-use Rattle.engine.specs.Beat.{Given, beatBegun, beatEnded, beatAnswer}
+use Rattle.engine.specs.ActCount.{actsTop, isActed, oneMore}
+use Rattle.engine.specs.Turn.{beatIn, resets, Turned}
+use Rattle.engine.specs.Beat.{Given, beatEnded, beatAnswer}
 use Rattle.engine.specs.NamedLine.{found}
-use Rattle.engine.specs.Calls.{withLocked, withCancelled, called, lockedCall, lockCall, unlockCall, cancelCall, resetCancelled, resetState, resetCall}
+use Rattle.engine.specs.Calls.{withLocked, withCancelled, called, lockedCall, lockCall, unlockCall, cancelCall, resetCancelled, controlResetState, controlResetCall}
 use Rattle.engine.specs.SetCountLaws.{sound-count}
-use Rattle.soundness.specs.Call.{Call, doBeat, doLock, doUnlock, doCancel, doReset}
+use Rattle.soundness.specs.Call.{Call, doBeat, doLock, doUnlock, doCancel, doProgramEnd, doControlReset}
 use Rattle.soundness.specs.CallCodes.{ended-well}
 use Rattle.demands.specs.History.{after}
-use Rattle.demands.specs.Run.{Now, coded, step, engineRun, Rest, restOf, byRank, cancelledBy, stateBy, endedBy, beatByRule, beatenByRule, cleared, resetByRule, stepByRule, runByRuleFrom, runByRule}
+use Rattle.demands.specs.Run.{Now, coded, step, engineRun, Rest, restOf, byRank, cancelledBy, stateBy, endedBy, beatByRule, beatenByRule, cleared, controlResetByRule, stepByRule, runByRuleFrom, runByRule}
 use Rattle.demands.specs.FlagLaws.{byRank-at, reset-cancelled}
 use Rattle.demands.specs.Demand3.{step-same, demand-3, same-variables}
 use Rattle.demands.specs.Consequences.{no-bit}
@@ -62,8 +60,8 @@ module _ (s : List ℕ) (k : ℕ) (h : k < maxLines) where
       )
       go (stop c) = (l, e ∙ rw (no-bit k) (omega arith))
 
-  reset-says : (n : Now Rest) (a : ℕ) → Says n a → After doReset (resetByRule s n) a
-  unfolding resetByRule resetState stateBy
+  reset-says : (n : Now Rest) (a : ℕ) → Says n a → After doControlReset (controlResetByRule s n) a
+  unfolding controlResetByRule controlResetState stateBy
   reset-says n a (l, e) = go (isSound s (stateBy (soundLines s) (n .kept) (n .history)))
     where
       ls : Lines
@@ -80,8 +78,8 @@ module _ (s : List ℕ) (k : ℕ) (h : k < maxLines) where
       begun false q = rw q (omega arith)
 
       go : (b : Bool) →
-          let m : Now Rest = elim b [ true ↦ record { kept = cleared (n .kept) ls (n .history); history = resets ∷ n .history; told = (doReset, coded 0) ∷ n .told } | false ↦ record { kept = n .kept; history = n .history; told = (doReset, coded unsound) ∷ n .told } ] in
-          After doReset m a
+          let m : Now Rest = elim b [ true ↦ record { kept = cleared (n .kept) ls (n .history); history = resets ∷ n .history; told = (doControlReset, coded 0) ∷ n .told } | false ↦ record { kept = n .kept; history = n .history; told = (doControlReset, coded unsound) ∷ n .told } ] in
+          After doControlReset m a
       go true = (reset-acts-length (n .kept .acts) gone maxLines ∙ l, reset-acts-at (n .kept .acts) gone maxLines k h (omega arith) ∙ begun _ said)
       go false = (l, e)
 
@@ -91,7 +89,8 @@ module _ (s : List ℕ) (k : ℕ) (h : k < maxLines) where
   step-says (doLock i) n a e = e
   step-says (doUnlock i) n a e = e
   step-says (doCancel i) n a e = e
-  step-says doReset n a e = reset-says n a e
+  step-says doProgramEnd n a e = e
+  step-says doControlReset n a e = reset-says n a e
 
   run-says : (cs : List Call) (n : Now Rest) (a : ℕ) → Says n a → Says (runByRuleFrom s cs n) (actsFrom s k cs n a)
   unfolding runByRuleFrom actsFrom
@@ -107,7 +106,7 @@ module _ (s : List ℕ) (cs : List Call) where
   run-counts : (k : ℕ) (h : k < maxLines) → Says s k h (runByRule s cs) (actsSinceStart s cs k)
   run-counts k h = run-says s k h cs _ 0 (begun-says s k h)
 
-  -- THE COUNT OF A LINE IS, UP TO THE TOP, HOW OFTEN IT ACTED BY THE RULE since the load or the last reset that left it live: for every set, after any calls
+  -- THE COUNT OF A LINE IS, UP TO THE TOP, HOW OFTEN IT ACTED BY THE RULE since the load or the last control reset that left it live: for every set, after any calls
   pub count-says-the-record : (k : ℕ) → k < soundLines s .count → getD (engineRun s cs .kept .acts) k 0 ≡ min actsTop (actsSinceStart s cs k)
   count-says-the-record k h = ap (λ (v : Rest). getD (v .acts) k 0) (same-variables s cs) ∙ run-counts k (omega (arith, sound-count s)) .1
 
@@ -173,9 +172,9 @@ module _ (s : List ℕ) (st : State) where
     unfolding beatAnswer beatEnded
     beat-counts g z = let w = ended-well s st g z in rw (w .1) (counted-at (st .acts) (w .0 .world .acted) maxLines k m (omega arith))
 
-    -- A RESET ZEROES THAT OF A LINE STILL LIVE AFTER IT; a cancelled one keeps its own
-    pub reset-counts : resetCall s st .code ≡ 0 → getD (resetCall s st .state .acts) k 0 ≡ cond (getD (resetCall s st .state .cancelled) k false) (getD (st .acts) k 0) 0
-    unfolding resetCall resetState
-    reset-counts =
+    -- A CONTROL RESET ZEROES THAT OF A LINE STILL LIVE AFTER IT; a cancelled one keeps its own
+    pub control-reset-counts : controlResetCall s st .code ≡ 0 → getD (controlResetCall s st .state .acts) k 0 ≡ cond (getD (controlResetCall s st .state .cancelled) k false) (getD (st .acts) k 0) 0
+    unfolding controlResetCall controlResetState
+    control-reset-counts =
         either (λ (c : Called). c .code ≡ 0 → getD (c .state .acts) k 0 ≡ cond (getD (c .state .cancelled) k false) (getD (st .acts) k 0) 0) (isSound s st)
         (λ e z. reset-acts-at (st .acts) _ maxLines k m (omega arith)) (λ e z. absurd (omega arith))

@@ -21,14 +21,15 @@ use Rattle.engine.specs.Sound.{isSound}
 use Rattle.engine.specs.Turn.{Entry, beatIn, locks, cancels, resets, Turned}
 use Rattle.engine.specs.Beat.{bufferSize, areInputs, Given, samplesIn, beatBegun, beatEnded, wholeBeat, turnedAnswer, buffered, beatAnswer, beatBuffer}
 use Rattle.engine.specs.NamedLine.{foundAt, found}
-use Rattle.engine.specs.Calls.{withLocked, withCancelled, called, lockedCall, lockCall, unlockCall, cancelCall, resetState, resetCall}
+use Rattle.engine.specs.Calls.{withLocked, withCancelled, called, lockedCall, lockCall, unlockCall, cancelCall, programEnded, programEndCall, controlResetState, controlResetCall}
 use Rattle.engine.specs.SetCountLaws.{sound-count}
 use Rattle.demands.specs.History.{History, after, isCancelled, isLocked}
-use Rattle.soundness.specs.Call.{Call, doBeat, doLock, doUnlock, doCancel, doReset}
-use Rattle.demands.specs.Run.{Now, coded, entriesOf, rankOf, hosted, beaten, step, runFrom, engineRun, byRank, cancelledBy, lockedBy, remembersBy, memoryBy, Rest, restOf, withRest, stateBy, samplesBy, begunBy, endedBy, turnsByRule, beatByRule, codeByRule, hostedByRule, beatenByRule, cleared, resetByRule, stepByRule, runByRuleFrom, runByRule}
-use Rattle.demands.specs.FlagLaws.{byRank-at, lock-locked, cancel-cancelled, cancel-locked, cancel-memory, reset-locked, reset-cancelled, reset-memory, new-locked, new-cancelled, new-memory}
+use Rattle.soundness.specs.Call.{Call, doBeat, doLock, doUnlock, doCancel, doProgramEnd, doControlReset}
+use Rattle.demands.specs.Run.{Now, coded, entriesOf, endEntries, rankOf, hosted, beaten, step, runFrom, engineRun, byRank, cancelledBy, lockedBy, remembersBy, memoryBy, Rest, restOf, withRest, stateBy, samplesBy, begunBy, endedBy, turnsByRule, beatByRule, codeByRule, endCodeByRule, hostedByRule, beatenByRule, cleared, controlResetByRule, stepByRule, runByRuleFrom, runByRule}
+use Rattle.demands.specs.FlagLaws.{byRank-at, lock-locked, reset-locked, reset-cancelled, reset-memory, new-locked, new-cancelled, new-memory}
 use Rattle.tokens.specs.AnswerLaws.{Ok, is-ok, bind-ok}
 use Rattle.tokens.specs.ChooseLaws.{choose}
+use Rattle.demands.specs.EndRuleLaws.{cancel-state, ended-state}
 use Rattle.demands.specs.TurnRuleLaws.{flaggedTurn, turns-same, turns-quiet}
 
 -- ---- a beat
@@ -146,23 +147,36 @@ module _ (s : List ℕ) (n : Now Rest) where
   unfolding step stepByRule cancelCall stateBy
   step-cancel number =
       host-same (doCancel number) (cancels (rankOf s number) ∷ []) (λ k. withCancelled (stateBy (soundLines s) (n .kept) (n .history)) k) number
-      (λ h p c. rw (
-        cancel-locked (soundLines s) (rankOf s number) (n .history) h p,
-        cancel-cancelled (soundLines s) (rankOf s number) (n .history) h p,
-        cancel-memory (soundLines s) (rankOf s number) (n .history) h p,
-      ))
+      (λ h p c. cancel-state (soundLines s) (n .kept) (n .history) (rankOf s number) h p)
 
-  step-reset : step s doReset (withFlags s n) ≡ withFlags s (stepByRule s doReset n)
-  unfolding step stepByRule resetCall resetByRule resetState stateBy
+  step-end : step s doProgramEnd (withFlags s n) ≡ withFlags s (stepByRule s doProgramEnd n)
+  unfolding step stepByRule programEndCall endCodeByRule stateBy
+  step-end = go (isSound s st)
+    where
+      st : State
+      st = stateBy (soundLines s) (n .kept) (n .history)
+
+      es : List Entry
+      es = endEntries (soundLines s) (byRank (cancelledBy (soundLines s) (n .history)))
+
+      go : (a : Bool) →
+          (let c : Called = elim a [ true ↦ record { code = 0; state = programEnded (soundLines s .items) st (soundLines s .count) } | false ↦ record { code = unsound; state = st } ] in
+          hosted doProgramEnd c es (withFlags s n))
+          ≡ (let k : ℕ = elim a [ true ↦ 0 | false ↦ unsound ] in withFlags s (hostedByRule doProgramEnd k es n))
+      go true = rw (ended-state (soundLines s) (n .kept) (sound-count s) (n .history))
+      go false = refl
+
+  step-reset : step s doControlReset (withFlags s n) ≡ withFlags s (stepByRule s doControlReset n)
+  unfolding step stepByRule controlResetCall controlResetByRule controlResetState stateBy
   step-reset = go (isSound s (stateBy (soundLines s) (n .kept) (n .history)))
     where
-      after-reset : resetState (soundLines s .items) (soundLines s .count) (stateBy (soundLines s) (n .kept) (n .history)) ≡ stateBy (soundLines s) (cleared (n .kept) (soundLines s) (n .history)) (resets ∷ n .history)
+      after-reset : controlResetState (soundLines s .items) (soundLines s .count) (stateBy (soundLines s) (n .kept) (n .history)) ≡ stateBy (soundLines s) (cleared (n .kept) (soundLines s) (n .history)) (resets ∷ n .history)
       after-reset = in-flags _ (reset-locked (soundLines s) (n .history)) (reset-cancelled (soundLines s) (n .history) (sound-count s)) (reset-memory (soundLines s) (n .history))
 
       go : (a : Bool) →
-          (let c : Called = elim a [ true ↦ record { code = 0; state = resetState (soundLines s .items) (soundLines s .count) (stateBy (soundLines s) (n .kept) (n .history)) } | false ↦ record { code = unsound; state = stateBy (soundLines s) (n .kept) (n .history) } ] in
-          hosted doReset c (resets ∷ []) (withFlags s n))
-          ≡ (let m : Now Rest = elim a [ true ↦ record { kept = cleared (n .kept) (soundLines s) (n .history); history = resets ∷ n .history; told = (doReset, coded 0) ∷ n .told } | false ↦ record { kept = n .kept; history = n .history; told = (doReset, coded unsound) ∷ n .told } ] in
+          (let c : Called = elim a [ true ↦ record { code = 0; state = controlResetState (soundLines s .items) (soundLines s .count) (stateBy (soundLines s) (n .kept) (n .history)) } | false ↦ record { code = unsound; state = stateBy (soundLines s) (n .kept) (n .history) } ] in
+          hosted doControlReset c (resets ∷ []) (withFlags s n))
+          ≡ (let m : Now Rest = elim a [ true ↦ record { kept = cleared (n .kept) (soundLines s) (n .history); history = resets ∷ n .history; told = (doControlReset, coded 0) ∷ n .told } | false ↦ record { kept = n .kept; history = n .history; told = (doControlReset, coded unsound) ∷ n .told } ] in
           withFlags s m)
       go true = rw after-reset
       go false = refl
@@ -174,7 +188,8 @@ module _ (s : List ℕ) (n : Now Rest) where
   step-same (doLock number) = step-lock (doLock number) true number
   step-same (doUnlock number) = step-lock (doUnlock number) false number
   step-same (doCancel number) = step-cancel number
-  step-same doReset = step-reset
+  step-same doProgramEnd = step-end
+  step-same doControlReset = step-reset
 
 -- ---- from a load on
 

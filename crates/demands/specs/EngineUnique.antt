@@ -8,8 +8,10 @@ use Rattle.engine.specs.declared.state.State.{State}
 use Rattle.engine.specs.declared.one_beat.Beaten.{Beaten}
 use Rattle.engine.specs.declared.calls.Called.{Called}
 use Rattle.engine.specs.Beat.{Given, beatAnswer, beatBuffer}
-use Rattle.engine.specs.Calls.{lockCall, unlockCall, cancelCall, resetCall}
+use Rattle.engine.specs.Calls.{lockCall, unlockCall, cancelCall, programEndCall, controlResetCall}
+use Rattle.engine.specs.declared.status.Status.{Status}
 use Rattle.engine.specs.Sound.{isSound}
+use Rattle.engine.specs.Status.{statusOf}
 
 module _ (s : List ℕ) (st : State) where
   -- a beat, with the order buffer at exit
@@ -27,8 +29,14 @@ module _ (s : List ℕ) (st : State) where
   pub cancel-unique : (n : ℕ) (x y : Called) → x ≡ cancelCall s st n → y ≡ cancelCall s st n → x ≡ y
   cancel-unique n x y p q = unique p q
 
-  pub reset-unique : (x y : Called) → x ≡ resetCall s st → y ≡ resetCall s st → x ≡ y
-  reset-unique x y p q = unique p q
+  pub program-end-unique : (x y : Called) → x ≡ programEndCall s st → y ≡ programEndCall s st → x ≡ y
+  program-end-unique x y p q = unique p q
+
+  pub control-reset-unique : (x y : Called) → x ≡ controlResetCall s st → y ≡ controlResetCall s st → x ≡ y
+  control-reset-unique x y p q = unique p q
+
+  pub status-unique : (x y : Status) → x ≡ statusOf s st → y ≡ statusOf s st → x ≡ y
+  status-unique x y p q = unique p q
 
   pub sound-unique : (x y : Bool) → x ≡ isSound s st → y ≡ isSound s st → x ≡ y
   sound-unique x y p q = unique p q

@@ -134,7 +134,7 @@ module _ (ls : Lines) where
     pub cancel-memory : set (byRank (memoryBy ls r)) k false ≡ byRank (memoryBy ls (cancels k ∷ r))
     cancel-memory = byRank-set (memoryBy ls r) (memoryBy ls (cancels k ∷ r)) k false h (λ j d. cleared-flag (λ i. remembersBy (getD (ls .items) i noLine .keyword) i r) j (eqb k j) refl)
 
-  -- a reset
+  -- a control reset
   pub reset-locked : (r : History) → replicate maxLines false ≡ byRank (lockedBy ls (resets ∷ r))
   reset-locked r = byRank-none (lockedBy ls (resets ∷ r)) (λ j b. refl)
 

@@ -76,7 +76,7 @@ module _ (t u : List ℕ) (qs : List Ask) where
 
 -- ---- what follows, of a beat after a load and any asks
 
--- the count of a line of the set is, up to the top, how often it acted by the rule, over the calls since the last load: since that load or the last reset that left it live
+-- the count of a line of the set is, up to the top, how often it acted by the rule, over the calls since the last load: since that load or the last control reset that left it live
 pub count-from-a-load : (t : List ℕ) (qs : List Ask) → let n = standing t qs in (k : ℕ) → k < soundLines (n .set) .count → getD (n .since .kept .acts) k 0 ≡ min actsTop (actsSinceStart (n .set) (callsSince [] qs) k)
 count-from-a-load t qs = rw (since-the-load t qs) (count-says-the-record (loadSet (lastText t qs)) (callsSince [] qs))
 
@@ -101,7 +101,7 @@ module _ (t : List ℕ) (qs : List Ask) (g : Given) where
       (os : List Order) × (x .orders ≡ length os) × (beatBuffer (n .set) (n .since .kept) g ≡ bytesOf os ++ drop (orderSize * length os) (g .buffer)) × Each (OfActed (soundLines (n .set)) (x .acted)) os
   orders-from-a-load = rw (since-the-load t qs) (orders-of-acting-lines (loadSet (lastText t qs)) (callsSince [] qs) g)
 
-  -- between two starts, a load or a reset, a WHEN line acts at most once
+  -- between two starts, a load or a control reset, a WHEN line acts at most once
   pub once-from-a-load : let n = standing t qs in (k : ℕ) → k < soundLines (n .set) .count → getD (soundLines (n .set) .items) k noLine .keyword ≡ WHEN →
       isActed (beatAnswer (n .set) (n .since .kept) g .acted) k ≡ true → actedSince k (n .since .told) ≡ false
   once-from-a-load = rw (since-the-load t qs) (once (loadSet (lastText t qs)) (callsSince [] qs) g)

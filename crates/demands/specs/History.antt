@@ -44,7 +44,7 @@ automatic? (locks j b) = none
 automatic? (cancels j) = none
 automatic? resets = none
 
--- is the line of rank k, an IDS line or not, cancelled: back to the load, and a reset cancels every ID line
+-- is the line of rank k, an IDS line or not, cancelled: back to the load, and a control reset cancels every ID line
 abbrev pub cancelled? : Bool → ℕ → Entry → Option Bool
 cancelled? ids k (beatIn m) = none
 cancelled? ids k (worked j v) = none
@@ -52,7 +52,7 @@ cancelled? ids k (locks j b) = none
 cancelled? ids k (cancels j) = only (eqb j k) true
 cancelled? ids k resets = only (not ids) true
 
--- is it locked: back to the last reset or the load, as the two below
+-- is it locked: back to the last control reset or the load, as the two below
 abbrev pub locked? : ℕ → Entry → Option Bool
 locked? k (beatIn m) = none
 locked? k (worked j v) = none

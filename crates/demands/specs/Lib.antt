@@ -5,6 +5,7 @@ pub mod Run
 pub mod FlagLaws
 pub mod ActionRuleLaws
 pub mod TurnRuleLaws
+pub mod EndRuleLaws
 pub mod Demand3
 pub mod Acts
 pub mod Deed

@@ -20,11 +20,11 @@ use Rattle.engine.specs.Sound.{isSound}
 use Rattle.engine.specs.Turn.{Entry, locks, cancels, resets, Turned}
 use Rattle.engine.specs.Beat.{bufferSize, areInputs, Given, samplesIn, wholeBeat, turnedAnswer, buffered, beatEnded, beatAnswer, beatBuffer}
 use Rattle.engine.specs.NamedLine.{found}
-use Rattle.engine.specs.Calls.{withLocked, withCancelled, called, lockedCall, lockCall, unlockCall, cancelCall, resetState, resetCall}
+use Rattle.engine.specs.Calls.{withLocked, withCancelled, called, lockedCall, lockCall, unlockCall, cancelCall, programEndCall, controlResetState, controlResetCall}
 use Rattle.soundness.specs.CallCodes.{ended-well}
-use Rattle.soundness.specs.Call.{Call, doBeat, doLock, doUnlock, doCancel, doReset}
+use Rattle.soundness.specs.Call.{Call, doBeat, doLock, doUnlock, doCancel, doProgramEnd, doControlReset}
 use Rattle.demands.specs.History.{after}
-use Rattle.demands.specs.Run.{Now, entriesOf, noted, rankOf, step}
+use Rattle.demands.specs.Run.{Now, entriesOf, endEntries, noted, rankOf, step}
 
 -- a beat with a code other than 0: the state as given, no orders, no line acted, the buffer as given
 pub beat-refused : (s : List ℕ) (st : State) (g : Given) → let x = beatAnswer s st g in
@@ -66,7 +66,7 @@ called-refused st f change = go (eqb (f .code) 0)
     go true h = absurd (h refl)
     go false h = refl
 
--- lock, unlock, cancel and reset with a code other than 0: the state as given
+-- lock, unlock, cancel, program end and control reset with a code other than 0: the state as given
 pub lock-refused : (s : List ℕ) (st : State) (n : ℕ) → lockCall s st n .code ≢ 0 → lockCall s st n .state ≡ st
 unfolding lockCall lockedCall
 lock-refused s st n = called-refused st (found s st n) (λ k. withLocked st k true)
@@ -79,18 +79,22 @@ pub cancel-refused : (s : List ℕ) (st : State) (n : ℕ) → cancelCall s st n
 unfolding cancelCall
 cancel-refused s st n = called-refused st (found s st n) (λ k. withCancelled st k)
 
-pub reset-refused : (s : List ℕ) (st : State) → resetCall s st .code ≢ 0 → resetCall s st .state ≡ st
-unfolding resetCall
-reset-refused s st = go (isSound s st)
+pub program-end-refused : (s : List ℕ) (st : State) → programEndCall s st .code ≢ 0 → programEndCall s st .state ≡ st
+unfolding programEndCall
+program-end-refused s st = either (λ (c : Called). c .code ≢ 0 → c .state ≡ st) (isSound s st) (λ e h. absurd (h refl)) (λ e h. refl)
+
+pub control-reset-refused : (s : List ℕ) (st : State) → controlResetCall s st .code ≢ 0 → controlResetCall s st .state ≡ st
+unfolding controlResetCall
+control-reset-refused s st = go (isSound s st)
   where
-    go : (a : Bool) → let c : Called = elim a [ true ↦ record { code = 0; state = resetState (soundLines s .items) (soundLines s .count) st } | false ↦ record { code = unsound; state = st } ] in c .code ≢ 0 → c .state ≡ st
+    go : (a : Bool) → let c : Called = elim a [ true ↦ record { code = 0; state = controlResetState (soundLines s .items) (soundLines s .count) st } | false ↦ record { code = unsound; state = st } ] in c .code ≢ 0 → c .state ≡ st
     go true h = absurd (h refl)
     go false h = refl
 
--- RESET KEEPS WHAT THE CHANNELS KEPT
-pub reset-keeps-channels : (s : List ℕ) (st : State) → resetCall s st .state .channels ≡ st .channels
-unfolding resetCall resetState
-reset-keeps-channels s st = either (λ (c : Called). c .state .channels ≡ st .channels) (isSound s st) (λ e. refl) (λ e. refl)
+-- CONTROL RESET KEEPS WHAT THE CHANNELS KEPT
+pub control-reset-keeps-channels : (s : List ℕ) (st : State) → controlResetCall s st .state .channels ≡ st .channels
+unfolding controlResetCall controlResetState
+control-reset-keeps-channels s st = either (λ (c : Called). c .state .channels ≡ st .channels) (isSound s st) (λ e. refl) (λ e. refl)
 
 -- in a run: a call that is turnedAnswer with a code other than 0 changes no state and adds nothing to the history
 noted-refused : (c : ℕ) (es r : List Entry) → c ≢ 0 → noted c es r ≡ r
@@ -109,4 +113,5 @@ step-refused s (doBeat g) n h = let p = beat-refused s (n .kept) g h in (p .0, r
 step-refused s (doLock k) n h = (lock-refused s (n .kept) k h, noted-refused _ (locks (rankOf s k) true ∷ []) (n .history) h)
 step-refused s (doUnlock k) n h = (unlock-refused s (n .kept) k h, noted-refused _ (locks (rankOf s k) false ∷ []) (n .history) h)
 step-refused s (doCancel k) n h = (cancel-refused s (n .kept) k h, noted-refused _ (cancels (rankOf s k) ∷ []) (n .history) h)
-step-refused s doReset n h = (reset-refused s (n .kept) h, noted-refused _ (resets ∷ []) (n .history) h)
+step-refused s doProgramEnd n h = (program-end-refused s (n .kept) h, noted-refused _ (endEntries (soundLines s) (n .kept .cancelled)) (n .history) h)
+step-refused s doControlReset n h = (control-reset-refused s (n .kept) h, noted-refused _ (resets ∷ []) (n .history) h)

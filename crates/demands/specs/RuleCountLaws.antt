@@ -1,5 +1,5 @@
--- Laws of counts by rank: what a beat and a reset leave at each rank. Assumes nothing.
-use mathlib.Core.Path.{_≡_, refl, sym, ap, _∙_}
+-- Laws of counts by rank: what a beat and a control reset leave at each rank. Assumes nothing.
+use mathlib.Core.Path.{_≡_, refl, ap, _∙_}
 use mathlib.Core.Bool.{Bool, true, false, cond}
 use mathlib.Core.List.{List}
 use Prim.Native.Nat.{ℕ, zero, suc, _+_, min, _<_, _≤_}
@@ -35,7 +35,7 @@ module _ (acts : List ℕ) where
   unfolding countedActs
   counted-at word = filled-at acts 0 (λ k. oneMore (getD acts k 0) (isActed word k)) (countedActs acts word) refl (λ n. refl)
 
-  -- a reset after which these lines are cancelled
+  -- a control reset after which these lines are cancelled
   pub reset-acts-length : (cancelled : List Bool) (n : ℕ) → length (resetActs cancelled acts n) ≡ length acts
   unfolding resetActs
   reset-acts-length cancelled = filled-length acts 0 (λ k. cond (getD cancelled k false) (getD acts k 0) 0) (resetActs cancelled acts) refl (λ n. refl)

@@ -1,7 +1,7 @@
 -- The engine's run from a load on, and the run of a control that keeps no flags: it has the rest of the state and the history, and decides by the rule alone.
 -- Definitions only; assumes nothing.
 use mathlib.Core.Bool.{Bool, true, false, cond, not, _&&_, _||_}
-use mathlib.Core.List.{List, [], _∷_, _++_}
+use mathlib.Core.List.{List, [], _∷_, _++_, map}
 use Prim.Native.Nat.{ℕ, zero, suc, _+_, _/_}
 use lib.Dec.{eqb, ltb}
 use lib.IntN.{ℤ}
@@ -20,14 +20,14 @@ use Rattle.engine.specs.declared.one_beat.Beaten.{Beaten}
 use Rattle.engine.specs.declared.calls.Called.{Called}
 use Rattle.engine.specs.Set.{noLine, rankIn, soundLines}
 use Rattle.engine.specs.State.{powerOn}
-use Rattle.working.specs.Variables.{inputCount}
 use Rattle.engine.specs.Sound.{isSound}
 use Rattle.engine.specs.Action.{World, fromValueOrAlarm}
 use Rattle.engine.specs.Turn.{Entry, beatIn, worked, locks, cancels, resets, Turned, doTurn}
 use Rattle.engine.specs.Order.{orderSize}
 use Rattle.engine.specs.Beat.{bufferSize, areInputs, buffered, beatAnswer, beatBuffer, Given, samplesIn, beatBegun, beatEnded, wholeBeat}
-use Rattle.engine.specs.Calls.{lockCall, unlockCall, cancelCall, resetState, resetCall}
-use Rattle.soundness.specs.Call.{Call, doBeat, doLock, doUnlock, doCancel, doReset}
+use Rattle.engine.specs.Calls.{lockCall, unlockCall, cancelCall, programEndCall, controlResetState, controlResetCall}
+use Rattle.soundness.specs.Call.{Call, doBeat, doLock, doUnlock, doCancel, doProgramEnd, doControlReset}
+use Rattle.soundness.specs.ProgramEnd.{liveIds}
 use Rattle.demands.specs.History.{History, after, isCancelled, isLocked, wasTrue, everTrue, isAutomatic, takesByRule, triesByRule, actsByRule}
 
 -- ---- the calls after a load, and what the caller sees of each
@@ -61,6 +61,10 @@ noted c es r = elim (eqb c 0) [ true ↦ after es r | false ↦ r ]
 abbrev pub rankOf : List ℕ → ℕ → ℕ
 rankOf s n = rankIn (soundLines s .numbers) n 0
 
+-- what a program end adds, where these lines are cancelled before it: the cancel of each ID line still live, in rising rank
+abbrev pub endEntries : Lines → List Bool → List Entry
+endEntries ls cancelled = map cancels (liveIds (ls .items) cancelled (ls .count))
+
 -- ---- the engine's run
 
 -- a host's call that gave x and is written down as es
@@ -81,7 +85,8 @@ step s (doBeat g) n = beaten g (beatAnswer s (n .kept) g) (beatBuffer s (n .kept
 step s (doLock k) n = hosted (doLock k) (lockCall s (n .kept) k) (locks (rankOf s k) true ∷ []) n
 step s (doUnlock k) n = hosted (doUnlock k) (unlockCall s (n .kept) k) (locks (rankOf s k) false ∷ []) n
 step s (doCancel k) n = hosted (doCancel k) (cancelCall s (n .kept) k) (cancels (rankOf s k) ∷ []) n
-step s doReset n = hosted doReset (resetCall s (n .kept)) (resets ∷ []) n
+step s doProgramEnd n = hosted doProgramEnd (programEndCall s (n .kept)) (endEntries (soundLines s) (n .kept .cancelled)) n
+step s doControlReset n = hosted doControlReset (controlResetCall s (n .kept)) (resets ∷ []) n
 
 -- the calls, one after the other
 unfoldable pub runFrom : List ℕ → List Call → Now State → Now State
@@ -216,6 +221,10 @@ codeByRule s v r n =
       | false ↦ unsound
     ]
 
+-- the code of a program end: 22 or 0
+unfoldable pub endCodeByRule : List ℕ → Rest → History → ℕ
+endCodeByRule s v r = elim (isSound s (stateBy (soundLines s) v r)) [ true ↦ 0 | false ↦ unsound ]
+
 -- a host's call with the code k leaves the rest as it was
 abbrev pub hostedByRule : Call → ℕ → List Entry → Now Rest → Now Rest
 hostedByRule c k es n = record { kept = n .kept; history = noted k es (n .history); told = (c, coded k) ∷ n .told }
@@ -229,16 +238,16 @@ beatenByRule g (good t) n = record {
 }
 beatenByRule g (stop k) n = record { kept = n .kept; history = n .history; told = (doBeat g, record { code = k; orders = 0; acted = 0; buffer = g .buffer }) ∷ n .told }
 
--- what the engine's reset leaves of the rest
+-- what the engine's control reset leaves of the rest
 abbrev pub cleared : Rest → Lines → History → Rest
-cleared v ls r = restOf (resetState (ls .items) (ls .count) (stateBy ls v r))
+cleared v ls r = restOf (controlResetState (ls .items) (ls .count) (stateBy ls v r))
 
--- a reset: one entry, and the rest cleared
-unfoldable pub resetByRule : List ℕ → Now Rest → Now Rest
-resetByRule s n =
+-- a control reset: one entry, and the rest cleared
+unfoldable pub controlResetByRule : List ℕ → Now Rest → Now Rest
+controlResetByRule s n =
     elim (isSound s (stateBy (soundLines s) (n .kept) (n .history))) [
-      | true ↦ record { kept = cleared (n .kept) (soundLines s) (n .history); history = resets ∷ n .history; told = (doReset, coded 0) ∷ n .told }
-      | false ↦ record { kept = n .kept; history = n .history; told = (doReset, coded unsound) ∷ n .told }
+      | true ↦ record { kept = cleared (n .kept) (soundLines s) (n .history); history = resets ∷ n .history; told = (doControlReset, coded 0) ∷ n .told }
+      | false ↦ record { kept = n .kept; history = n .history; told = (doControlReset, coded unsound) ∷ n .told }
     ]
 
 -- one call by the rule
@@ -247,7 +256,8 @@ stepByRule s (doBeat g) n = beatenByRule g (beatByRule s (n .kept) (n .history) 
 stepByRule s (doLock k) n = hostedByRule (doLock k) (codeByRule s (n .kept) (n .history) k) (locks (rankOf s k) true ∷ []) n
 stepByRule s (doUnlock k) n = hostedByRule (doUnlock k) (codeByRule s (n .kept) (n .history) k) (locks (rankOf s k) false ∷ []) n
 stepByRule s (doCancel k) n = hostedByRule (doCancel k) (codeByRule s (n .kept) (n .history) k) (cancels (rankOf s k) ∷ []) n
-stepByRule s doReset n = resetByRule s n
+stepByRule s doProgramEnd n = hostedByRule doProgramEnd (endCodeByRule s (n .kept) (n .history)) (endEntries (soundLines s) (byRank (cancelledBy (soundLines s) (n .history)))) n
+stepByRule s doControlReset n = controlResetByRule s n
 
 -- the calls, one after the other
 unfoldable pub runByRuleFrom : List ℕ → List Call → Now Rest → Now Rest

@@ -9,7 +9,6 @@ use Rattle.values.specs.Choice.{either}
 use Rattle.tokens.specs.Token.{maxLines}
 use Rattle.checking.specs.declared.line.Line.{Line}
 use Rattle.engine.specs.declared.state.State.{State}
-use Rattle.engine.specs.declared.status.LineStatus.{LineStatus}
 use Rattle.engine.specs.declared.status.Status.{Status}
 use Rattle.engine.specs.Set.{noLine, soundLines}
 use Rattle.engine.specs.Sound.{isSound}

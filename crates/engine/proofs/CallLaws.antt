@@ -1,4 +1,4 @@
--- Laws of the host's calls: what a call answers, and the turns of reset's loops.
+-- Laws of the host's calls: what a call answers, and the turns of the loops of program end and control reset.
 use mathlib.Core.Path.{_≡_, refl, sym, ap, _∙_}
 use mathlib.Core.Bool.{Bool, true, false, or-true, or-false}
 use mathlib.Core.List.{List, _++_, append-assoc}
@@ -23,7 +23,7 @@ use Rattle.engine.specs.ActCount.{resetActs}
 use Rattle.engine.specs.ActCountLaws.{recounts-later}
 use Rattle.engine.specs.Sound.{isSound}
 use Rattle.engine.specs.ResetLaws.{reset-keeps}
-use Rattle.engine.specs.Calls.{called, resetCancelled, zeroed, resetState, resetCall}
+use Rattle.engine.specs.Calls.{withCancelled, called, endedLine, programEnded, programEndCall, resetCancelled, zeroed, controlResetState, controlResetCall}
 
 -- ---- what a call answers
 
@@ -43,7 +43,41 @@ module _ (st : State) (f g : Found) (e : f ≡ g) (change : ℕ → State) where
   pub called-done : f .code ≡ 0 → _≡_ {A = Called} (record { code = 0; state = change (f .rank) }) (called st g change)
   called-done z = sym (does st f change z) ∙ ap (λ (x : Found). called st x change) e
 
--- ---- reset
+-- ---- program end
+
+module _ (l : Line) (st : State) (k : ℕ) where
+  pub line-ids : l .ids ≡ true → st ≡ endedLine l st k
+  unfolding endedLine
+  line-ids z = rw (endedLine, z)
+
+  pub line-cancelled : l .ids ≡ false → getD (st .cancelled) k false ≡ true → st ≡ endedLine l st k
+  unfolding endedLine
+  line-cancelled z c = simp (endedLine, z, c)
+
+  pub line-ended : l .ids ≡ false → getD (st .cancelled) k false ≡ false → withCancelled st k ≡ endedLine l st k
+  unfolding endedLine
+  line-ended z c = simp (endedLine, z, c)
+
+module _ (ls : List Line) (st : State) where
+  pub end-none : st ≡ programEnded ls st 0
+  unfolding programEnded
+  end-none = refl
+
+  pub end-turn : (k : ℕ) {x y : State} → x ≡ programEnded ls st k → y ≡ endedLine (getD ls k noLine) x k → y ≡ programEnded ls st (k + 1)
+  unfolding programEnded
+  end-turn k e g = g ∙ rw (e, add-one k)
+
+module _ (s : List ℕ) (st : State) where
+  pub end-unsound : isSound s st ≡ false → programEndCall s st ≡ record { code = unsound; state = st }
+  unfolding programEndCall
+  end-unsound z = rw (programEndCall, z)
+
+  -- the lines of the set are l, the state x
+  pub end-sound : isSound s st ≡ true → {l : Lines} → l ≡ soundLines s → {x : State} → x ≡ programEnded (l .items) st (l .count) → programEndCall s st ≡ record { code = 0; state = x }
+  unfolding programEndCall
+  end-sound z e g = rw (g, e) (rw (programEndCall, z))
+
+-- ---- control reset
 
 module _ (ls : List Line) (cs : List Bool) where
   pub reset-none : cs ≡ resetCancelled ls cs 0
@@ -99,12 +133,12 @@ unfolding zeroTo zeroed
 zero-all c = refl
 
 module _ (s : List ℕ) (st : State) where
-  pub reset-unsound : isSound s st ≡ false → resetCall s st ≡ record { code = unsound; state = st }
-  unfolding resetCall
-  reset-unsound z = rw (resetCall, z)
+  pub reset-unsound : isSound s st ≡ false → controlResetCall s st ≡ record { code = unsound; state = st }
+  unfolding controlResetCall
+  reset-unsound z = rw (controlResetCall, z)
 
   -- the lines of the set are l, the cells cs, the cancelled lines xs and the counts ns
   pub reset-sound : isSound s st ≡ true → (l : Lines) → l ≡ soundLines s → (cs : List ℤ) → cs ≡ zeroed (st .cells) → (xs : List Bool) → xs ≡ resetCancelled (l .items) (st .cancelled) (l .count)
-      → (ns : List ℕ) → ns ≡ resetActs xs (st .acts) maxLines → resetCall s st ≡ record { code = 0; state = record { r = st .r; cells = cs; runs = replicate timerCount false; channels = st .channels; locked = replicate maxLines false; cancelled = xs; memory = replicate maxLines false; acts = ns } }
-  unfolding resetCall resetState
-  reset-sound z l e cs g xs h ns n = rw (n, h, g, e) (rw (resetCall, z))
+      → (ns : List ℕ) → ns ≡ resetActs xs (st .acts) maxLines → controlResetCall s st ≡ record { code = 0; state = record { r = st .r; cells = cs; runs = replicate timerCount false; channels = st .channels; locked = replicate maxLines false; cancelled = xs; memory = replicate maxLines false; acts = ns } }
+  unfolding controlResetCall controlResetState
+  reset-sound z l e cs g xs h ns n = rw (n, h, g, e) (rw (controlResetCall, z))

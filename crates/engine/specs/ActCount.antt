@@ -1,4 +1,4 @@
--- How often each line acted, by rank, since the load or the last reset that left it live (document 02, Req 06). Definitions only.
+-- How often each line acted, by rank, since the load or the last control reset that left it live (document 02, Req 06). Definitions only.
 use mathlib.Core.Bool.{Bool, true, false, cond, _&&_}
 use mathlib.Core.List.{List}
 use Prim.Native.Nat.{ℕ, zero, suc, _+_, _/_, _%_, _^_}
@@ -22,7 +22,7 @@ unfoldable pub countedActs : List ℕ → ℕ → ℕ → List ℕ
 countedActs acts word zero = acts
 countedActs acts word (suc n) = set (countedActs acts word n) n (oneMore (getD acts n 0) (isActed word n))
 
--- those of the first n ranks after a reset, where these lines are cancelled after it: a line that is still live begins at 0, a cancelled one keeps its own
+-- those of the first n ranks after a control reset, where these lines are cancelled after it: a line that is still live begins at 0, a cancelled one keeps its own
 unfoldable pub resetActs : List Bool → List ℕ → ℕ → List ℕ
 resetActs cancelled acts zero = acts
 resetActs cancelled acts (suc n) = set (resetActs cancelled acts n) n (cond (getD cancelled n false) (getD acts n 0) 0)

@@ -1,5 +1,5 @@
--- The host's calls lock, unlock, cancel and reset (document 01, "A beat" and "Codes"). Definitions only.
-use mathlib.Core.Bool.{Bool, true, false, not, _||_}
+-- The host's calls lock, unlock, cancel, program end and control reset (document 01, "A beat" and "Codes"; document 02, Req 07). Definitions only.
+use mathlib.Core.Bool.{Bool, true, false, cond, not, _||_}
 use mathlib.Core.List.{List, _++_}
 use Prim.Native.Nat.{ℕ, zero, suc, _-_}
 use lib.Dec.{eqb}
@@ -58,9 +58,9 @@ resetCancelled ls cs (suc n) = set (resetCancelled ls cs n) n (getD cs n false |
 unfoldable pub zeroed : List ℤ → List ℤ
 zeroed c = take markerAt c ++ (replicate (countAt - markerAt) (pos 0) ++ drop countAt c)
 
--- reset cancels every ID line, unlocks and clears the memory of IDS lines, zeroes markers and parameters, stops timers at 0; R, FIFOs, outputs and what the channels keep stay; the counts of lines still live begin at 0
-unfoldable pub resetState : List Line → ℕ → State → State
-resetState ls count st = record {
+-- control reset, document 01's reset, cancels every ID line, unlocks and clears the memory of IDS lines, zeroes markers and parameters, stops timers at 0; R, FIFOs, outputs and what the channels keep stay; the counts of lines still live begin at 0
+unfoldable pub controlResetState : List Line → ℕ → State → State
+controlResetState ls count st = record {
   r = st .r;
   cells = zeroed (st .cells);
   runs = replicate timerCount false;
@@ -71,9 +71,25 @@ resetState ls count st = record {
   acts = resetActs (resetCancelled ls (st .cancelled) count) (st .acts) maxLines;
 }
 
-unfoldable pub resetCall : List ℕ → State → Called
-resetCall s st =
+unfoldable pub controlResetCall : List ℕ → State → Called
+controlResetCall s st =
     elim (isSound s st) [
-      | true ↦ record { code = 0; state = resetState (soundLines s .items) (soundLines s .count) st }
+      | true ↦ record { code = 0; state = controlResetState (soundLines s .items) (soundLines s .count) st }
+      | false ↦ record { code = unsound; state = st }
+    ]
+
+-- program end cancels an ID line that is still live, as the host's cancel does
+unfoldable pub endedLine : Line → State → ℕ → State
+endedLine l st k = cond (l .ids || getD (st .cancelled) k false) st (withCancelled st k)
+
+-- so for the first n lines; nothing else is touched
+unfoldable pub programEnded : List Line → State → ℕ → State
+programEnded ls st zero = st
+programEnded ls st (suc n) = endedLine (getD ls n noLine) (programEnded ls st n) n
+
+unfoldable pub programEndCall : List ℕ → State → Called
+programEndCall s st =
+    elim (isSound s st) [
+      | true ↦ record { code = 0; state = programEnded (soundLines s .items) st (soundLines s .count) }
       | false ↦ record { code = unsound; state = st }
     ]

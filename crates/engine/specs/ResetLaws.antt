@@ -1,4 +1,4 @@
--- Laws of reset: what it has not come to is as it was.
+-- Laws of control reset: what it has not come to is as it was.
 use mathlib.Core.Path.{_≡_, refl, _∙_}
 use mathlib.Core.Bool.{Bool, false}
 use mathlib.Core.List.{List}

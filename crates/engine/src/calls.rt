@@ -1,9 +1,9 @@
-// The host's calls: lock, unlock, cancel and reset. Each answers a code, 0 for success, and the state.
+// The host's calls: lock, unlock, cancel, program end and control reset. Each answers a code, 0 for success, and the state.
 ghost use mathlib.Core.Path.{_≡_};
-ghost use Prim.Native.Nat.{_≤_};
+ghost use Prim.Native.Nat.{_≤_, _<_};
 ghost use lib.ListN.{length};
 ghost use Rattle.engine.specs.ActCount.{resetActs};
-ghost use Rattle.engine.specs.Calls.{lockCall, unlockCall, cancelCall, resetCancelled, resetCall, lockedCall, zeroed};
+ghost use Rattle.engine.specs.Calls.{withCancelled, lockCall, unlockCall, cancelCall, endedLine, programEnded, programEndCall, resetCancelled, controlResetCall, lockedCall, zeroed};
 ghost use Rattle.working.specs.Variables.{countAt};
 ghost use Rattle.tokens.specs.Token.{maxLines};
 use crate::named_line::find;
@@ -11,6 +11,7 @@ use crate::set::Lines;
 use crate::set::sound_lines;
 use crate::sound::is_state_sound;
 use crate::state::State;
+use checking::Line;
 use tokens::token::LINES;
 use tokens::token::SIZE;
 use values::codes::UNSOUND;
@@ -58,6 +59,18 @@ pub fn unlock(set: &[u32; SIZE], state: State, n: u32) -> Called
     set_lock(set, state, n, false)
 }
 
+// The line of rank k is cancelled, without lock and memory.
+fn with_cancelled(state: State, k: usize) -> State
+    requires { ⌜ k < maxLines ⌝ }
+    ensures { λ x. ⌜ x ≡ withCancelled state k ⌝ }
+{
+    let mut next = state;
+    next.locked[k] = false;
+    next.cancelled[k] = true;
+    next.memory[k] = false;
+    next
+}
+
 // The line with the number n is cancelled, until the next load.
 pub fn cancel(set: &[u32; SIZE], state: State, n: u32) -> Called
     ensures { λ x. ⌜ x ≡ cancelCall (now (set .entry)) state n ⌝ }
@@ -71,10 +84,62 @@ pub fn cancel(set: &[u32; SIZE], state: State, n: u32) -> Called
         };
     }
     let k = f.rank;
+    let next = with_cancelled(state, k);
+    Called {
+        code: 0,
+        state: next,
+    }
+}
+
+// The line of rank k is cancelled if it is ID and still live.
+fn end_line(line: Line, state: State, k: usize) -> State
+    requires { ⌜ k < maxLines ⌝ }
+    ensures { λ x. ⌜ x ≡ endedLine line state k ⌝ }
+{
+    let ids = line.ids;
+    if ids {
+        return state;
+    }
+    if state.cancelled[k] {
+        return state;
+    }
+    with_cancelled(state, k)
+}
+
+fn end_lines(lines: Lines, state: State) -> State
+    requires { ⌜ lines .count ≤ maxLines ⌝ }
+    ensures { λ x. ⌜ x ≡ programEnded (lines .items) state (lines .count) ⌝ }
+{
     let mut next = state;
-    next.locked[k] = false;
-    next.cancelled[k] = true;
-    next.memory[k] = false;
+    let count = lines.count;
+    let items = lines.items;
+    let mut k: usize = 0;
+    while k < count {
+        next = end_line(items[k], next, k);
+        k += 1;
+    }
+    next
+}
+
+// Program end: each ID line still live is cancelled; all else stays.
+pub fn program_end(set: &[u32; SIZE], state: State) -> Called
+    ensures { λ x. ⌜ x ≡ programEndCall (now (set .entry)) state ⌝ }
+{
+    let lines = sound_lines(set);
+    let sound = lines.sound;
+    if !sound {
+        return Called {
+            code: UNSOUND,
+            state: state,
+        };
+    }
+    if !is_state_sound(lines.count, state) {
+        return Called {
+            code: UNSOUND,
+            state: state,
+        };
+    }
+    let next = end_lines(lines, state);
     Called {
         code: 0,
         state: next,
@@ -128,9 +193,9 @@ fn reset_acts(cancelled: &[bool; LINES], acts: [u32; LINES]) -> [u32; LINES]
     next
 }
 
-// Reset: ID lines are cancelled, IDS lines unlocked and their memory cleared, markers and parameters 0, timers stopped at 0; the counts of lines still live begin at 0; R, FIFOs, outputs and what the channels keep stay.
-pub fn reset(set: &[u32; SIZE], state: State) -> Called
-    ensures { λ x. ⌜ x ≡ resetCall (now (set .entry)) state ⌝ }
+// Control reset: ID lines are cancelled, IDS lines unlocked and their memory cleared, markers and parameters 0, timers stopped at 0; the counts of lines still live begin at 0; R, FIFOs, outputs and what the channels keep stay.
+pub fn control_reset(set: &[u32; SIZE], state: State) -> Called
+    ensures { λ x. ⌜ x ≡ controlResetCall (now (set .entry)) state ⌝ }
 {
     let lines = sound_lines(set);
     let sound = lines.sound;

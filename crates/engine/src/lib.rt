@@ -21,8 +21,9 @@ mod write;
 
 pub use calls::Called;
 pub use calls::cancel;
+pub use calls::control_reset;
 pub use calls::lock;
-pub use calls::reset;
+pub use calls::program_end;
 pub use calls::unlock;
 pub use cells::kept_cells;
 pub use cells::spread_cells;

@@ -1,4 +1,4 @@
-// A short host: it loads a set, works ten beats with a lock, an unlock, a cancel and a reset in between, writes what each call answered, and at the end prints its set. A real host reads its inputs
+// A short host: it loads a set, works ten beats with a lock, an unlock, a cancel, a program end and a control reset in between, writes what each call answered, and at the end prints its set. A real host reads its inputs
 // from the terminals and hands the orders to the drives; this one has its inputs in `inputs_at` and writes the orders down. docs/HOST.md goes through it.
 use couplers::channel::CHANNELS;
 use couplers::reading::Reading;
@@ -8,9 +8,10 @@ use engine::ORDERS;
 use engine::State;
 use engine::beat;
 use engine::cancel;
+use engine::control_reset;
 use engine::empty_set;
 use engine::lock;
-use engine::reset;
+use engine::program_end;
 use engine::unlock;
 use libc::STDOUT_FILENO;
 use print::print;
@@ -71,10 +72,16 @@ fn asked_at(k: u32, set: &[u32; SIZE], state: State) -> State {
         2 => called(b"lock 10: code ", lock(set, state, 10)),
         4 => called(b"unlock 10: code ", unlock(set, state, 10)),
         8 => called(b"cancel 30: code ", cancel(set, state, 30)),
-        9 => called(b"reset: code ", reset(set, state)),
+        9 => ended(set, state),
         10 => called(b"lock 10: code ", lock(set, state, 10)),
         _ => state,
     }
+}
+
+// The end of the part program, and then a control reset.
+fn ended(set: &[u32; SIZE], state: State) -> State {
+    let next = called(b"program end: code ", program_end(set, state));
+    called(b"control reset: code ", control_reset(set, next))
 }
 
 fn called(text: &[u8], c: Called) -> State {

@@ -25,8 +25,9 @@ use engine::Standing;
 use engine::State;
 use engine::beat;
 use engine::cancel;
+use engine::control_reset;
 use engine::lock;
-use engine::reset;
+use engine::program_end;
 use engine::status_of;
 use engine::unlock;
 use print::Printed;
@@ -221,14 +222,15 @@ fn called(c: Called) -> State {
     c.state
 }
 
-// Lock, unlock and cancel of a line; reset.
+// Lock, unlock and cancel of a line; program end, control reset.
 fn host_call(request: &[u8; REQUEST], set: &[u32; SIZE], state: State) -> Called {
     let n = word(request, 4);
     match letter(request) {
         b'L' => lock(set, state, n),
         b'U' => unlock(set, state, n),
         b'C' => cancel(set, state, n),
-        _ => reset(set, state),
+        b'E' => program_end(set, state),
+        _ => control_reset(set, state),
     }
 }
 

@@ -4,7 +4,7 @@ use mathlib.Core.Bool.{Bool, true}
 use mathlib.Core.List.{List, [], _∷_}
 use Prim.Native.Nat.{ℕ, zero, suc, _+_, _≤_, _<_}
 use native.Mathlib.Omega.{arith}
-use lib.Dec.{eqb, ltb}
+use lib.Dec.{ltb}
 use lib.ListN.{length, getD, set, replicate, length-set, length-replicate}
 use lib.Seq.{getD-set-same, getD-set-other}
 use borrow.Author.Tests.{eq-eqb, lt-ltb, le-ltb, le-leb}
@@ -13,6 +13,7 @@ use Rattle.tokens.specs.Token.{setSize, maxLines, maxCurves}
 use Rattle.checking.specs.declared.line.Line.{Line}
 use Rattle.checking.specs.declared.definition.Definition.{Definition as Told}
 use Rattle.engine.specs.declared.set.Lines.{Lines}
+use Rattle.soundness.specs.SetSoundLaws.{rank-first}
 use Rattle.engine.specs.Set.{lineCount, startOf, lineOf, curveStart, curveLine, noLine, linesFrom, linesRead, rankIn, isKnown, curvesFrom, setTable, curvesSound, allKnown, namedLines, soundLines}
 use Rattle.reader.specs.Row.{Row, isThere, curvesThere, curveCount, noRow, ranked}
 use Rattle.reader.specs.Load.{curveFaultOf, curveNumberIn}
@@ -136,15 +137,6 @@ module _ (s : List ℕ) where
       rw x r′
 
 -- ---- numbers that are known
-
-rank-first : (ns : List ℕ) (n k i : ℕ) → i < length ns → getD ns i 0 ≡ n → rankIn ns n k ≤ k + i
-unfolding rankIn
-rank-first [] n k i l e = absurd (omega arith)
-rank-first (x ∷ xs) n k zero l e = rw (rankIn, eq-eqb x n e) (omega arith)
-rank-first (x ∷ xs) n k (suc i) l e =
-    decide _ (eqb x n)
-    (λ t. rw (rankIn, t) (omega arith))
-    (λ t. let h = rank-first xs n (k + 1) i (omega arith) e in rw (rankIn, t) (omega arith))
 
 pub known-at : (ns : List ℕ) (n i : ℕ) → length ns ≡ maxLines → i < maxLines → getD ns i 0 ≡ n → isKnown ns n ≡ true
 known-at ns n i m l e = let h = rank-first ns n 0 i (omega arith) e in lt-ltb (rankIn ns n 0) maxLines (omega arith)

@@ -16,7 +16,7 @@ use Rattle.engine.specs.declared.status.Status.{Status}
 use Rattle.engine.specs.Status.{statusOf}
 use Rattle.soundness.specs.GoodAnswers.{Not22}
 use Rattle.soundness.specs.CellSoundLaws.{power-on}
-use Rattle.soundness.specs.Call.{Call, doBeat, doLock, doUnlock, doCancel, doReset, codeAfter, afterAll}
+use Rattle.soundness.specs.Call.{Call, doBeat, doLock, doUnlock, doCancel, doProgramEnd, doControlReset, codeAfter, afterAll}
 use Rattle.soundness.specs.SoundLaws.{Whole, call-keeps, call-not22, power-on-whole, always-sound, never-22}
 use Rattle.demands.specs.Run.{Now, Reply, step, runFrom, engineRun}
 use Rattle.demands.specs.Asks.{Ask, standing, lastText, callsSince}
@@ -74,7 +74,8 @@ module _ (s : List ℕ) (size : length s ≤ setSize) where
   step-keeps (doLock k) n w h = (call-keeps s (n .kept) (doLock k) size w, (call-not22 s (n .kept) (doLock k) size w, h))
   step-keeps (doUnlock k) n w h = (call-keeps s (n .kept) (doUnlock k) size w, (call-not22 s (n .kept) (doUnlock k) size w, h))
   step-keeps (doCancel k) n w h = (call-keeps s (n .kept) (doCancel k) size w, (call-not22 s (n .kept) (doCancel k) size w, h))
-  step-keeps doReset n w h = (call-keeps s (n .kept) doReset size w, (call-not22 s (n .kept) doReset size w, h))
+  step-keeps doProgramEnd n w h = (call-keeps s (n .kept) doProgramEnd size w, (call-not22 s (n .kept) doProgramEnd size w, h))
+  step-keeps doControlReset n w h = (call-keeps s (n .kept) doControlReset size w, (call-not22 s (n .kept) doControlReset size w, h))
 
   run-keeps : (cs : List Call) (n : Now State) → Whole s (n .kept) → NoneIs22 (n .told) → Whole s (runFrom s cs n .kept) × NoneIs22 (runFrom s cs n .told)
   unfolding runFrom

@@ -1,15 +1,15 @@
--- END's three numbers are the counts over what was printed before it: the C lines, those of them with a code, and the O lines. Assumes nothing.
+-- END's three numbers are the counts over what was printed before it: the C lines, those of them with a code, and the O lines; PE and RS count as lines only, toward the number of an E line and toward the 1,000,000. Assumes nothing.
 use mathlib.Core.Path.{_≡_, refl, sym, ap, _∙_}
-use mathlib.Core.Bool.{Bool, true, false, not, _&&_, and-false}
+use mathlib.Core.Bool.{Bool, true, false, not, _&&_, _||_, and-false}
 use mathlib.Core.List.{List, [], _∷_, _++_, append-assoc}
 use mathlib.Core.Logic.{_⊎_, inl, inr}
-use mathlib.Core.Option.{none, some}
+use mathlib.Core.Option.{Option, none, some}
 use Prim.Native.Nat.{ℕ, zero, suc, _+_, _*_, _-_, _/_, _%_, _≤_, _<_}
 use native.Mathlib.Omega.{arith}
 use lib.Dec.{eqb, ltb}
-use lib.ListN.{length, getD, drop, length-append}
+use lib.ListN.{length, getD, take, drop, length-append}
 use borrow.Author.Tests.{eqb-true, eq-eqb, ne-eqb}
-use Rattle.values.specs.Choice.{decide, either}
+use Rattle.values.specs.Choice.{either}
 use Rattle.values.specs.Numbers.{clash}
 use Rattle.engine.specs.Order.{orderSize}
 use Rattle.engine.specs.declared.one_beat.Beaten.{Beaten}
@@ -19,16 +19,16 @@ use Rattle.text.specs.Word.{sameBytes}
 use Rattle.text.specs.Lines.{before, split, textLines}
 use Rattle.reader.specs.Load.{loadAnswer, loadSet}
 use Rattle.transcript.specs.Input.{inputOf}
-use Rattle.transcript.specs.BeatLine.{Lent, fields, lineLent}
+use Rattle.transcript.specs.BeatLine.{Lent, Said, beat, programEnd, controlReset, saysBeat, fields, lineLent, lineSaid}
 use Rattle.transcript.specs.Output.{spaced, printedLine, decimals, fourOf, codeLine, orderLine, orderLines, errorLine, endLine}
 use Rattle.transcript.specs.declared.totals.Totals.{Totals}
 use Rattle.transcript.specs.declared.view.View.{View}
 use Rattle.transcript.specs.declared.view.View.the-variants.{Run}
-use Rattle.transcript.specs.Totals.{maxBeats, noTotals, endBy, ended, oneIf}
-use Rattle.transcript.specs.Tally.{counted, answerOf, bufferOf, beatText, printedBy, beatPrinted}
+use Rattle.transcript.specs.Totals.{lastLine, noTotals, endBy, ended, oneIf}
+use Rattle.transcript.specs.Tally.{counted, answerOf, bufferOf, beatText, printedBy, beatPrinted, saidCounted, saidPrinted}
 use Rattle.transcript.specs.Synrun.{beatsText, printout, synrun}
 use Rattle.transcript.specs.SessionRoomLaws.{byLent}
-use Rattle.sessions.specs.SessionLaws.{beats-over, beats-some, loaded-zero}
+use Rattle.sessions.specs.SessionLaws.{said-lines, said-view, beats-over, beats-some, loaded-zero}
 
 -- ---- counting
 
@@ -129,21 +129,21 @@ body-first word f fs h = part-first SPACE 33 word (f ++ spaced fs) (omega arith)
 -- ---- a C line
 
 abbrev codeBody : ℕ → ℕ → ℕ → List ℕ
-codeBody beat code orders = lineBody (bytes "C") (decimals (beat ∷ code ∷ orders ∷ []))
+codeBody number code orders = lineBody (bytes "C") (decimals (number ∷ code ∷ orders ∷ []))
 
-code-above : (beat code orders : ℕ) → Above 11 (codeBody beat code orders)
-code-above beat code orders =
-    body-above (bytes "C") (decimals (beat ∷ code ∷ orders ∷ [])) (omega arith, tt) (decimal-above beat, (decimal-above code, (decimal-above orders, tt)))
+code-above : (number code orders : ℕ) → Above 11 (codeBody number code orders)
+code-above number code orders =
+    body-above (bytes "C") (decimals (number ∷ code ∷ orders ∷ [])) (omega arith, tt) (decimal-above number, (decimal-above code, (decimal-above orders, tt)))
 
-code-line : (beat code orders : ℕ) (rest : List ℕ) → codeLine beat code orders ++ rest ≡ codeBody beat code orders ++ (LF ∷ rest)
+code-line : (number code orders : ℕ) (rest : List ℕ) → codeLine number code orders ++ rest ≡ codeBody number code orders ++ (LF ∷ rest)
 unfolding codeLine
-code-line beat code orders rest = line-body (bytes "C") (decimals (beat ∷ code ∷ orders ∷ [])) rest
+code-line number code orders rest = line-body (bytes "C") (decimals (number ∷ code ∷ orders ∷ [])) rest
 
-code-fields : (beat code orders : ℕ) → fields (codeBody beat code orders) ≡ bytes "C" ∷ decimal beat ∷ decimal code ∷ fields (lineBody (decimal orders) [])
-code-fields beat code orders =
-    body-first (bytes "C") (decimal beat) (decimals (code ∷ orders ∷ [])) (omega arith, tt)
-    ∙ ap (λ (y : List (List ℕ)). bytes "C" ∷ y) (body-first (decimal beat) (decimal code) (decimals (orders ∷ [])) (decimal-above beat))
-    ∙ ap (λ (y : List (List ℕ)). bytes "C" ∷ decimal beat ∷ y) (body-first (decimal code) (decimal orders) [] (decimal-above code))
+code-fields : (number code orders : ℕ) → fields (codeBody number code orders) ≡ bytes "C" ∷ decimal number ∷ decimal code ∷ fields (lineBody (decimal orders) [])
+code-fields number code orders =
+    body-first (bytes "C") (decimal number) (decimals (code ∷ orders ∷ [])) (omega arith, tt)
+    ∙ ap (λ (y : List (List ℕ)). bytes "C" ∷ y) (body-first (decimal number) (decimal code) (decimals (orders ∷ [])) (decimal-above number))
+    ∙ ap (λ (y : List (List ℕ)). bytes "C" ∷ decimal number ∷ y) (body-first (decimal code) (decimal orders) [] (decimal-above code))
 
 -- a number is written 0 exactly if it is 0
 long-same : (a : List ℕ) (x : ℕ) → 1 ≤ length a → sameBytes (a ++ (x ∷ [])) (bytes "0") ≡ false
@@ -163,15 +163,15 @@ zero-written (suc n) =
     (λ e. rw (ne-eqb (48 + suc n) 48 (λ q. omega arith)))
     (λ e. rw (long-same (digitsUp 9 (suc n / 10)) (48 + suc n % 10) (digits-some 8 (suc n / 10))))
 
-module _ (beat code orders : ℕ) where
-  code-is-beat : one (isBeat (codeBody beat code orders)) ≡ 1
-  code-is-beat = rw (code-fields beat code orders)
+module _ (number code orders : ℕ) where
+  code-is-beat : one (isBeat (codeBody number code orders)) ≡ 1
+  code-is-beat = rw (code-fields number code orders)
 
-  code-is-coded : one (isCoded (codeBody beat code orders)) ≡ oneIf code
-  code-is-coded = rw (code-fields beat code orders) (zero-written code)
+  code-is-coded : one (isCoded (codeBody number code orders)) ≡ oneIf code
+  code-is-coded = rw (code-fields number code orders) (zero-written code)
 
-  code-no-order : one (isOrder (codeBody beat code orders)) ≡ 0
-  code-no-order = rw (code-fields beat code orders)
+  code-no-order : one (isOrder (codeBody number code orders)) ≡ 0
+  code-no-order = rw (code-fields number code orders)
 
 -- ---- an O line
 
@@ -252,10 +252,6 @@ module _ (s : List ℕ) (n : Totals) (l : Lent) (rest : List ℕ) where
 abbrev endFrom : Totals → List ℕ → List ℕ
 endFrom n shown = endLine (n .beats .0 + linesIn isBeat shown) (n .coded + linesIn isCoded shown) (n .orders + linesIn isOrder shown)
 
--- E with the number of the line behind those taken, each a beat
-abbrev errorFrom : Totals → List ℕ → List ℕ
-errorFrom n shown = errorLine (n .lines + linesIn isBeat shown + 1)
-
 nothing-counted : (n : Totals) → (n .beats .0 + linesIn isBeat [] ≡ n .beats .0) × (n .coded + linesIn isCoded [] ≡ n .coded) × (n .orders + linesIn isOrder [] ≡ n .orders)
 unfolding count split
 nothing-counted n = (omega arith, omega arith, omega arith)
@@ -267,82 +263,158 @@ end-now s n r = ap (λ (v : View). endBy v s n) r ∙ counts
     counts : endBy Run s n ≡ endFrom n []
     counts = let e = nothing-counted n in rw (e .0, e .1, e .2)
 
-beat-run : (s : List ℕ) (n : Totals) (x : Lent) → n .view ≡ Run → beatPrinted s n x ≡ beatText s n x
+-- of any line
+abbrev shownOf : List ℕ → Totals → Said → List ℕ
+shownOf s n (beat l) = beatText s n l
+shownOf s n programEnd = []
+shownOf s n controlReset = []
+
+said-run : (s : List ℕ) (n : Totals) (x : Said) → n .view ≡ Run → saidPrinted s n x ≡ shownOf s n x
 unfolding beatPrinted
-beat-run s n x r = ap (λ (v : View). printedBy v (beatText s n x)) r
+said-run s n (beat l) r = ap (λ (v : View). printedBy v (beatText s n l)) r
+said-run s n programEnd r = refl
+said-run s n controlReset r = refl
 
-error-now : (n : Totals) → errorLine (n .lines + 1) ≡ errorFrom n []
-unfolding count split
-error-now n = let e : n .lines + 1 ≡ n .lines + linesIn isBeat [] + 1 = omega arith in ap errorLine e
+-- ---- a line before what follows
 
-module _ (s : List ℕ) (n : Totals) (x : Lent) (shown : List ℕ) where
-  abbrev then : Totals
-  then = counted n (answerOf s n x)
+-- a line PE or RS
+abbrev pub isCall : List ℕ → Bool
+isCall l = sameBytes l (bytes "PE") || sameBytes l (bytes "RS")
 
-  end-later : endFrom then shown ≡ endFrom n (beatText s n x ++ shown)
-  end-later =
-      let b = beats-one s n x shown in
-      let c = coded-one s n x shown in
-      let o = orders-all s n x shown in
-      let p : then .beats .0 + linesIn isBeat shown ≡ n .beats .0 + linesIn isBeat (beatText s n x ++ shown) = omega arith in
-      let q : then .coded + linesIn isCoded shown ≡ n .coded + linesIn isCoded (beatText s n x ++ shown) = omega arith in
-      let r : then .orders + linesIn isOrder shown ≡ n .orders + linesIn isOrder (beatText s n x ++ shown) = omega arith in
+-- a line counts as a beat, unless it is a call
+abbrev pub beatsOf : Said → ℕ
+beatsOf (beat l) = 1
+beatsOf programEnd = 0
+beatsOf controlReset = 0
+
+call-said : (l : List ℕ) (x : Said) → lineSaid l ≡ some x → beatsOf x + one (isCall l) ≡ 1
+unfolding lineSaid
+call-said l x =
+    let P : Option Said → Type 0 = λ o. o ≡ some x → beatsOf x + one (isCall l) ≡ 1 in
+    either P (sameBytes l (bytes "PE")) (λ e h. let q : programEnd ≡ x = cc in rw (← q, e)) λ e.
+    either P (sameBytes l (bytes "RS")) (λ g h. let q : controlReset ≡ x = cc in rw (← q, e, g)) λ g h.
+    rw (e, g) (lent (lineLent l) h)
+  where
+    lent : (o : Option Lent) → saysBeat o ≡ some x → beatsOf x + 0 ≡ 1
+    lent none h = clash (cc)
+    lent (some l) h = let q : beat l ≡ x = cc in rw (← q)
+
+module _ (s : List ℕ) (n : Totals) (shown : List ℕ) where
+  said-beats : (x : Said) → linesIn isBeat (shownOf s n x ++ shown) ≡ beatsOf x + linesIn isBeat shown
+  said-beats (beat l) = beats-one s n l shown
+  said-beats programEnd = omega arith
+  said-beats controlReset = omega arith
+
+  beat-later : (l : Lent) → endFrom (counted n (answerOf s n l)) shown ≡ endFrom n (beatText s n l ++ shown)
+  beat-later l =
+      let then = counted n (answerOf s n l) in
+      let b = beats-one s n l shown in
+      let c = coded-one s n l shown in
+      let o = orders-all s n l shown in
+      let p : then .beats .0 + linesIn isBeat shown ≡ n .beats .0 + linesIn isBeat (beatText s n l ++ shown) = omega arith in
+      let q : then .coded + linesIn isCoded shown ≡ n .coded + linesIn isCoded (beatText s n l ++ shown) = omega arith in
+      let r : then .orders + linesIn isOrder shown ≡ n .orders + linesIn isOrder (beatText s n l ++ shown) = omega arith in
       λ i. endLine (p i) (q i) (r i)
 
-  error-later : errorFrom then shown ≡ errorFrom n (beatText s n x ++ shown)
-  error-later =
-      let b = beats-one s n x shown in
-      let p : then .lines + linesIn isBeat shown + 1 ≡ n .lines + linesIn isBeat (beatText s n x ++ shown) + 1 = omega arith in
-      ap errorLine p
+  end-later : (x : Said) → endFrom (saidCounted s n x) shown ≡ endFrom n (shownOf s n x ++ shown)
+  end-later (beat l) = beat-later l
+  end-later programEnd = refl
+  end-later controlReset = refl
 
-  -- a beat before what follows
-  later : (text : List ℕ) (last : Totals → List ℕ → List ℕ) → last then shown ≡ last n (beatText s n x ++ shown) → text ≡ shown ++ last then shown →
-      beatText s n x ++ text ≡ (beatText s n x ++ shown) ++ last n (beatText s n x ++ shown)
-  later text last e h =
-      ap (λ (y : List ℕ). beatText s n x ++ y) h ∙ sym (append-assoc (beatText s n x) shown (last then shown)) ∙ ap (λ (y : List ℕ). beatText s n x ++ shown ++ y) e
+  -- what is printed of it, what is shown then, and the last line
+  later : (x : Said) (text last end : List ℕ) → n .view ≡ Run → last ≡ end → text ≡ shown ++ last → saidPrinted s n x ++ text ≡ (shownOf s n x ++ shown) ++ end
+  later x text last end v e h =
+      ap (λ (y : List ℕ). y ++ text) (said-run s n x v) ∙ ap (λ (y : List ℕ). shownOf s n x ++ y) h ∙ sym (append-assoc (shownOf s n x) shown last)
+      ∙ ap (λ (y : List ℕ). shownOf s n x ++ shown ++ y) e
 
--- each of some beat lines is well-formed
+-- ---- lines that are well-formed
+
+-- each of some lines behind the line * is
 unfoldable pub wellFormed : List (List ℕ) → Bool
 wellFormed [] = true
-wellFormed (l ∷ ls) = elim (lineLent l) [ none ↦ false | some x ↦ wellFormed ls ]
+wellFormed (l ∷ ls) = elim (lineSaid l) [ none ↦ false | some x ↦ wellFormed ls ]
 
-well-first : (l : List ℕ) (ls : List (List ℕ)) → wellFormed (l ∷ ls) ≡ true → (x : Lent) × (lineLent l ≡ some x) × (wellFormed ls ≡ true)
+well-first : (l : List ℕ) (ls : List (List ℕ)) → wellFormed (l ∷ ls) ≡ true → (x : Said) × (lineSaid l ≡ some x) × (wellFormed ls ≡ true)
 unfolding wellFormed
-well-first l ls = byLent (λ (y : Bool). y ≡ true → (x : Lent) × (lineLent l ≡ some x) × (wellFormed ls ≡ true)) (lineLent l) (λ e h. clash (cc)) (λ x e h. (x, e, h))
+well-first l ls = byLent (λ (y : Bool). y ≡ true → (x : Said) × (lineSaid l ≡ some x) × (wellFormed ls ≡ true)) (lineSaid l) (λ e h. clash (cc)) (λ x e h. (x, e, h))
 
-end-counted : (ls : List (List ℕ)) (s : List ℕ) (n : Totals) → n .view ≡ Run → wellFormed ls ≡ true → (shown : List ℕ) × (beatsText s n ls ≡ shown ++ endFrom n shown)
+-- the C lines in what was shown, and the calls among some lines, are those lines
+abbrev pub Counts : List ℕ → List (List ℕ) → Type 0
+Counts shown ls = linesIn isBeat shown + count isCall ls ≡ length ls
+
+none-count : Counts [] []
+unfolding count split
+none-count = refl
+
+one-counts : (s : List ℕ) (n : Totals) (l : List ℕ) (ls : List (List ℕ)) (x : Said) (shown : List ℕ) → lineSaid l ≡ some x → Counts shown ls → Counts (shownOf s n x ++ shown) (l ∷ ls)
+unfolding count
+one-counts s n l ls x shown e h = let a = said-beats s n shown x in let b = call-said l x e in omega arith
+
+-- with k lines left at most
+end-counted : (ls : List (List ℕ)) (s : List ℕ) (n : Totals) (k : ℕ) → n .lines + k ≡ lastLine → n .view ≡ Run → wellFormed ls ≡ true → (shown : List ℕ) × (beatsText s n ls ≡ shown ++ endFrom n shown) × Counts shown (take k ls)
 unfolding beatsText
-end-counted [] s n v h = ([], end-now s n v)
-end-counted (l ∷ ls) s n v h =
-    decide ((shown : List ℕ) × (beatsText s n (l ∷ ls) ≡ shown ++ endFrom n shown)) (eqb (n .beats .0) maxBeats)
-    (λ e. ([], beats-over s n (l ∷ ls) e ∙ end-now s n v))
-    (λ e. let w = well-first l ls h in
+end-counted ls s n zero r v h = ([], beats-over s n ls (eq-eqb (n .lines) lastLine (omega arith)) ∙ end-now s n v, none-count)
+end-counted [] s n (suc k) r v h = ([], end-now s n v, none-count)
+end-counted (l ∷ ls) s n (suc k) r v h =
+    let w = well-first l ls h in
     let x = w .0 in
-    let r = end-counted ls s (counted n (answerOf s n x)) v (w .2) in
-    let text = beatsText s (counted n (answerOf s n x)) ls in (
-      beatText s n x ++ r .0,
-      beats-some s n l ls x e (w .1) ∙ ap (λ (y : List ℕ). y ++ text) (beat-run s n x v)
-          ∙ later s n x (r .0) text endFrom (end-later s n x (r .0)) (r .1),
-    ))
+    let m = saidCounted s n x in
+    let c = said-lines s n x in
+    let f = end-counted ls s m k (omega arith) (said-view s n x ∙ v) (w .2) in (
+      shownOf s n x ++ f .0,
+      beats-some s n l ls x (ne-eqb (n .lines) lastLine (λ e. omega arith)) (w .1) ∙ later s n (f .0) x (beatsText s m ls) (endFrom m (f .0)) (endFrom n (shownOf s n x ++ f .0)) v (end-later s n (f .0) x) (f .1),
+      one-counts s n l (take k ls) x (f .0) (w .1) (f .2),
+    )
 
--- END or E, whatever the lines
-abbrev Last : Totals → List ℕ → Type 0
-Last n text = (shown : List ℕ) × ((text ≡ shown ++ endFrom n shown) ⊎ (text ≡ shown ++ errorFrom n shown))
+-- ---- whatever the lines
 
-last-later : (s : List ℕ) (n : Totals) (x : Lent) (text : List ℕ) → n .view ≡ Run → Last (counted n (answerOf s n x)) text → Last n (beatPrinted s n x ++ text)
-last-later s n x text v r = rw (beat-run s n x v) (beatText s n x ++ r .0, by-end (r .1))
-  where
-    by-end : (text ≡ r .0 ++ endFrom (counted n (answerOf s n x)) (r .0)) ⊎ (text ≡ r .0 ++ errorFrom (counted n (answerOf s n x)) (r .0)) →
-        (beatText s n x ++ text ≡ (beatText s n x ++ r .0) ++ endFrom n (beatText s n x ++ r .0)) ⊎ (beatText s n x ++ text ≡ (beatText s n x ++ r .0) ++ errorFrom n (beatText s n x ++ r .0))
-    by-end (inl e) = inl (later s n x (r .0) text endFrom (end-later s n x (r .0)) e)
-    by-end (inr e) = inr (later s n x (r .0) text errorFrom (error-later s n x (r .0)) e)
+-- an ill-formed line among some, with the number of those before it, n lines being before them all
+pub record Ill (ls : List (List ℕ)) (n : ℕ) (shown text : List ℕ) : Type 0 where
+  pub taken : List (List ℕ)
+  pub line : List ℕ
+  pub rest : List (List ℕ)
+  pub are : ls ≡ taken ++ (line ∷ rest)
+  pub says : lineSaid line ≡ none
+  pub counts : Counts shown taken
+  pub prints : text ≡ shown ++ errorLine (n + length taken + 1)
 
-last-counted : (ls : List (List ℕ)) (s : List ℕ) (n : Totals) → n .view ≡ Run → Last n (beatsText s n ls)
+-- END or E
+abbrev Last : List (List ℕ) → Totals → List ℕ → Type 0
+Last ls n text = (shown : List ℕ) × ((text ≡ shown ++ endFrom n shown) ⊎ Ill ls (n .lines) shown text)
+
+ill-now : (l : List ℕ) (ls : List (List ℕ)) (n : ℕ) → lineSaid l ≡ none → Ill (l ∷ ls) n [] (errorLine (n + 1))
+ill-now l ls n h = record { taken = []; line = l; rest = ls; are = refl; says = h; counts = none-count; prints = let e : n + 1 ≡ n + 0 + 1 = omega arith in ap errorLine e }
+
+module _ (l : List ℕ) (ls : List (List ℕ)) (s : List ℕ) (n : Totals) (x : Said) (e : lineSaid l ≡ some x) (v : n .view ≡ Run) where
+  ill-later : (shown text : List ℕ) → Ill ls (saidCounted s n x .lines) shown text → Ill (l ∷ ls) (n .lines) (shownOf s n x ++ shown) (saidPrinted s n x ++ text)
+  ill-later shown text i =
+      let c = said-lines s n x in
+      let q : saidCounted s n x .lines + length (i .taken) + 1 ≡ n .lines + length (l ∷ i .taken) + 1 = omega arith in
+      record {
+        taken = l ∷ i .taken;
+        line = i .line;
+        rest = i .rest;
+        are = ap (λ (y : List (List ℕ)). l ∷ y) (i .are);
+        says = i .says;
+        counts = one-counts s n l (i .taken) x shown e (i .counts);
+        prints = later s n shown x text (errorLine (saidCounted s n x .lines + length (i .taken) + 1)) (errorLine (n .lines + length (l ∷ i .taken) + 1)) v (ap errorLine q) (i .prints);
+      }
+
+  last-later : (text : List ℕ) → Last ls (saidCounted s n x) text → Last (l ∷ ls) n (saidPrinted s n x ++ text)
+  last-later text r = (shownOf s n x ++ r .0, by-end (r .1))
+    where
+      by-end : (text ≡ r .0 ++ endFrom (saidCounted s n x) (r .0)) ⊎ Ill ls (saidCounted s n x .lines) (r .0) text →
+          (saidPrinted s n x ++ text ≡ (shownOf s n x ++ r .0) ++ endFrom n (shownOf s n x ++ r .0)) ⊎ Ill (l ∷ ls) (n .lines) (shownOf s n x ++ r .0) (saidPrinted s n x ++ text)
+      by-end (inl g) = inl (later s n (r .0) x text (endFrom (saidCounted s n x) (r .0)) (endFrom n (shownOf s n x ++ r .0)) v (end-later s n (r .0) x) g)
+      by-end (inr i) = inr (ill-later (r .0) text i)
+
+last-counted : (ls : List (List ℕ)) (s : List ℕ) (n : Totals) → n .view ≡ Run → Last ls n (beatsText s n ls)
 unfolding beatsText
 last-counted [] s n v = ([], inl (end-now s n v))
 last-counted (l ∷ ls) s n v =
-    either (Last n) (eqb (n .beats .0) maxBeats) (λ e. ([], inl (end-now s n v)))
-    (λ e. byLent (Last n) (lineLent l) (λ u. ([], inr (error-now n))) (λ x u. last-later s n x (beatsText s (counted n (answerOf s n x)) ls) v (last-counted ls s (counted n (answerOf s n x)) v)))
+    either (Last (l ∷ ls) n) (eqb (n .lines) lastLine) (λ e. ([], inl (end-now s n v)))
+    (λ e. byLent (Last (l ∷ ls) n) (lineSaid l) (λ u. ([], inr (ill-now l ls (n .lines) u)))
+    (λ x u. last-later l ls s n x u v (beatsText s (saidCounted s n x) ls) (last-counted ls s (saidCounted s n x) (said-view s n x ∙ v))))
 
 -- ---- all that is printed
 
@@ -353,32 +425,29 @@ from-none shown =
     let r : 0 + linesIn isOrder shown ≡ linesIn isOrder shown = omega arith in
     λ i. endLine (p i) (q i) (r i)
 
-error-none : (shown : List ℕ) → errorFrom (noTotals Run) shown ≡ errorLine (linesIn isBeat shown + 1)
-error-none shown = let p : 0 + linesIn isBeat shown + 1 ≡ linesIn isBeat shown + 1 = omega arith in ap errorLine p
-
--- where the text is taken and every beat line is well-formed, the last line is END with the numbers of the C lines, of those with a code and of the O lines before it
+-- where the text is taken and every line behind the line * is well-formed, the last line is END with the numbers of the C lines, of those with a code and of the O lines before it;
+-- and the C lines with the lines PE and RS make up the lines that were taken, the first 1,000,000
 pub end-counts : (t : List ℕ) → loadAnswer (inputOf t .text) .code ≡ 0 → wellFormed (inputOf t .beats) ≡ true →
-    (shown : List ℕ) × (synrun t ≡ shown ++ endLine (linesIn isBeat shown) (linesIn isCoded shown) (linesIn isOrder shown))
+    (shown : List ℕ) × (synrun t ≡ shown ++ endLine (linesIn isBeat shown) (linesIn isCoded shown) (linesIn isOrder shown)) × (linesIn isBeat shown + count isCall (take lastLine (inputOf t .beats)) ≡ length (take lastLine (inputOf t .beats)))
 unfolding printout
 end-counts t h g =
     let i = inputOf t in
-    let r = end-counted (i .beats) (loadSet (i .text)) (noTotals Run) refl g in
-    (r .0, loaded-zero Run i h ∙ r .1 ∙ ap (λ (y : List ℕ). r .0 ++ y) (from-none (r .0)))
+    let r = end-counted (i .beats) (loadSet (i .text)) (noTotals Run) lastLine refl refl g in
+    (r .0, loaded-zero Run i h ∙ r .1 ∙ ap (λ (y : List ℕ). r .0 ++ y) (from-none (r .0)), r .2)
 
--- where the text is taken, whatever the beat lines, it is that, or E with one more than the C lines before it
+-- where the text is taken, whatever the lines, it is that END, or E with the number of the first ill-formed line: one more than the C lines before E and the lines PE and RS before that line
 pub last-counts : (t : List ℕ) → loadAnswer (inputOf t .text) .code ≡ 0 →
-    (shown : List ℕ)
-    × ((synrun t ≡ shown ++ endLine (linesIn isBeat shown) (linesIn isCoded shown) (linesIn isOrder shown)) ⊎ (synrun t ≡ shown ++ errorLine (linesIn isBeat shown + 1)))
+    (shown : List ℕ) × ((synrun t ≡ shown ++ endLine (linesIn isBeat shown) (linesIn isCoded shown) (linesIn isOrder shown)) ⊎ Ill (inputOf t .beats) 0 shown (synrun t))
 unfolding printout
 last-counts t h = (r .0, by-end (r .1))
   where
     text : List ℕ
     text = beatsText (loadSet (inputOf t .text)) (noTotals Run) (inputOf t .beats)
 
-    r : Last (noTotals Run) text
+    r : Last (inputOf t .beats) (noTotals Run) text
     r = last-counted (inputOf t .beats) (loadSet (inputOf t .text)) (noTotals Run) refl
 
-    by-end : (text ≡ r .0 ++ endFrom (noTotals Run) (r .0)) ⊎ (text ≡ r .0 ++ errorFrom (noTotals Run) (r .0)) →
-        (synrun t ≡ r .0 ++ endLine (linesIn isBeat (r .0)) (linesIn isCoded (r .0)) (linesIn isOrder (r .0))) ⊎ (synrun t ≡ r .0 ++ errorLine (linesIn isBeat (r .0) + 1))
+    by-end : (text ≡ r .0 ++ endFrom (noTotals Run) (r .0)) ⊎ Ill (inputOf t .beats) 0 (r .0) text →
+        (synrun t ≡ r .0 ++ endLine (linesIn isBeat (r .0)) (linesIn isCoded (r .0)) (linesIn isOrder (r .0))) ⊎ Ill (inputOf t .beats) 0 (r .0) (synrun t)
     by-end (inl e) = inl (loaded-zero Run (inputOf t) h ∙ e ∙ ap (λ (y : List ℕ). r .0 ++ y) (from-none (r .0)))
-    by-end (inr e) = inr (loaded-zero Run (inputOf t) h ∙ e ∙ ap (λ (y : List ℕ). r .0 ++ y) (error-none (r .0)))
+    by-end (inr i) = inr (rw (loaded-zero Run (inputOf t) h) i)

@@ -1,8 +1,7 @@
--- A beat line read byte by byte lends what the line says. Assumes nothing.
+-- A line read byte by byte lends what it says by its fields. Assumes nothing.
 use mathlib.Core.Path.{_≡_, refl, sym, ap, _∙_}
-use mathlib.Core.Bool.{Bool, true, false, _&&_, _||_, and-false, or-true}
+use mathlib.Core.Bool.{Bool, true, false, _&&_, _||_, and-false}
 use mathlib.Core.List.{List, [], _∷_, _++_, append-nil}
-use mathlib.Core.Logic.{_↔_}
 use mathlib.Core.Option.{Option, none, some}
 use Prim.Native.Nat.{ℕ, zero, suc, _+_, _*_, _-_, _%_, min, _≤_, _<_}
 use native.Mathlib.Nat.{le-refl}
@@ -12,11 +11,11 @@ use lib.IntN.{ℤ, pos}
 use lib.ListN.{length, take, drop, set, replicate, length-append, length-drop, drop-of-length-le}
 use lib.Seq.{set-at, append-snoc, take-all}
 use borrow.Author.Tests.{leb-true, leb-false, le-leb, lt-leb, ltb-true, ltb-false, lt-ltb, le-ltb, eqb-true, eqb-false, eq-eqb, ne-eqb}
-use Rattle.values.specs.Choice.{decide, either, eitherBoth, both, and-true, contrary}
+use Rattle.values.specs.Choice.{decide, either, eitherBoth, either-cond, both, and-true, contrary}
 use Rattle.values.specs.Numbers.{clash}
 use Rattle.text.specs.Byte.{CR, SPACE, isDigit}
 use Rattle.text.specs.Number.{digitsValue}
-use Rattle.text.specs.Lines.{before as startOf, split, withoutReturn}
+use Rattle.text.specs.Lines.{before as startOf, split}
 use Rattle.text.specs.LinesLaws.{split-some}
 use Rattle.couplers.specs.declared.reading.Reading.{Reading}
 use Rattle.couplers.specs.declared.reading.Reading.the-variants.{Break, Short}
@@ -25,7 +24,7 @@ use Rattle.transcript.specs.declared.beat_line.HalfLine.{HalfLine}
 use Rattle.transcript.specs.declared.beat_line.Sent.{Sent}
 use Rattle.transcript.specs.BeatLine.{Lent, fields, modeOf, allDigits, areDigits, wholeOf, wordOf, positive, negative, lentNumber, isHex, hexDigit, allHex, hexValue, sending, lentReading, leftOff, behindFirst, eachOf, filled, readingsOf, lentPositions, positionsOf, lending, lentOf, fieldsLent, lineLent}
 use Rattle.transcript.specs.IntakeLaws.{closed-field}
-use Rattle.transcript.specs.HalfLine.{noHalfLine, illFormed, withStage, highest, isReading, eightDigits, shortValue, readingBy, greatest, signed, withField, closed, spaceAfter, modeByte, minusByte, digitByte, numberByte, readingStage, digitsSoFar, hexByte, readingByte, fieldByte, readByte, readOn, isUntouched, withoutCR, readLent}
+use Rattle.transcript.specs.HalfLine.{noHalfLine, illFormed, withStage, highest, isReading, eightDigits, shortValue, readingBy, greatest, signed, withField, closed, spaceAfter, letterStage, followed, callStage, modeByte, minusByte, digitByte, numberByte, readingStage, digitsSoFar, hexByte, readingByte, fieldByte, readByte, readOn, readLent}
 
 -- ---- the bytes of one field
 
@@ -33,7 +32,7 @@ use Rattle.transcript.specs.HalfLine.{noHalfLine, illFormed, withStage, highest
 unfoldable inField : HalfLine → ℕ → HalfLine
 inField r b =
     elim (leb 3 (r .stage)) [
-      | true ↦ illFormed r
+      | true ↦ withStage r (callStage (r .stage) b)
       | false ↦ elim (eqb b CR) [ true ↦ elim (eqb (r .stage) 2) [ true ↦ withStage r 4 | false ↦ illFormed r ] | false ↦ fieldByte r b ]
     ]
 
@@ -41,11 +40,25 @@ unfoldable fieldOn : HalfLine → List ℕ → HalfLine
 fieldOn r [] = r
 fieldOn r (b ∷ bs) = fieldOn (inField r b) bs
 
--- once ill-formed, always so
+-- once ill-formed or a call, no beat line
+pub call-high : (s b : ℕ) → 3 ≤ callStage s b
+unfolding callStage
+call-high s b =
+    let P : ℕ → Type 0 = λ y. 3 ≤ y in
+    let on : (wanted next : ℕ) → 3 ≤ next → P (followed b wanted next) = λ w n h. either-cond P (eqb b w) n 3 h (omega arith) in
+    either P (eqb s 5) (λ e. on 69 6 (omega arith)) λ e.
+    either P (eqb s 8) (λ g. on 83 9 (omega arith)) λ g.
+    either P (eqb s 6) (λ h. on CR 7 (omega arith)) λ h.
+    either P (eqb s 9) (λ k. on CR 10 (omega arith)) (λ k. omega arith)
+
+pub letter-high : (b : ℕ) → 3 ≤ letterStage b
+unfolding letterStage
+letter-high b = either-cond (λ (y : ℕ). 3 ≤ y) (eqb b 80) 5 _ (omega arith) (either-cond (λ (y : ℕ). 3 ≤ y) (eqb b 82) 8 3 (omega arith) (omega arith))
+
 bad-byte : (r : HalfLine) (b : ℕ) → 3 ≤ r .stage → 3 ≤ inField r b .stage
 unfolding inField
 bad-byte r b h =
-    either (λ (y : HalfLine). 3 ≤ y .stage) (leb 3 (r .stage)) (λ e. omega arith) (λ e. absurd (omega (arith, leb-false 3 (r .stage) e)))
+    either (λ (y : HalfLine). 3 ≤ y .stage) (leb 3 (r .stage)) (λ e. call-high (r .stage) b) (λ e. absurd (omega (arith, leb-false 3 (r .stage) e)))
 
 bad-on : (r : HalfLine) (f : List ℕ) → 3 ≤ r .stage → 3 ≤ fieldOn r f .stage
 unfolding fieldOn
@@ -77,7 +90,7 @@ module _ (k : ℕ) (inside : 1 ≤ k) (kind : isReading k ≡ false) (a : Bool) 
   unfolding inField fieldByte numberByte minusByte
   other-step st v b d m =
       let P : HalfLine → Type 0 = λ y. 3 ≤ y .stage in
-      either P (leb 3 st) (λ e. omega arith) λ e.
+      either P (leb 3 st) (λ e. call-high st b) λ e.
       either P (eqb b CR) (λ g. either P (eqb st 2) (λ u. omega arith) (λ u. omega arith)) λ g.
       either P (eqb k 0) (λ z. absurd (omega (arith, eqb-true k 0 z))) λ z.
       either P (isReading k) (λ z. contrary z kind) λ z.
@@ -145,7 +158,7 @@ abbrev stored : {A : Type 0} → (A → HalfLine) → Option A → Option HalfLi
 stored s (some x) = some (s x)
 stored s none = none
 
-bad-closes : (r : HalfLine) → (r .stage ≡ 2 → ⊥) → closed r .stage ≡ 3
+pub bad-closes : (r : HalfLine) → (r .stage ≡ 2 → ⊥) → closed r .stage ≡ 3
 unfolding closed
 bad-closes r h = either (λ (y : HalfLine). y .stage ≡ 3) (eqb (r .stage) 2) (λ e. absurd (h (eqb-true (r .stage) 2 e))) (λ e. refl)
 
@@ -333,7 +346,7 @@ hex-under (b ∷ bs) n u h g =
     rw e (hex-under bs (suc n) (u * 16 + hexDigit b) (omega arith) (both (isHex b) (allHex bs) g .1))
 
 -- a reading that goes on says something
-stage-on : (v : ℕ) → (1 ≤ readingStage v) × (readingStage v ≤ 2)
+pub stage-on : (v : ℕ) → (1 ≤ readingStage v) × (readingStage v ≤ 2)
 unfolding readingStage
 stage-on v = either (λ (y : ℕ). (1 ≤ y) × (y ≤ 2)) (eqb v 27 || leb 4294967296 v) (λ e. (omega arith, omega arith)) (λ e. (omega arith, omega arith))
 
@@ -394,7 +407,7 @@ module _ (j : ℕ) (small : j < 8) (a : Bool) (w : ℕ) (ss : List Sent) (ps : L
   other-in r b k d m =
       let P : HalfLine → Type 0 = λ y. 3 ≤ y .stage in
       let kind : isReading (r .field) ≡ true = ap isReading k ∙ reading-kind j small in
-      either P (leb 3 (r .stage)) (λ e. omega arith) λ e.
+      either P (leb 3 (r .stage)) (λ e. call-high (r .stage) b) λ e.
       either P (eqb b CR) (λ g. either P (eqb (r .stage) 2) (λ u. omega arith) (λ u. omega arith)) λ g.
       either P (eqb (r .field) 0) (λ z. absurd (omega (arith, eqb-true (r .field) 0 z))) λ z.
       either P (isReading (r .field))
@@ -591,17 +604,17 @@ unfolding inField fieldByte modeByte
 after-mode a w ss ps b =
     let P : HalfLine → Type 0 = λ y. (y .field ≡ 0) × (1 ≤ y .stage) in
     either P (eqb b CR) (λ e. (refl, omega arith)) λ e.
-    either P (eqb b 65 || eqb b 77) (λ g. (refl, omega arith)) (λ g. (refl, omega arith))
+    either P (eqb b 65 || eqb b 77) (λ g. (refl, omega arith)) (λ g. (refl, let h = letter-high b in omega arith))
 
 -- behind the letter there may be none
 mode-more : (r : HalfLine) (c : ℕ) → r .field ≡ 0 → 1 ≤ r .stage → 3 ≤ inField r c .stage
 unfolding inField fieldByte modeByte
 mode-more r c z s =
     let P : HalfLine → Type 0 = λ y. 3 ≤ y .stage in
-    either P (leb 3 (r .stage)) (λ e. omega arith) λ e.
+    either P (leb 3 (r .stage)) (λ e. call-high (r .stage) c) λ e.
     either P (eqb c CR) (λ g. either P (eqb (r .stage) 2) (λ u. omega arith) (λ u. omega arith)) λ g.
     either P (eqb (r .field) 0)
-    (λ u. either P (eqb (r .stage) 0 && (eqb c 65 || eqb c 77)) (λ y. absurd (omega (arith, eqb-true (r .stage) 0 (both (eqb (r .stage) 0) _ y .0)))) (λ y. omega arith))
+    (λ u. either P (eqb (r .stage) 0) (λ y. absurd (omega (arith, eqb-true (r .stage) 0 y))) (λ y. omega arith))
     (λ u. absurd (eqb-false (r .field) 0 u z))
 
 mode-byte-bad : (a : Bool) (w : ℕ) (ss : List Sent) (ps : List ℤ) (b : ℕ) → eqb b 65 ≡ false → eqb b 77 ≡ false → 3 ≤ inField (half 0 0 a w false 0 ss ps) b .stage
@@ -609,7 +622,7 @@ unfolding inField fieldByte modeByte
 mode-byte-bad a w ss ps b h g =
     let P : HalfLine → Type 0 = λ y. 3 ≤ y .stage in
     either P (eqb b CR) (λ e. omega arith) λ e.
-    either P (eqb b 65 || eqb b 77) (λ y. let z = rw (h, g) at y in clash (cc)) (λ y. omega arith)
+    either P (eqb b 65 || eqb b 77) (λ y. let z = rw (h, g) at y in clash (cc)) (λ y. letter-high b)
 
 -- a letter and more is no mode
 long-mode : (b c : ℕ) (cs : List ℕ) → modeOf (b ∷ c ∷ cs) ≡ none
@@ -672,7 +685,7 @@ read-fields r (b ∷ bs) =
 
 -- ---- a field that closes, and one that does not
 
-unclosed-lent : (r : HalfLine) → closed r .stage ≡ 3 → readLent r ≡ none
+pub unclosed-lent : (r : HalfLine) → closed r .stage ≡ 3 → readLent r ≡ none
 unfolding readLent
 unclosed-lent r h =
     either (λ (y : Option Lent). y ≡ none) (eqb (closed r .stage) 2 && leb 1 (r .field)) (λ e. absurd (omega (arith, eqb-true (closed r .stage) 2 (both _ (leb 1 (r .field)) e .0)))) (λ e. refl)
@@ -681,7 +694,7 @@ unclosed-space : (r : HalfLine) → closed r .stage ≡ 3 → 3 ≤ readByte r S
 unfolding readByte spaceAfter
 unclosed-space r h =
     let P : HalfLine → Type 0 = λ y. 3 ≤ y .stage in
-    either P (leb 3 (r .stage)) (λ e. omega arith) λ e.
+    either P (leb 3 (r .stage)) (λ e. call-high (r .stage) SPACE) λ e.
     either P (eqb (closed r .stage) 2 && ltb (closed r .field) 15)
     (λ g. absurd (omega (arith, eqb-true (closed r .stage) 2 (both _ (ltb (closed r .field) 15) g .0))))
     (λ g. omega arith)
@@ -720,7 +733,7 @@ module _ (k : ℕ) (a : Bool) (w : ℕ) (ss : List Sent) (ps : List ℤ) where
   unfolding readByte spaceAfter
   closed-last r i s h =
       let P : HalfLine → Type 0 = λ y. 3 ≤ y .stage in
-      either P (leb 3 (r .stage)) (λ e. omega arith) λ e.
+      either P (leb 3 (r .stage)) (λ e. call-high (r .stage) SPACE) λ e.
       rw h (either P (ltb k 15) (λ g. absurd (omega (arith, ltb-true k 15 g))) (λ g. omega arith))
 
 -- ---- a run of fields of one kind
@@ -948,110 +961,7 @@ line-fields (m ∷ w ∷ fs) =
     (λ a e. let c = rw e at (mode-field false 0 (replicate 8 leftOff) (replicate 6 (pos 0)) m) in
     rw (closed-space 0 a 0 (replicate 8 leftOff) (replicate 6 (pos 0)) (fieldOn noHalfLine m) (omega arith) (c .0) (c .1), e) (word-fields a w fs))
 
--- the last line, without an LF: it lends what it says
+-- a line lends what it says, if that is a beat
 pub lent-last : (l : List ℕ) → readLent (readOn noHalfLine l) ≡ lineLent l
 unfolding lineLent
 lent-last l = read-fields noHalfLine l ∙ line-fields (fields l)
-
--- ---- an LF stands behind it: a CR before it is dropped
-
--- bytes read on an ill-formed line
-bad-read : (r : HalfLine) (b : ℕ) → 3 ≤ r .stage → readByte r b .stage ≡ 3
-unfolding readByte
-bad-read r b h = either (λ (y : HalfLine). y .stage ≡ 3) (leb 3 (r .stage)) (λ e. refl) (λ e. absurd (omega (arith, leb-false 3 (r .stage) e)))
-
-bad-rest : (r : HalfLine) (l : List ℕ) → 3 ≤ r .stage → readLent (readOn r l) ≡ none
-unfolding readOn
-bad-rest r [] h = unclosed-lent r (bad-closes r (λ z. omega arith))
-bad-rest r (b ∷ bs) h = bad-rest (readByte r b) bs (let q = bad-read r b h in omega arith)
-
-no-return : (r : HalfLine) → (r .stage ≡ 4 → ⊥) → withoutCR r ≡ r
-unfolding withoutCR
-no-return r h = either (λ (y : HalfLine). y ≡ r) (eqb (r .stage) 4) (λ e. absurd (h (eqb-true (r .stage) 4 e))) (λ e. refl)
-
-bad-end : (r : HalfLine) (b : ℕ) (bs : List ℕ) → 3 ≤ r .stage → readLent (withoutCR (readOn r (b ∷ bs))) ≡ none
-unfolding readOn
-bad-end r b [] h =
-    let q = bad-read r b h in
-    rw (no-return (readByte r b) (λ z. omega arith)) (unclosed-lent (readByte r b) (bad-closes (readByte r b) (λ z. omega arith)))
-bad-end r b (c ∷ cs) h = bad-end (readByte r b) c cs (let q = bad-read r b h in omega arith)
-
--- a byte of a reading is read, or the line is ill-formed
-reading-touched : (r : HalfLine) (b : ℕ) → (1 ≤ readingByte r b .stage) × (readingByte r b .stage ≤ 3)
-unfolding readingByte hexByte
-reading-touched r b =
-    let P : HalfLine → Type 0 = λ y. (1 ≤ y .stage) × (y .stage ≤ 3) in
-    let ill : P (illFormed r) = (omega arith, omega arith) in
-    let on : (v : ℕ) → (1 ≤ readingStage v) × (readingStage v ≤ 3) = λ v. let s = stage-on v in (s .0, omega arith) in
-    either P (isHex b) (λ e. either P (ltb (digitsSoFar r) 4294967296) (λ g. on (digitsSoFar r * 16 + hexDigit b)) (λ g. ill)) (λ e. either P (eqb b 83 && eqb (r .stage) 0) (λ g. on 8589934592) (λ g. ill))
-
--- only a CR brings a line to its fourth stage
-other-stage : (r : HalfLine) (b : ℕ) → eqb b CR ≡ false → readByte r b .stage ≤ 3
-unfolding readByte spaceAfter fieldByte modeByte numberByte minusByte digitByte
-other-stage r b h =
-    let P : HalfLine → Type 0 = λ y. y .stage ≤ 3 in
-    either P (leb 3 (r .stage)) (λ e. omega arith) λ e.
-    either P (eqb b SPACE) (λ g. either P (eqb (closed r .stage) 2 && ltb (closed r .field) 15) (λ k. omega arith) (λ k. omega arith)) λ g.
-    either P (eqb b CR) (λ k. clash (cc)) λ k.
-    either P (eqb (r .field) 0) (λ z. either P (eqb (r .stage) 0 && (eqb b 65 || eqb b 77)) (λ y. omega arith) (λ y. omega arith)) λ z.
-    either P (isReading (r .field)) (λ k. reading-touched r b .1) λ y.
-    either P (isDigit b) (λ d. omega arith) λ d.
-    either P (eqb b 45) (λ m. either P (eqb (r .stage) 0 && leb 2 (r .field)) (λ y. omega arith) (λ y. omega arith)) (λ m. omega arith)
-
--- a CR at the end of the line
-return-last : (r : HalfLine) → r .stage ≤ 3 → readLent (withoutCR (readByte r CR)) ≡ readLent r
-unfolding readByte withoutCR
-return-last r h =
-    let bad : (r .stage ≡ 2 → ⊥) → none ≡ readLent r = λ z. sym (unclosed-lent r (bad-closes r z)) in
-    let P : HalfLine → Type 0 = λ y. readLent (withoutCR y) ≡ readLent r in
-    let ill : (r .stage ≡ 2 → ⊥) → P (illFormed r) = λ z. unclosed-lent (illFormed r) (bad-closes (illFormed r) (λ u. omega arith)) ∙ bad z in
-    either P (leb 3 (r .stage)) (λ e. let q = leb-true 3 (r .stage) e in ill (λ z. omega arith)) λ e.
-    either P (eqb (r .stage) 2) (λ g. let q = eqb-true (r .stage) 2 g in ap readLent (same r q)) (λ g. ill (eqb-false (r .stage) 2 g))
-  where
-    same : (x : HalfLine) → x .stage ≡ 2 → withStage x 2 ≡ x
-    same x q = λ i. record { field = x .field; stage = sym q i; automatic = x .automatic; word = x .word; negative = x .negative; value = x .value; sent = x .sent; positions = x .positions }
-
-returned : (r : HalfLine) (l : List ℕ) → r .stage ≤ 3 → readLent (withoutCR (readOn r l)) ≡ readLent (readOn r (withoutReturn l))
-unfolding readOn withoutReturn
-returned r [] h = ap readLent (no-return r (λ z. omega arith))
-returned r (b ∷ []) h =
-    either (λ (y : List ℕ). readLent (withoutCR (readByte r b)) ≡ readLent (readOn r y)) (eqb b CR)
-    (λ e. let q = eqb-true b CR e in rw q (return-last r h))
-    (λ e. let q = other-stage r b e in ap readLent (no-return (readByte r b) (λ z. omega arith)))
-returned r (b ∷ c ∷ cs) h =
-    decide (readLent (withoutCR (readOn (readByte r b) (c ∷ cs))) ≡ readLent (readOn (readByte r b) (withoutReturn (c ∷ cs)))) (leb 3 (readByte r b .stage))
-    (λ e. let q = leb-true 3 (readByte r b .stage) e in bad-end (readByte r b) c cs q ∙ sym (bad-rest (readByte r b) (withoutReturn (c ∷ cs)) q))
-    (λ e. let q = leb-false 3 (readByte r b .stage) e in returned (readByte r b) (c ∷ cs) (omega arith))
-
--- a line behind which an LF stood lends what it says without its CR
-pub lent-ended : (l : List ℕ) → readLent (withoutCR (readOn noHalfLine l)) ≡ lineLent (withoutReturn l)
-lent-ended l = returned noHalfLine l (omega arith) ∙ lent-last (withoutReturn l)
-
--- ---- a line of which nothing was read
-
-touched : (r : HalfLine) (b : ℕ) → 1 ≤ readByte r b .field + readByte r b .stage
-unfolding readByte spaceAfter fieldByte modeByte numberByte minusByte digitByte
-touched r b =
-    let P : HalfLine → Type 0 = λ y. 1 ≤ y .field + y .stage in
-    either P (leb 3 (r .stage)) (λ e. omega arith) λ e.
-    either P (eqb b SPACE) (λ g. either P (eqb (closed r .stage) 2 && ltb (closed r .field) 15) (λ k. omega arith) (λ k. omega arith)) λ g.
-    either P (eqb b CR) (λ k. either P (eqb (r .stage) 2) (λ y. omega arith) (λ y. omega arith)) λ k.
-    either P (eqb (r .field) 0) (λ z. either P (eqb (r .stage) 0 && (eqb b 65 || eqb b 77)) (λ y. omega arith) (λ y. omega arith)) λ z.
-    either P (isReading (r .field)) (λ k. let q = reading-touched r b in omega arith) λ y.
-    either P (isDigit b) (λ d. omega arith) λ d.
-    either P (eqb b 45) (λ m. either P (eqb (r .stage) 0 && leb 2 (r .field)) (λ y. omega arith) (λ y. omega arith)) (λ m. omega arith)
-
-touched-on : (r : HalfLine) (l : List ℕ) → 1 ≤ r .field + r .stage → isUntouched (readOn r l) ≡ false
-unfolding readOn isUntouched
-touched-on r [] h =
-    either-test (eqb (r .field) 0 && eqb (r .stage) 0) refl
-  where
-    either-test : (y : Bool) → (eqb (r .field) 0 && eqb (r .stage) 0) ≡ y → y ≡ false
-    either-test true e = absurd (omega (arith, eqb-true (r .field) 0 (both (eqb (r .field) 0) (eqb (r .stage) 0) e .0), eqb-true (r .stage) 0 (both (eqb (r .field) 0) (eqb (r .stage) 0) e .1)))
-    either-test false e = refl
-touched-on r (b ∷ bs) h = touched-on (readByte r b) bs (touched r b)
-
-pub untouched : (l : List ℕ) → (isUntouched (readOn noHalfLine l) ≡ true) ↔ (l ≡ [])
-unfolding readOn isUntouched
-untouched [] = ((λ h. refl), (λ h. refl))
-untouched (b ∷ bs) = ((λ h. let q = touched-on (readByte noHalfLine b) bs (touched noHalfLine b) in clash (cc)), (λ h. clash (cc)))

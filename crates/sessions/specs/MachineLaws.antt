@@ -19,11 +19,11 @@ use Rattle.transcript.specs.declared.beat_line.HalfLine.{HalfLine}
 use Rattle.transcript.specs.declared.intake.Intake.{Intake}
 use Rattle.reader.specs.Load.{loadAnswer}
 use Rattle.transcript.specs.HalfLine.{readByte, readOn}
-use Rattle.transcript.specs.Totals.{maxBeats}
-use Rattle.transcript.specs.Tally.{counted, answerOf}
-use Rattle.transcript.specs.Intake.{TEXT, BEATS, withPlace, withHalfLine, bytesKept, Arrival, nothing, wholeText, beatLine, textLineKept, lineOver, lineKept}
+use Rattle.transcript.specs.Totals.{lastLine}
+use Rattle.transcript.specs.Tally.{saidCounted}
+use Rattle.transcript.specs.Intake.{TEXT, BEATS, withPlace, withHalfLine, bytesKept, Arrival, nothing, wholeText, lineCame, textLineKept, lineOver, lineKept}
 use Rattle.transcript.specs.IntakeLaws.{text-bytes, text-bytes-kept, beats-bytes, else-bytes, else-bytes-kept}
-use Rattle.transcript.specs.Machine.{Machine, Fed, opened, beatOf, beatEnd, arrivalWorked, keeping, chunk, lineEnd, behind, fedLines}
+use Rattle.transcript.specs.Machine.{Machine, Fed, opened, saidOf, saidEnd, arrivalWorked, keeping, chunk, lineEnd, behind, fedLines}
 use Rattle.transcript.specs.SetText.{keptSize, starAfter, starOn, starEnds, placeOn}
 use Rattle.transcript.specs.SessionRoomLaws.{byCode}
 
@@ -107,12 +107,12 @@ chunk-held m l =
 
 -- what comes in is worked without it
 arrival-text : (m : Machine) (a : Arrival) → arrivalWorked m a .machine .text ≡ m .text
-unfolding arrivalWorked opened beatEnd beatOf
+unfolding arrivalWorked opened saidEnd saidOf
 arrival-text m nothing = refl
 arrival-text m (wholeText n) = byCode (λ (y : Fed). y .machine .text ≡ m .text) (loadAnswer (take n (m .text)) .code) (λ e. refl) (λ c e. refl)
-arrival-text m (beatLine none) = refl
-arrival-text m (beatLine (some l)) =
-    either (λ (y : Fed). y .machine .text ≡ m .text) (eqb (counted (m .session .totals) (answerOf (m .set) (m .session .totals) l) .beats .0) maxBeats) (λ e. refl) (λ e. refl)
+arrival-text m (lineCame none) = refl
+arrival-text m (lineCame (some x)) =
+    either (λ (y : Fed). y .machine .text ≡ m .text) (eqb (saidCounted (m .set) (m .session .totals) x .lines) lastLine) (λ e. refl) (λ e. refl)
 
 kept-held : (x : Intake) (t : List ℕ) → length (lineKept x t) ≡ length t
 unfolding lineKept textLineKept

@@ -23,22 +23,23 @@ use Rattle.values.specs.PutLaws.{put-length, put-past}
 use Rattle.transcript.specs.declared.set_text.Place.{Place}
 use Rattle.transcript.specs.declared.beat_line.HalfLine.{HalfLine}
 use Rattle.transcript.specs.Input.{Input, isStar, beatLines, cut, inputOf}
-use Rattle.transcript.specs.BeatLine.{Lent, lineLent}
+use Rattle.transcript.specs.BeatLine.{Said, beat, programEnd, controlReset, lineSaid}
 use Rattle.transcript.specs.Output.{loadLine, errorLine}
 use Rattle.transcript.specs.declared.session.Session.{Session}
 use Rattle.transcript.specs.declared.totals.Totals.{Totals}
 use Rattle.transcript.specs.declared.view.View.{View}
-use Rattle.transcript.specs.Totals.{maxBeats, noTotals, ended}
-use Rattle.transcript.specs.Tally.{counted, answerOf, beatPrinted}
+use Rattle.transcript.specs.Totals.{lastLine, noTotals, ended}
+use Rattle.transcript.specs.Tally.{saidCounted, saidPrinted}
 use Rattle.transcript.specs.Synrun.{beatsText, loadedText, printout}
-use Rattle.transcript.specs.HalfLine.{noHalfLine, readOn, withoutCR, isUntouched, readLent}
+use Rattle.transcript.specs.HalfLine.{noHalfLine, readOn, withoutCR, isUntouched, readSaid}
 use Rattle.transcript.specs.Intake.{TEXT, BEATS, OVER, bytesTaken, bytesKept, lineOver, lineKept, inputOver}
 use Rattle.transcript.specs.IntakeLaws.{beats-input, star-line, star-line-kept, plain-line, plain-line-kept, over-input}
-use Rattle.transcript.specs.Machine.{Machine, Fed, begun, withTotals, stopped, standing, opened, beatOf, beatEnd, arrivalWorked, chunk, lineEnd, fedLines, endAfter, lastOutput, finished}
+use Rattle.transcript.specs.Machine.{Machine, Fed, begun, withTotals, stopped, standing, opened, saidOf, saidEnd, arrivalWorked, chunk, lineEnd, fedLines, endAfter, lastOutput, finished}
 use Rattle.transcript.specs.SetText.{keptSize, starEnds, placeOn, placeEnd, lastSize}
 use Rattle.transcript.specs.StarLaws.{star-last, star-ended, cut-star, cut-last, cut-here, cut-later}
 use Rattle.transcript.specs.SessionRoomLaws.{byCode, byLent, over-chunk, over-line}
-use Rattle.sessions.specs.HalfLineLaws.{byOption, lent-last, lent-ended, untouched}
+use Rattle.sessions.specs.HalfLineLaws.{byOption}
+use Rattle.sessions.specs.SaidLaws.{said-last, said-ended, untouched}
 use Rattle.sessions.specs.MachineLaws.{text-append}
 
 -- ---- all that is printed
@@ -84,29 +85,40 @@ over-prints ls m o = rw (over-fed ls m o) (over-finished m o)
 over-onward : (m : Machine) (o : List ℕ) (ls : List (List ℕ)) → m .session .intake .phase ≡ OVER → onward (record { machine = m; output = o }) ls ≡ o
 over-onward m o ls h = ap (λ (y : List ℕ). o ++ y) (over-prints ls m h) ∙ append-nil o
 
--- ---- beats
+-- ---- the lines behind the line *
+
+-- each is counted as a line, and leaves the view
+pub said-lines : (s : List ℕ) (n : Totals) (x : Said) → saidCounted s n x .lines ≡ n .lines + 1
+said-lines s n (beat l) = refl
+said-lines s n programEnd = refl
+said-lines s n controlReset = refl
+
+pub said-view : (s : List ℕ) (n : Totals) (x : Said) → saidCounted s n x .view ≡ n .view
+said-view s n (beat l) = refl
+said-view s n programEnd = refl
+said-view s n controlReset = refl
 
 module _ (s : List ℕ) (n : Totals) where
-  -- after the last beat nothing more is read
-  pub beats-over : (ls : List (List ℕ)) → eqb (n .beats .0) maxBeats ≡ true → beatsText s n ls ≡ ended s n
+  -- after the last line nothing more is read
+  pub beats-over : (ls : List (List ℕ)) → eqb (n .lines) lastLine ≡ true → beatsText s n ls ≡ ended s n
   unfolding beatsText
   beats-over [] h = refl
-  beats-over (l ∷ ls) h = either (λ (y : List ℕ). y ≡ ended s n) (eqb (n .beats .0) maxBeats) (λ e. refl) (λ e. clash (cc))
+  beats-over (l ∷ ls) h = either (λ (y : List ℕ). y ≡ ended s n) (eqb (n .lines) lastLine) (λ e. refl) (λ e. clash (cc))
 
-  pub beats-none : (l : List ℕ) (ls : List (List ℕ)) → eqb (n .beats .0) maxBeats ≡ false → lineLent l ≡ none → beatsText s n (l ∷ ls) ≡ errorLine (n .lines + 1)
+  pub beats-none : (l : List ℕ) (ls : List (List ℕ)) → eqb (n .lines) lastLine ≡ false → lineSaid l ≡ none → beatsText s n (l ∷ ls) ≡ errorLine (n .lines + 1)
   unfolding beatsText
   beats-none l ls h g =
       let P : List ℕ → Type 0 = λ y. y ≡ errorLine (n .lines + 1) in
-      either P (eqb (n .beats .0) maxBeats) (λ e. clash (cc)) (λ e. byLent P (lineLent l) (λ u. refl) (λ x u. clash (cc)))
+      either P (eqb (n .lines) lastLine) (λ e. clash (cc)) (λ e. byLent P (lineSaid l) (λ u. refl) (λ x u. clash (cc)))
 
-  pub beats-some : (l : List ℕ) (ls : List (List ℕ)) (x : Lent) → eqb (n .beats .0) maxBeats ≡ false → lineLent l ≡ some x →
-      beatsText s n (l ∷ ls) ≡ beatPrinted s n x ++ beatsText s (counted n (answerOf s n x)) ls
+  pub beats-some : (l : List ℕ) (ls : List (List ℕ)) (x : Said) → eqb (n .lines) lastLine ≡ false → lineSaid l ≡ some x →
+      beatsText s n (l ∷ ls) ≡ saidPrinted s n x ++ beatsText s (saidCounted s n x) ls
   unfolding beatsText
   beats-some l ls x h g =
-      let P : List ℕ → Type 0 = λ y. y ≡ beatPrinted s n x ++ beatsText s (counted n (answerOf s n x)) ls in
-      either P (eqb (n .beats .0) maxBeats) (λ e. clash (cc)) (λ e. byLent P (lineLent l) (λ u. clash (cc)) (λ y u. let q : y ≡ x = cc in rw q))
+      let P : List ℕ → Type 0 = λ y. y ≡ saidPrinted s n x ++ beatsText s (saidCounted s n x) ls in
+      either P (eqb (n .lines) lastLine) (λ e. clash (cc)) (λ e. byLent P (lineSaid l) (λ u. clash (cc)) (λ y u. let q : y ≡ x = cc in rw q))
 
--- a machine that reads a beat line, with what was read of it
+-- a machine that reads such a line, with what was read of it
 abbrev beating : List ℕ → List ℕ → Place → Totals → HalfLine → Machine
 beating t s p n r = record {
   text = t;
@@ -123,31 +135,31 @@ module _ (t s : List ℕ) (p : Place) (n : Totals) where
   abbrev illEnded : Fed
   illEnded = record { machine = record { text = t; set = s; session = stopped (awaiting .session) }; output = errorLine (n .lines + 1) }
 
-  end-none : beatEnd awaiting none ≡ illEnded
-  unfolding beatEnd
+  end-none : saidEnd awaiting none ≡ illEnded
+  unfolding saidEnd
   end-none = refl
 
-  module _ (x : Lent) where
+  module _ (x : Said) where
     abbrev next : Totals
-    next = counted n (answerOf s n x)
+    next = saidCounted s n x
 
-    -- the last beat, and any other
-    abbrev lastBeat : Fed
-    lastBeat = record { machine = record { text = t; set = s; session = stopped (withTotals (awaiting .session) next) }; output = beatPrinted s n x ++ ended s next }
+    -- the last line, and any other
+    abbrev lastSaid : Fed
+    lastSaid = record { machine = record { text = t; set = s; session = stopped (withTotals (awaiting .session) next) }; output = saidPrinted s n x ++ ended s next }
 
-    abbrev oneBeat : Fed
-    oneBeat = record { machine = beating t s p next noHalfLine; output = beatPrinted s n x }
+    abbrev oneSaid : Fed
+    oneSaid = record { machine = beating t s p next noHalfLine; output = saidPrinted s n x }
 
-    beat-last : eqb (next .beats .0) maxBeats ≡ true → beatEnd awaiting (some x) ≡ lastBeat
-    unfolding beatEnd beatOf
-    beat-last h = either (λ (y : Fed). y ≡ lastBeat) (eqb (next .beats .0) maxBeats) (λ e. refl) (λ e. clash (cc))
+    said-last-line : eqb (next .lines) lastLine ≡ true → saidEnd awaiting (some x) ≡ lastSaid
+    unfolding saidEnd saidOf
+    said-last-line h = either (λ (y : Fed). y ≡ lastSaid) (eqb (next .lines) lastLine) (λ e. refl) (λ e. clash (cc))
 
-    beat-more : eqb (next .beats .0) maxBeats ≡ false → beatEnd awaiting (some x) ≡ oneBeat
-    unfolding beatEnd beatOf
-    beat-more h = either (λ (y : Fed). y ≡ oneBeat) (eqb (next .beats .0) maxBeats) (λ e. clash (cc)) (λ e. refl)
+    said-more : eqb (next .lines) lastLine ≡ false → saidEnd awaiting (some x) ≡ oneSaid
+    unfolding saidEnd saidOf
+    said-more h = either (λ (y : Fed). y ≡ oneSaid) (eqb (next .lines) lastLine) (λ e. clash (cc)) (λ e. refl)
 
   -- a line with its LF, and a last line without
-  line-read : (l : List ℕ) → lineEnd (chunk awaiting l) ≡ beatEnd awaiting (readLent (withoutCR (readOn noHalfLine l)))
+  line-read : (l : List ℕ) → lineEnd (chunk awaiting l) ≡ saidEnd awaiting (readSaid (withoutCR (readOn noHalfLine l)))
   unfolding chunk bytesTaken bytesKept lineEnd lineOver lineKept arrivalWorked
   line-read l = refl
 
@@ -155,7 +167,7 @@ module _ (t s : List ℕ) (p : Place) (n : Totals) where
   unfolding finished chunk bytesTaken bytesKept inputOver arrivalWorked endAfter readOn isUntouched beatsText
   nothing-read = refl
 
-  something-read : (b : ℕ) (bs : List ℕ) → finished (chunk awaiting (b ∷ bs)) ≡ lastOutput (beatEnd awaiting (readLent (readOn noHalfLine (b ∷ bs))))
+  something-read : (b : ℕ) (bs : List ℕ) → finished (chunk awaiting (b ∷ bs)) ≡ lastOutput (saidEnd awaiting (readSaid (readOn noHalfLine (b ∷ bs))))
   unfolding finished chunk bytesTaken bytesKept arrivalWorked
   something-read b bs = rw (beats-input (record { phase = BEATS; place = p; half = readOn noHalfLine (b ∷ bs) }) refl read)
     where
@@ -163,36 +175,36 @@ module _ (t s : List ℕ) (p : Place) (n : Totals) where
       read = decide (isUntouched (readOn noHalfLine (b ∷ bs)) ≡ false) (isUntouched (readOn noHalfLine (b ∷ bs))) (λ e. let z = untouched (b ∷ bs) .0 e in clash (cc)) (λ e. e)
 
   -- the last line, without an LF
-  last-beat : (l : List ℕ) → eqb (n .beats .0) maxBeats ≡ false → lastOutput (beatEnd awaiting (lineLent l)) ≡ beatsText s n (l ∷ [])
+  last-said : (l : List ℕ) → eqb (n .lines) lastLine ≡ false → lastOutput (saidEnd awaiting (lineSaid l)) ≡ beatsText s n (l ∷ [])
   unfolding endAfter beatsText
-  last-beat l h =
-      let on : Option Lent → List ℕ = λ o. lastOutput (beatEnd awaiting o) in
-      byOption (on (lineLent l) ≡ beatsText s n (l ∷ [])) (lineLent l)
+  last-said l h =
+      let on : Option Said → List ℕ = λ o. lastOutput (saidEnd awaiting o) in
+      byOption (on (lineSaid l) ≡ beatsText s n (l ∷ [])) (lineSaid l)
       (λ e. ap on e ∙ ap lastOutput end-none ∙ append-nil (errorLine (n .lines + 1)) ∙ sym (beats-none s n l [] h e))
-      (λ x e. decide (on (lineLent l) ≡ beatsText s n (l ∷ [])) (eqb (next x .beats .0) maxBeats)
-      (λ g. ap on e ∙ ap lastOutput (beat-last x g) ∙ append-nil (beatPrinted s n x ++ ended s (next x)) ∙ sym (beats-some s n l [] x h e))
-      (λ g. ap on e ∙ ap lastOutput (beat-more x g) ∙ sym (beats-some s n l [] x h e)))
+      (λ x e. decide (on (lineSaid l) ≡ beatsText s n (l ∷ [])) (eqb (next x .lines) lastLine)
+      (λ g. ap on e ∙ ap lastOutput (said-last-line x g) ∙ append-nil (saidPrinted s n x ++ ended s (next x)) ∙ sym (beats-some s n l [] x h e))
+      (λ g. ap on e ∙ ap lastOutput (said-more x g) ∙ sym (beats-some s n l [] x h e)))
 
 module _ (t s : List ℕ) (p : Place) where
-  beats-print : (ls : List (List ℕ)) (n : Totals) → (ls ≡ [] → ⊥) → eqb (n .beats .0) maxBeats ≡ false → prints (awaiting t s p n) ls ≡ beatsText s n (beatLines ls)
+  beats-print : (ls : List (List ℕ)) (n : Totals) → (ls ≡ [] → ⊥) → eqb (n .lines) lastLine ≡ false → prints (awaiting t s p n) ls ≡ beatsText s n (beatLines ls)
   unfolding beatLines
   beats-print [] n g h = absurd (g refl)
   beats-print ([] ∷ []) n g h = prints-last (awaiting t s p n) [] ∙ nothing-read t s p n
   beats-print ((b ∷ bs) ∷ []) n g h =
       prints-last (awaiting t s p n) (b ∷ bs) ∙ something-read t s p n b bs
-      ∙ ap (λ (o : Option Lent). lastOutput (beatEnd (awaiting t s p n) o)) (lent-last (b ∷ bs)) ∙ last-beat t s p n (b ∷ bs) h
+      ∙ ap (λ (o : Option Said). lastOutput (saidEnd (awaiting t s p n) o)) (said-last (b ∷ bs)) ∙ last-said t s p n (b ∷ bs) h
   beats-print (l ∷ k ∷ ls) n g h =
       let c = withoutReturn l in
       let rest = beatLines (k ∷ ls) in
       let to : Fed → List ℕ = λ f. onward f (k ∷ ls) in
-      let on : Option Lent → List ℕ = λ o. to (beatEnd (awaiting t s p n) o) in
-      prints-line (awaiting t s p n) l k ls ∙ ap to (line-read t s p n l) ∙ ap on (lent-ended l)
-      ∙ byOption (on (lineLent c) ≡ beatsText s n (c ∷ rest)) (lineLent c)
+      let on : Option Said → List ℕ = λ o. to (saidEnd (awaiting t s p n) o) in
+      prints-line (awaiting t s p n) l k ls ∙ ap to (line-read t s p n l) ∙ ap on (said-ended l)
+      ∙ byOption (on (lineSaid c) ≡ beatsText s n (c ∷ rest)) (lineSaid c)
       (λ e. ap on e ∙ ap to (end-none t s p n) ∙ over-onward _ (errorLine (n .lines + 1)) (k ∷ ls) refl ∙ sym (beats-none s n c rest h e))
-      (λ x e. decide (on (lineLent c) ≡ beatsText s n (c ∷ rest)) (eqb (next t s p n x .beats .0) maxBeats)
-      (λ z. ap on e ∙ ap to (beat-last t s p n x z) ∙ over-onward _ (beatPrinted s n x ++ ended s (next t s p n x)) (k ∷ ls) refl
-      ∙ ap (λ (y : List ℕ). beatPrinted s n x ++ y) (sym (beats-over s (next t s p n x) rest z)) ∙ sym (beats-some s n c rest x h e))
-      (λ z. ap on e ∙ ap to (beat-more t s p n x z) ∙ ap (λ (y : List ℕ). beatPrinted s n x ++ y) (beats-print (k ∷ ls) (next t s p n x) (λ u. clash (cc)) z)
+      (λ x e. decide (on (lineSaid c) ≡ beatsText s n (c ∷ rest)) (eqb (next t s p n x .lines) lastLine)
+      (λ z. ap on e ∙ ap to (said-last-line t s p n x z) ∙ over-onward _ (saidPrinted s n x ++ ended s (next t s p n x)) (k ∷ ls) refl
+      ∙ ap (λ (y : List ℕ). saidPrinted s n x ++ y) (sym (beats-over s (next t s p n x) rest z)) ∙ sym (beats-some s n c rest x h e))
+      (λ z. ap on e ∙ ap to (said-more t s p n x z) ∙ ap (λ (y : List ℕ). saidPrinted s n x ++ y) (beats-print (k ∷ ls) (next t s p n x) (λ u. clash (cc)) z)
       ∙ sym (beats-some s n c rest x h e)))
 
 -- ---- set text: what is kept of it

@@ -11,7 +11,7 @@ use lib.ListN.{getD}
 use borrow.Author.Tests.{ltb-true}
 use Rattle.values.specs.Choice.{either, ifNot}
 use Rattle.tokens.specs.Token.{END, M, SETAL, SYNFCT, isVariable, isDrive, whole, maxLines, maxActions, isAxis, isCall}
-use Rattle.tokens.specs.Descent.{token, Answer, indexAt}
+use Rattle.tokens.specs.Descent.{token, indexAt}
 use Rattle.tokens.specs.AnswerLaws.{Ok, is-ok, bind-ok, ok-then}
 use Rattle.working.specs.Operators.{isYes, fromWorked}
 use Rattle.working.specs.Working.{rightValue, conditionValue, variableAt}

@@ -2,23 +2,25 @@
 use mathlib.Core.List.{List, [], _∷_}
 use Prim.Native.Nat.{ℕ}
 use Rattle.engine.specs.declared.state.State.{State}
-use Rattle.engine.specs.Calls.{lockCall, unlockCall, cancelCall, resetCall}
+use Rattle.engine.specs.Calls.{lockCall, unlockCall, cancelCall, programEndCall, controlResetCall}
 use Rattle.engine.specs.Beat.{Given, beatAnswer}
 
--- a beat with what it is given; and the host's calls, which name a line by its number
+-- a beat with what it is given; and the host's calls, of which the first three name a line by its number
 pub data Call : Type 0 where
   doBeat : Given → Call
   doLock : ℕ → Call
   doUnlock : ℕ → Call
   doCancel : ℕ → Call
-  doReset : Call
+  doProgramEnd : Call
+  doControlReset : Call
 
 -- the state that a call leaves
 abbrev pub stateAfter : List ℕ → State → Call → State
 stateAfter s st (doLock n) = lockCall s st n .state
 stateAfter s st (doUnlock n) = unlockCall s st n .state
 stateAfter s st (doCancel n) = cancelCall s st n .state
-stateAfter s st doReset = resetCall s st .state
+stateAfter s st doProgramEnd = programEndCall s st .state
+stateAfter s st doControlReset = controlResetCall s st .state
 stateAfter s st (doBeat g) = beatAnswer s st g .state
 
 -- and its code
@@ -26,7 +28,8 @@ abbrev pub codeAfter : List ℕ → State → Call → ℕ
 codeAfter s st (doLock n) = lockCall s st n .code
 codeAfter s st (doUnlock n) = unlockCall s st n .code
 codeAfter s st (doCancel n) = cancelCall s st n .code
-codeAfter s st doReset = resetCall s st .code
+codeAfter s st doProgramEnd = programEndCall s st .code
+codeAfter s st doControlReset = controlResetCall s st .code
 codeAfter s st (doBeat g) = beatAnswer s st g .code
 
 -- the state after calls, the first first

@@ -19,8 +19,10 @@ use Rattle.engine.specs.Set.{rankIn, soundLines}
 use Rattle.engine.specs.Sound.{isSound}
 use Rattle.engine.specs.Turn.{Turned}
 use Rattle.engine.specs.Beat.{bufferSize, areInputs, Given, samplesIn, allTurns, beatBegun, wholeBeat, turnedAnswer, beatAnswer}
+use Rattle.engine.specs.declared.status.Status.{Status}
+use Rattle.engine.specs.Status.{statusOf}
 use Rattle.engine.specs.NamedLine.{foundAt, found}
-use Rattle.engine.specs.Calls.{withLocked, withCancelled, called, lockedCall, lockCall, unlockCall, cancelCall, resetCall}
+use Rattle.engine.specs.Calls.{withLocked, withCancelled, called, lockedCall, lockCall, unlockCall, cancelCall, programEndCall, controlResetCall}
 use Rattle.soundness.specs.AnswerCodes.{OneOf, beatCodes, hostCodes}
 use Rattle.soundness.specs.VariableCodeLaws.{StopsBy, stops-then}
 use Rattle.soundness.specs.AnswerCodeLaws.{TurnCode, turns-by}
@@ -111,7 +113,15 @@ module _ (s : List ℕ) (st : State) where
   unfolding cancelCall
   cancel-code n = called-code st (found s st n) (λ k. withCancelled st k) (found-code s st n)
 
-  -- a reset only 0 or 22
-  pub reset-code : OneOf (resetCall s st .code) (0 ∷ unsound ∷ [])
-  unfolding resetCall
-  reset-code = either (λ (c : Called). OneOf (c .code) (0 ∷ unsound ∷ [])) (isSound s st) (λ e. inl refl) (λ e. inr (inl refl))
+  -- program end, control reset and the status picture only 0 or 22
+  pub program-end-code : OneOf (programEndCall s st .code) (0 ∷ unsound ∷ [])
+  unfolding programEndCall
+  program-end-code = either (λ (c : Called). OneOf (c .code) (0 ∷ unsound ∷ [])) (isSound s st) (λ e. inl refl) (λ e. inr (inl refl))
+
+  pub control-reset-code : OneOf (controlResetCall s st .code) (0 ∷ unsound ∷ [])
+  unfolding controlResetCall
+  control-reset-code = either (λ (c : Called). OneOf (c .code) (0 ∷ unsound ∷ [])) (isSound s st) (λ e. inl refl) (λ e. inr (inl refl))
+
+  pub status-code : OneOf (statusOf s st .code) (0 ∷ unsound ∷ [])
+  unfolding statusOf
+  status-code = either (λ (x : Status). OneOf (x .code) (0 ∷ unsound ∷ [])) (isSound s st) (λ e. inl refl) (λ e. inr (inl refl))

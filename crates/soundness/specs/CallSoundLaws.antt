@@ -1,4 +1,4 @@
--- Laws of the host's calls lock, unlock, cancel and reset: each keeps a sound state sound. Nothing is assumed.
+-- Laws of the host's calls lock, unlock, cancel and control reset: each keeps a sound state sound. Nothing is assumed.
 use mathlib.Core.Path.{_≡_, refl, sym, _∙_}
 use mathlib.Core.Bool.{Bool, true, false}
 use mathlib.Core.Logic.{_⊎_, inl, inr}
@@ -23,7 +23,7 @@ use Rattle.engine.specs.Set.{rankIn, soundLines}
 use Rattle.working.specs.Variables.{markerAt, countAt, stateCells}
 use Rattle.engine.specs.Sound.{isSound, isCell, isFlag}
 use Rattle.engine.specs.NamedLine.{foundAt, found}
-use Rattle.engine.specs.Calls.{withLocked, withCancelled, called, lockedCall, lockCall, unlockCall, cancelCall, resetCancelled, zeroed, resetState, resetCall}
+use Rattle.engine.specs.Calls.{withLocked, withCancelled, called, lockedCall, lockCall, unlockCall, cancelCall, resetCancelled, zeroed, controlResetState, controlResetCall}
 use Rattle.engine.specs.ResetLaws.{reset-keeps}
 use Rattle.soundness.specs.GoodAnswers.{Not22}
 use Rattle.soundness.specs.CountSoundLaws.{reset-keeps-counts}
@@ -81,7 +81,7 @@ cancelCall-keeps s st n h =
     right-state s (withCancelled st k) (set-sound s st h)
     (record { cells = e .cells; channels = e .channels; flags = cancel-keeps (soundLines s .count) (st .locked) (st .cancelled) (st .memory) (e .flags) k l; acts = e .acts })
 
--- ---- reset
+-- ---- control reset
 
 reset-flags : (count : ℕ) (ls : List Line) (a cs b : List Bool) → FlagsRight count a cs b →
     FlagsRight count (replicate maxLines false) (resetCancelled ls cs count) (replicate maxLines false)
@@ -144,10 +144,10 @@ zeroed-count c k = by-place (zeroed-place c (countAt + k))
     by-place (inl e) = e
     by-place (inr e) = absurd (omega (arith, e .1))
 
--- reset keeps a sound state sound
-pub resetCall-keeps : (s : List ℕ) (st : State) → isSound s st ≡ true → isSound s (resetCall s st .state) ≡ true
-unfolding resetCall resetState
-resetCall-keeps s st h =
+-- control reset keeps a sound state sound
+pub controlResetCall-keeps : (s : List ℕ) (st : State) → isSound s st ≡ true → isSound s (controlResetCall s st .state) ≡ true
+unfolding controlResetCall controlResetState
+controlResetCall-keeps s st h =
     let e = state-right s st h in
     ifNot (λ (c : Called). isSound s (c .state) ≡ true) (isSound s st) (λ p. h) λ p.
     right-state s _ (set-sound s st h)
@@ -196,20 +196,20 @@ pub cancelCall-answers : (s : List ℕ) (st : State) (n : ℕ) → isSound s st 
 unfolding cancelCall
 cancelCall-answers s st n h = called-answers st (found s st n) (λ k. withCancelled st k) (found-code s st n h) (λ k. (refl, refl))
 
--- reset keeps R
-pub resetCall-r : (s : List ℕ) (st : State) → resetCall s st .state .r ≡ st .r
-unfolding resetCall resetState
-resetCall-r s st = either (λ (c : Called). c .state .r ≡ st .r) (isSound s st) (λ p. refl) (λ p. refl)
+-- control reset keeps R
+pub controlResetCall-r : (s : List ℕ) (st : State) → controlResetCall s st .state .r ≡ st .r
+unfolding controlResetCall controlResetState
+controlResetCall-r s st = either (λ (c : Called). c .state .r ≡ st .r) (isSound s st) (λ p. refl) (λ p. refl)
 
 -- the number of the cells
-pub resetCall-length : (s : List ℕ) (st : State) → length (st .cells) ≡ stateCells → length (resetCall s st .state .cells) ≡ stateCells
-unfolding resetCall resetState zeroed
-resetCall-length s st l =
+pub controlResetCall-length : (s : List ℕ) (st : State) → length (st .cells) ≡ stateCells → length (controlResetCall s st .state .cells) ≡ stateCells
+unfolding controlResetCall controlResetState zeroed
+controlResetCall-length s st l =
     either (λ (c : Called). length (c .state .cells) ≡ stateCells) (isSound s st)
     (λ p. omega (arith, length-append (take markerAt (st .cells)) (replicate (countAt - markerAt) (pos 0) ++ drop countAt (st .cells)), length-append (replicate (countAt - markerAt) (pos 0)) (drop countAt (st .cells)), length-take markerAt (st .cells), length-drop countAt (st .cells)))
     (λ p. l)
 
 -- and its code is not 22
-pub resetCall-code : (s : List ℕ) (st : State) → isSound s st ≡ true → Not22 (resetCall s st .code)
-unfolding resetCall
-resetCall-code s st h = either (λ (c : Called). Not22 (c .code)) (isSound s st) (λ p e. omega arith) (λ p. clash (cc))
+pub controlResetCall-code : (s : List ℕ) (st : State) → isSound s st ≡ true → Not22 (controlResetCall s st .code)
+unfolding controlResetCall
+controlResetCall-code s st h = either (λ (c : Called). Not22 (c .code)) (isSound s st) (λ p e. omega arith) (λ p. clash (cc))

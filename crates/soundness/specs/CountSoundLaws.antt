@@ -1,4 +1,4 @@
--- Laws of how often each line acted: a good beat and a reset keep these counts right. Nothing is assumed.
+-- Laws of how often each line acted: a good beat and a control reset keep these counts right. Nothing is assumed.
 use mathlib.Core.Path.{_≡_, refl}
 use mathlib.Core.Bool.{Bool, true, false, cond}
 use mathlib.Core.List.{List}
@@ -6,7 +6,7 @@ use Prim.Native.Nat.{ℕ, zero, suc, _+_, _≤_, _<_}
 use native.Mathlib.Omega.{arith}
 use lib.Dec.{eqb, leb, ltb, nltb→le}
 use lib.ListN.{getD}
-use borrow.Author.Tests.{le-leb, leb-true, eqb-true, ltb-true}
+use borrow.Author.Tests.{le-leb, leb-true, ltb-true}
 use Rattle.values.specs.FifoLaws.{set-each}
 use Rattle.tokens.specs.Token.{maxLines}
 use Rattle.engine.specs.ActCount.{actsTop, isActed, oneMore, countedActs, resetActs, isActCount}
@@ -41,7 +41,7 @@ module _ (count : ℕ) (acts : List ℕ) (h : CountsRight count acts) where
     counted-keeps zero = h
     counted-keeps (suc n) = set-each (λ k a. k < maxLines → isActCount count k a ≡ true) (countedActs acts word n) n (oneMore (getD acts n 0) (isActed word n)) 0 (more-right n) (counted-keeps n)
 
-  -- after a reset
+  -- after a control reset
   pub reset-keeps-counts : (cancelled : List Bool) (n : ℕ) → CountsRight count (resetActs cancelled acts n)
   unfolding resetActs
   reset-keeps-counts cancelled zero = h

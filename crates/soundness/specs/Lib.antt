@@ -7,6 +7,8 @@ pub mod SetSoundLaws
 pub mod CellSoundLaws
 pub mod CountSoundLaws
 pub mod CallSoundLaws
+pub mod ProgramEnd
+pub mod ProgramEndLaws
 pub mod WriteSoundLaws
 pub mod InStepLaws
 pub mod WorkSoundLaws

@@ -1,5 +1,5 @@
 -- Laws of the lines of a set: the names that they use, the curves that it has, and how a line is found by its number. Nothing is assumed.
-use mathlib.Core.Path.{_≡_, refl}
+use mathlib.Core.Path.{_≡_, refl, sym, _∙_}
 use mathlib.Core.Bool.{Bool, true, false, cond}
 use mathlib.Core.List.{List, [], _∷_}
 use Prim.Native.Nat.{ℕ, zero, suc, _+_, _-_, _≤_, _<_}
@@ -7,13 +7,13 @@ use native.Mathlib.Decide.{decLt}
 use native.Mathlib.Omega.{arith}
 use lib.Dec.{eqb, ltb, leb}
 use lib.ListN.{length, getD}
-use borrow.Author.Tests.{eqb-true, leb-true}
+use borrow.Author.Tests.{eqb-true, eq-eqb, leb-true}
 use Rattle.values.specs.Choice.{either, both}
 use Rattle.values.specs.Numbers.{clash}
 use Rattle.tokens.specs.Token.{setSize, maxLines, maxCurves}
 use Rattle.engine.specs.declared.set.Lines.{Lines}
-use Rattle.engine.specs.SetLinesLaws.{lines-lined}
-use Rattle.engine.specs.Set.{emptySet, startOf, curveStart, curveLine, noLines, linesRead, linesFrom, rankIn, namesKnown, isDefined, curvesFrom, curvesIn, setTable, isCurve, curvesSound, allKnown, namedLines, soundLines}
+use Rattle.engine.specs.SetLinesLaws.{Lined, lines-lined}
+use Rattle.engine.specs.Set.{emptySet, startOf, lineOf, noLine, curveStart, curveLine, noLines, linesRead, linesFrom, rankIn, namesKnown, isDefined, curvesFrom, curvesIn, setTable, isCurve, curvesSound, allKnown, namedLines, soundLines}
 
 -- ---- the names that its lines use
 
@@ -117,6 +117,16 @@ rank-at (x ∷ xs) n k =
     let e : rankIn xs n (k + 1) - k ≡ suc (rankIn xs n (k + 1) - (k + 1)) = omega arith in
     rw e (rank-at xs n (k + 1) (omega arith))
 
+-- a number is found no later than where it stands
+pub rank-first : (ns : List ℕ) (n k i : ℕ) → i < length ns → getD ns i 0 ≡ n → rankIn ns n k ≤ k + i
+unfolding rankIn
+rank-first [] n k i l e = absurd (omega arith)
+rank-first (x ∷ xs) n k zero l e = rw (rankIn, eq-eqb x n e) (omega arith)
+rank-first (x ∷ xs) n k (suc i) l e =
+    either (λ r. r ≤ k + suc i) (eqb x n)
+    (λ t. omega arith)
+    (λ t. let h = rank-first xs n (k + 1) i (omega arith) e in omega arith)
+
 -- a number found in 32 is the number at the rank found
 pub rank-number : (ns : List ℕ) (n : ℕ) → length ns ≡ maxLines → rankIn ns n 0 < maxLines → getD ns (rankIn ns n 0) 0 ≡ n
 rank-number ns n e h = let q : rankIn ns n 0 - 0 ≡ rankIn ns n 0 = omega arith in rw q at (rank-at ns n 0 (omega arith))
@@ -131,6 +141,29 @@ rank-inside s n l h = by-place (decLt (rankIn (soundLines s .numbers) n 0) (soun
         let a = rank-number (soundLines s .numbers) n (lines-lined s .numbersLength) h in
         let b = lines-lined s .listed .none (rankIn (soundLines s .numbers) n 0) (omega (arith, m)) in
         absurd (omega arith)
+
+-- the number of a line of the set is found at the line's rank
+pub rank-own : (s : List ℕ) (k : ℕ) → k < soundLines s .count → rankIn (soundLines s .numbers) (getD (soundLines s .items) k noLine .number) 0 ≡ k
+rank-own s k h = rw (lined .listed .item k h) (by-place (decLt r k))
+  where
+    lined : Lined s (soundLines s)
+    lined = lines-lined s
+
+    n : ℕ
+    n = lineOf s k .number
+
+    r : ℕ
+    r = rankIn (soundLines s .numbers) n 0
+
+    first : r ≤ 0 + k
+    first = rank-first (soundLines s .numbers) n 0 k (omega (arith, lined .numbersLength, lined .few)) (lined .listed .number k h)
+
+    by-place : Dec (r < k) → r ≡ k
+    by-place (yes m) =
+        let a = sym (lined .listed .number r (omega arith)) ∙ rank-number (soundLines s .numbers) n (lined .numbersLength) (omega (arith, lined .few)) in
+        let b = lined .listed .rising r k m h in
+        absurd (omega arith)
+    by-place (no m) = omega (arith, first, m)
 
 -- ---- the empty set
 

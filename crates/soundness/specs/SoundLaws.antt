@@ -37,16 +37,17 @@ use Rattle.engine.specs.Actions.{actionsOf}
 use Rattle.engine.specs.Turn.{Entry, Turned, remembered, counted, takesTurn, doTurn, tryTurn, turnOf, turnsFrom}
 use Rattle.engine.specs.Keyword.{tries, remembers}
 use Rattle.engine.specs.Beat.{bufferSize, areInputs, Given, samplesIn, beatBegun, beatEnded, allTurns, wholeBeat, turnedAnswer, beatAnswer}
-use Rattle.engine.specs.Calls.{lockCall, unlockCall, cancelCall}
+use Rattle.engine.specs.Calls.{lockCall, unlockCall, cancelCall, programEndCall}
 use Rattle.engine.specs.InputLaws.{length-inputs, inputs-length}
-use Rattle.soundness.specs.Call.{Call, doBeat, doLock, doUnlock, doCancel, doReset, stateAfter, codeAfter, afterAll}
+use Rattle.soundness.specs.Call.{Call, doBeat, doLock, doUnlock, doCancel, doProgramEnd, doControlReset, stateAfter, codeAfter, afterAll}
 use Rattle.soundness.specs.GoodAnswers.{Not22, Holds, holds-then, holds-ok}
 use Rattle.engine.specs.SetLinesLaws.{lines-lined}
 use Rattle.soundness.specs.SetSoundLaws.{lines-known}
 use Rattle.soundness.specs.CellSoundLaws.{ranged-each, cell-ranged, timer-cell, right-timer, CellsSound, cell-keeps, memory-keeps, state-right, right-state, set-sound, power-on}
-use Rattle.soundness.specs.CallSoundLaws.{lockCall-keeps, unlockCall-keeps, cancelCall-keeps, resetCall-keeps, Answers, lockCall-answers, unlockCall-answers, cancelCall-answers, resetCall-r, resetCall-length, resetCall-code}
+use Rattle.soundness.specs.CallSoundLaws.{lockCall-keeps, unlockCall-keeps, cancelCall-keeps, controlResetCall-keeps, Answers, lockCall-answers, unlockCall-answers, cancelCall-answers, controlResetCall-r, controlResetCall-length, controlResetCall-code}
 use Rattle.soundness.specs.WriteSoundLaws.{BeatSound}
 use Rattle.soundness.specs.ActionSoundLaws.{WorldSound, condition-runs}
+use Rattle.soundness.specs.ProgramEndLaws.{programEndCall-keeps, programEndCall-answers}
 use Rattle.soundness.specs.CountSoundLaws.{counted-keeps}
 use Rattle.soundness.specs.ActedLaws.{none-from, turns-below}
 use Rattle.soundness.specs.LineLaws.{actions-keep, LineClear, line-clear}
@@ -225,7 +226,8 @@ pub call-keeps : (s : List ℕ) (st : State) (c : Call) → length s ≤ setSize
 call-keeps s st (doLock n) l h = unchanged s st (lockCall s st n) h (lockCall-keeps s st n (h .sound)) (lockCall-answers s st n (h .sound))
 call-keeps s st (doUnlock n) l h = unchanged s st (unlockCall s st n) h (unlockCall-keeps s st n (h .sound)) (unlockCall-answers s st n (h .sound))
 call-keeps s st (doCancel n) l h = unchanged s st (cancelCall s st n) h (cancelCall-keeps s st n (h .sound)) (cancelCall-answers s st n (h .sound))
-call-keeps s st doReset l h = record { sound = resetCall-keeps s st (h .sound); long = rw (resetCall-r s st) (h .long); sized = resetCall-length s st (h .sized) }
+call-keeps s st doProgramEnd l h = unchanged s st (programEndCall s st) h (programEndCall-keeps s st (h .sound)) (programEndCall-answers s st (h .sound))
+call-keeps s st doControlReset l h = record { sound = controlResetCall-keeps s st (h .sound); long = rw (controlResetCall-r s st) (h .long); sized = controlResetCall-length s st (h .sized) }
 call-keeps s st (doBeat g) l h = beat-answers s st g l h .0
 
 -- A SOUND STATE STAYS SOUND, whatever is called
@@ -237,7 +239,8 @@ pub call-not22 : (s : List ℕ) (st : State) (c : Call) → length s ≤ setSize
 call-not22 s st (doLock n) l h = lockCall-answers s st n (h .sound) .code
 call-not22 s st (doUnlock n) l h = unlockCall-answers s st n (h .sound) .code
 call-not22 s st (doCancel n) l h = cancelCall-answers s st n (h .sound) .code
-call-not22 s st doReset l h = resetCall-code s st (h .sound)
+call-not22 s st doProgramEnd l h = programEndCall-answers s st (h .sound) .code
+call-not22 s st doControlReset l h = controlResetCall-code s st (h .sound)
 call-not22 s st (doBeat g) l h = beat-answers s st g l h .1
 
 -- so do any calls

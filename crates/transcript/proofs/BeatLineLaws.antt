@@ -1,7 +1,7 @@
--- A beat line read byte by byte: the next byte, what a digit is, and the value of a field in the code; and digits read at once, which come to the same.
+-- A line read byte by byte: the next byte, what a digit is, the value of a field in the code, what the line says at its end; and digits read at once, which come to the same.
 use mathlib.Core.Path.{_≡_, refl, sym, ap, _∙_}
 use mathlib.Core.Bool.{Bool, true, false, and-false, _||_}
-use mathlib.Core.Option.{none, some}
+use mathlib.Core.Option.{Option, none, some}
 use mathlib.Core.List.{List}
 use Prim.Native.Nat.{ℕ, zero, suc, _+_, _-_, _*_, _≤_, _<_, min}
 use native.Mathlib.Omega.{arith}
@@ -19,9 +19,15 @@ use Rattle.values.specs.Choice.{decide, either, both, and-true, contrary}
 use Rattle.couplers.specs.declared.reading.Reading.{Reading}
 use Rattle.text.specs.Byte.{isDigit}
 use Rattle.transcript.specs.declared.beat_line.HalfLine.{HalfLine}
+use Rattle.transcript.specs.declared.beat_line.MaybeLent.{MaybeLent}
 use Rattle.transcript.specs.declared.beat_line.Sent.{Sent}
-use Rattle.transcript.specs.BeatLine.{isHex, hexDigit, sending}
-use Rattle.transcript.specs.HalfLine.{firstPosition, highest, isReading, breakValue, eightDigits, readingBy, greatest, signed, withHeld, withField, closed, digitByte, numberByte, readingStage, withReading, digitsSoFar, hexByte, readingByte, fieldByte, readByte, readOn, readLent, withValue, IsNumber, InReading}
+use Rattle.transcript.specs.declared.intake.Ending.the-variants as E
+use Rattle.transcript.specs.declared.intake.Intake.{Intake}
+use Rattle.transcript.specs.BeatLine.{Lent, saysBeat, isHex, hexDigit, sending}
+use Rattle.transcript.specs.HalfLine.{noHalfLine, programEndStage, controlResetStage, firstPosition, highest, isReading, breakValue, eightDigits, readingBy, greatest, signed, withHeld, withField, closed, digitByte, numberByte, readingStage, withReading, digitsSoFar, hexByte, readingByte, fieldByte, readByte, readOn, withoutCR, readLent, readSaid, withValue, IsNumber, InReading}
+use Rattle.transcript.specs.Intake.{withHalfLine, lineCame, lineRead}
+use Rattle.transcript.specs.IntakeAnswers.{broughtBy}
+use Rattle.transcript.specs.MaybeLent.{maybeLent}
 
 -- ---- the bytes from place i on
 
@@ -96,6 +102,30 @@ module _ (r : HalfLine) {c : HalfLine} (e : c ≡ closed r) where
   pub lends : c .stage ≡ 2 → 1 ≤ r .field → readLent r ≡ some (record { automatic = c .automatic; word = c .word; sent = c .sent; positions = c .positions })
   unfolding readLent
   lends g h = rw e (simp (readLent, eq-eqb (closed r .stage) 2 (stage-is ∙ g), le-leb 1 (r .field) h))
+
+-- ---- what the line brings
+
+-- no CR stands behind it
+pub no-return : (r : HalfLine) → r .stage < 4 → r ≡ withoutCR r
+unfolding withoutCR
+no-return r h = simp (withoutCR, ne-eqb (r .stage) 4 (λ e. omega arith), ne-eqb (r .stage) 7 (λ e. omega arith), ne-eqb (r .stage) 10 (λ e. omega arith))
+
+module _ (x : Intake) (r : HalfLine) where
+  pub brought-end : r .stage ≡ programEndStage → {l : MaybeLent} → l ≡ maybeLent none → record { intake = withHalfLine x noHalfLine; ending = E.ProgramEnd; size = 0; lent = l } ≡ broughtBy (lineRead x r)
+  unfolding readSaid
+  brought-end h e = rw e (simp (readSaid, eq-eqb _ _ h))
+
+  pub brought-reset : r .stage ≡ controlResetStage → {l : MaybeLent} → l ≡ maybeLent none → record { intake = withHalfLine x noHalfLine; ending = E.ControlReset; size = 0; lent = l } ≡ broughtBy (lineRead x r)
+  unfolding readSaid
+  brought-reset h e = rw e (simp (readSaid, ne-eqb (r .stage) programEndStage (λ g. omega arith), eq-eqb _ _ h))
+
+  pub brought-beat : (r .stage ≡ programEndStage → ⊥) → (r .stage ≡ controlResetStage → ⊥) → {l : MaybeLent} → l ≡ maybeLent (readLent r) → record { intake = withHalfLine x noHalfLine; ending = E.Beat; size = 0; lent = l } ≡ broughtBy (lineRead x r)
+  unfolding readSaid
+  brought-beat h g e = rw e (simp (readSaid, ne-eqb _ _ h, ne-eqb _ _ g) (as-beat (readLent r)))
+    where
+      as-beat : (o : Option Lent) → record { intake = withHalfLine x noHalfLine; ending = E.Beat; size = 0; lent = maybeLent o } ≡ broughtBy (record { intake = withHalfLine x noHalfLine; arrival = lineCame (saysBeat o) })
+      as-beat none = refl
+      as-beat (some l) = refl
 
 -- ---- digits read at once
 

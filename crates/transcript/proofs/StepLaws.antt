@@ -1,6 +1,6 @@
--- A session as the code works it: beats, the set text, the line's end. Each law says what the definition comes to where the code's tests led.
+-- A session as the code works it: beats, calls, the set text, the line's end. Each law says what the definition comes to where the code's tests led.
 use mathlib.Core.Path.{_≡_, refl, sym, ap, _∙_}
-use mathlib.Core.Bool.{true, false}
+use mathlib.Core.Bool.{Bool, true, false}
 use mathlib.Core.List.{List, [], _++_}
 use mathlib.Core.Logic.{inl, inr}
 use mathlib.Core.Option.{Option, none, some}
@@ -15,23 +15,24 @@ use Rattle.values.specs.PutAt.{IsPut}
 use Rattle.reader.specs.Load.{loadAnswer, loadSet}
 use Rattle.transcript.specs.declared.intake.Intake.{Intake}
 use Rattle.transcript.specs.declared.intake.Brought.{Brought}
+use Rattle.transcript.specs.declared.intake.Ending.{Ending}
 use Rattle.transcript.specs.declared.intake.Ending.the-variants as E
 use Rattle.transcript.specs.declared.session.Session.{Session}
 use Rattle.transcript.specs.declared.beat_line.MaybeLent.{MaybeLent}
-use Rattle.transcript.specs.BeatLine.{Lent}
+use Rattle.transcript.specs.BeatLine.{Lent, Said, beat, programEnd, controlReset, saysBeat}
 use Rattle.transcript.specs.Output.{loadLine, errorLine, endRoom, outSize, lastStart}
 use Rattle.transcript.specs.declared.totals.Counts.{Counts}
 use Rattle.transcript.specs.declared.totals.Totals.{Totals}
-use Rattle.transcript.specs.Totals.{maxBeats, ended, areFit}
+use Rattle.transcript.specs.Totals.{lastLine, ended, calling, areFit}
 use Rattle.transcript.specs.TotalsLaws.{FitTotals}
-use Rattle.transcript.specs.Tally.{counted, answerOf, beatPrinted}
+use Rattle.transcript.specs.Tally.{counted, answerOf, beatPrinted, saidCounted, saidPrinted}
 use Rattle.transcript.specs.SetText.{keptSize}
-use Rattle.transcript.specs.Intake.{OVER, withPhase, intakeFits, Arrival, nothing, wholeText, beatLine, Arrived, lineOver, lineKept, inputOver}
-use Rattle.transcript.specs.IntakeAnswers.{endingOf, sizeIn, lentBy, broughtBy}
+use Rattle.transcript.specs.Intake.{OVER, withPhase, intakeFits, Arrival, nothing, wholeText, lineCame, Arrived, lineOver, lineKept, inputOver}
+use Rattle.transcript.specs.IntakeAnswers.{lineEnding, endingOf, sizeIn, lentSaid, lentBy, broughtBy}
 use Rattle.transcript.specs.IntakeLaws.{FitIntake, line-fit, input-fit, over-line}
-use Rattle.transcript.specs.Machine.{Machine, Fed, withIntake, withTotals, stopped, isFit, standing, opened, beatOf, beatEnd, arrivalWorked, lineEnd}
+use Rattle.transcript.specs.Machine.{Machine, Fed, withIntake, withTotals, stopped, isFit, standing, opened, saidOf, saidEnd, arrivalWorked, lineEnd}
 use Rattle.transcript.specs.SessionAnswers.{IsFed, machineOf, sessionOf}
-use Rattle.transcript.specs.InPlace.{totalsOf}
+use Rattle.transcript.specs.InPlace.{totalsOf, countsCalled, callSaid, callLeft}
 use Rattle.transcript.specs.MaybeLent.{maybeLent, lentIn, lentOr}
 use Rattle.transcript.specs.SessionRoomLaws.{LiveTotals, Lives, beat-printed-room}
 
@@ -64,16 +65,16 @@ ended-in s n e p = rw (← e) p
 
 -- a beat of a line that lends l, its totals y
 module _ (t s : List ℕ) (x : Session) (l : Lent) {y : Totals} (e : y ≡ counted (x .totals) (answerOf s (x .totals) l)) where
-  beats-are : x .totals .beats .0 + 1 ≡ y .beats .0
-  beats-are = ap (λ (z : Totals). z .beats .0) (sym e)
+  lines-are : x .totals .lines + 1 ≡ y .lines
+  lines-are = ap (λ (z : Totals). z .lines) (sym e)
 
-  pub beat-last : y .beats .0 ≡ maxBeats → {i : Intake} → i ≡ withPhase (x .intake) OVER → beatOf (machineOf t s x) l ≡ record { machine = machineOf t s (sessionOf i y); output = beatPrinted s (x .totals) l ++ ended s y }
-  unfolding beatOf
-  beat-last h k = rw (k, e) (simp (beatOf, eq-eqb (x .totals .beats .0 + 1) maxBeats (beats-are ∙ h)))
+  pub beat-last : y .lines ≡ lastLine → {i : Intake} → i ≡ withPhase (x .intake) OVER → saidOf (machineOf t s x) (beat l) ≡ record { machine = machineOf t s (sessionOf i y); output = beatPrinted s (x .totals) l ++ ended s y }
+  unfolding saidOf
+  beat-last h k = rw (k, e) (simp (saidOf, eq-eqb (x .totals .lines + 1) lastLine (lines-are ∙ h)))
 
-  pub beat-more : (y .beats .0 ≡ maxBeats → ⊥) → beatOf (machineOf t s x) l ≡ record { machine = machineOf t s (withTotals x y); output = beatPrinted s (x .totals) l }
-  unfolding beatOf
-  beat-more h = rw e (simp (beatOf, ne-eqb (x .totals .beats .0 + 1) maxBeats (λ g. h (sym beats-are ∙ g))))
+  pub beat-more : (y .lines ≡ lastLine → ⊥) → saidOf (machineOf t s x) (beat l) ≡ record { machine = machineOf t s (withTotals x y); output = beatPrinted s (x .totals) l }
+  unfolding saidOf
+  beat-more h = rw e (simp (saidOf, ne-eqb (x .totals .lines + 1) lastLine (λ g. h (sym lines-are ∙ g))))
 
 -- a beat line
 module _ (t s : List ℕ) (x : Session) (l : MaybeLent) where
@@ -85,13 +86,42 @@ module _ (t s : List ℕ) (x : Session) (l : MaybeLent) where
   unfolding lentOr
   lent-ill h = simp (lentOr, h)
 
-  pub beat-good : l .good ≡ true → beatEnd (machineOf t s x) (lentOr l) ≡ beatOf (machineOf t s x) (lentIn l)
-  unfolding beatEnd
+  pub beat-good : l .good ≡ true → saidEnd (machineOf t s x) (saysBeat (lentOr l)) ≡ saidOf (machineOf t s x) (beat (lentIn l))
+  unfolding saidEnd
   beat-good e = rw (lent-good e)
 
-  pub beat-ill : l .good ≡ false → {i : Intake} → i ≡ withPhase (x .intake) OVER → beatEnd (machineOf t s x) (lentOr l) ≡ record { machine = machineOf t s (withIntake x i); output = errorLine (x .totals .lines + 1) }
-  unfolding beatEnd
+  pub beat-ill : l .good ≡ false → {i : Intake} → i ≡ withPhase (x .intake) OVER → saidEnd (machineOf t s x) (saysBeat (lentOr l)) ≡ record { machine = machineOf t s (withIntake x i); output = errorLine (x .totals .lines + 1) }
+  unfolding saidEnd
   beat-ill e k = rw (lent-ill e, k)
+
+-- ---- calls
+
+-- a call is counted by the state that it leaves, and prints nothing
+call-counted : (s : List ℕ) (n : Totals) (b : Bool) → saidCounted s n (callSaid b) ≡ calling n (callLeft b s (n .state))
+call-counted s n true = refl
+call-counted s n false = refl
+
+call-printed : (s : List ℕ) (n : Totals) (b : Bool) → saidPrinted s n (callSaid b) ≡ []
+call-printed s n true = refl
+call-printed s n false = refl
+
+-- a line that says a call, its totals y
+module _ (t s : List ℕ) (x : Session) (b : Bool) {y : Totals} (e : y ≡ calling (x .totals) (callLeft b s (x .totals .state))) where
+  pub call-last : y .lines ≡ lastLine → {i : Intake} → i ≡ withPhase (x .intake) OVER → saidOf (machineOf t s x) (callSaid b) ≡ record { machine = machineOf t s (sessionOf i y); output = ended s y }
+  unfolding saidOf
+  call-last h k =
+      let q : x .totals .lines + 1 ≡ lastLine = ap (λ (z : Totals). z .lines) (sym e) ∙ h in
+      rw (k, e) (simp (saidOf, call-counted s (x .totals) b, call-printed s (x .totals) b, eq-eqb (x .totals .lines + 1) lastLine q))
+
+  pub call-more : (y .lines ≡ lastLine → ⊥) → saidOf (machineOf t s x) (callSaid b) ≡ record { machine = machineOf t s (withTotals x y); output = [] }
+  unfolding saidOf
+  call-more h =
+      let q : x .totals .lines + 1 ≡ y .lines = ap (λ (z : Totals). z .lines) (sym e) in
+      rw e (simp (saidOf, call-counted s (x .totals) b, call-printed s (x .totals) b, ne-eqb (x .totals .lines + 1) lastLine (λ g. h (sym q ∙ g))))
+
+-- the counts n with a call that leaves a state, which is then held as x
+pub held-called : (n : Counts) {left : State} {next : Counts} → next ≡ countsCalled n (left .channels) → {x : State} → x ≡ left → (before : State) → totalsOf next x ≡ calling (totalsOf n before) left
+held-called n e h before = rw (h, e)
 
 -- ---- the set text
 
@@ -120,6 +150,49 @@ unfolding lentOr
 lent-back none = refl
 lent-back (some l) = refl
 
+-- a line behind the line * brings something, and no text
+line-some : (o : Option Said) → lineEnding o ≡ E.Nothing → ⊥
+line-some none h = clash (cc)
+line-some (some (beat l)) h = clash (cc)
+line-some (some programEnd) h = clash (cc)
+line-some (some controlReset) h = clash (cc)
+
+line-no-text : (o : Option Said) → lineEnding o ≡ E.Text → ⊥
+line-no-text none h = clash (cc)
+line-no-text (some (beat l)) h = clash (cc)
+line-no-text (some programEnd) h = clash (cc)
+line-no-text (some controlReset) h = clash (cc)
+
+-- a beat line by what it lends
+line-beat : (o : Option Said) → lineEnding o ≡ E.Beat → o ≡ saysBeat (lentSaid o)
+line-beat none h = refl
+line-beat (some (beat l)) h = refl
+line-beat (some programEnd) h = clash (cc)
+line-beat (some controlReset) h = clash (cc)
+
+-- a call
+abbrev callEnding : Bool → Ending
+callEnding true = E.ControlReset
+callEnding false = E.ProgramEnd
+
+-- each of them brings something
+pub beat-comes : {x : Ending} → x ≡ E.Beat → x ≡ E.Nothing → ⊥
+beat-comes h g = let q : E.Beat ≡ E.Nothing = sym h ∙ g in clash (cc)
+
+pub call-comes : (b : Bool) {x : Ending} → x ≡ callEnding b → x ≡ E.Nothing → ⊥
+call-comes true h g = let q : E.ControlReset ≡ E.Nothing = sym h ∙ g in clash (cc)
+call-comes false h g = let q : E.ProgramEnd ≡ E.Nothing = sym h ∙ g in clash (cc)
+
+line-call : (b : Bool) (o : Option Said) → lineEnding o ≡ callEnding b → o ≡ some (callSaid b)
+line-call true none h = clash (cc)
+line-call true (some (beat l)) h = clash (cc)
+line-call true (some programEnd) h = clash (cc)
+line-call true (some controlReset) h = refl
+line-call false none h = clash (cc)
+line-call false (some (beat l)) h = clash (cc)
+line-call false (some programEnd) h = refl
+line-call false (some controlReset) h = clash (cc)
+
 -- a brought b, with the totals n
 module _ (t s : List ℕ) (n : Totals) {b : Brought} (a : Arrived) (e : b ≡ broughtBy a) where
   -- the machine behind it
@@ -142,7 +215,7 @@ module _ (t s : List ℕ) (n : Totals) {b : Brought} (a : Arrived) (e : b ≡ br
       go : (r : Arrival) → endingOf r ≡ E.Nothing → arrivalWorked behindEnd r ≡ standing behindEnd
       go nothing g = refl
       go (wholeText n) g = clash (cc)
-      go (beatLine o) g = clash (cc)
+      go (lineCame o) g = absurd (line-some o g)
 
   pub came-text : b .ending ≡ E.Text → cameTo ≡ opened behindEnd (take (b .size) t)
   unfolding arrivalWorked
@@ -151,16 +224,33 @@ module _ (t s : List ℕ) (n : Totals) {b : Brought} (a : Arrived) (e : b ≡ br
       go : (r : Arrival) → endingOf r ≡ E.Text → arrivalWorked behindEnd r ≡ opened behindEnd (take (sizeIn r) t)
       go nothing g = clash (cc)
       go (wholeText n) g = refl
-      go (beatLine o) g = clash (cc)
+      go (lineCame o) g = absurd (line-no-text o g)
 
-  pub came-beat : b .ending ≡ E.Beat → cameTo ≡ beatEnd behindEnd (lentOr (b .lent))
+  pub came-beat : b .ending ≡ E.Beat → cameTo ≡ saidEnd behindEnd (saysBeat (lentOr (b .lent)))
   unfolding arrivalWorked
-  came-beat h = came-as ∙ go (a .arrival) (ending-is ∙ h) ∙ ap (λ (y : Brought). beatEnd behindEnd (lentOr (y .lent))) (sym e)
+  came-beat h = came-as ∙ go (a .arrival) (ending-is ∙ h) ∙ ap (λ (y : Brought). saidEnd behindEnd (saysBeat (lentOr (y .lent)))) (sym e)
     where
-      go : (r : Arrival) → endingOf r ≡ E.Beat → arrivalWorked behindEnd r ≡ beatEnd behindEnd (lentOr (maybeLent (lentBy r)))
+      go : (r : Arrival) → endingOf r ≡ E.Beat → arrivalWorked behindEnd r ≡ saidEnd behindEnd (saysBeat (lentOr (maybeLent (lentBy r))))
       go nothing g = clash (cc)
       go (wholeText n) g = clash (cc)
-      go (beatLine o) g = ap (beatEnd behindEnd) (lent-back o)
+      go (lineCame o) g = ap (saidEnd behindEnd) (line-beat o g ∙ ap saysBeat (lent-back (lentSaid o)))
+
+  pub came-call : (c : Bool) → b .ending ≡ callEnding c → cameTo ≡ saidOf behindEnd (callSaid c)
+  unfolding arrivalWorked saidEnd
+  came-call c h = came-as ∙ go (a .arrival) (ending-is ∙ h)
+    where
+      none-such : (k : Bool) → E.Nothing ≡ callEnding k → ⊥
+      none-such true g = clash (cc)
+      none-such false g = clash (cc)
+
+      no-text : (k : Bool) → E.Text ≡ callEnding k → ⊥
+      no-text true g = clash (cc)
+      no-text false g = clash (cc)
+
+      go : (r : Arrival) → endingOf r ≡ callEnding c → arrivalWorked behindEnd r ≡ saidOf behindEnd (callSaid c)
+      go nothing g = absurd (none-such c g)
+      go (wholeText n) g = absurd (no-text c g)
+      go (lineCame o) g = rw (line-call c o g)
 
 -- the size that is told
 module _ (x : Intake) (f : FitIntake x) {b : Brought} where
@@ -175,10 +265,10 @@ pub line-as : (t s : List ℕ) (x : Session) {u : List ℕ} → u ≡ lineKept (
 unfolding lineEnd
 line-as t s x k = rw k
 
--- a session that takes in a beat line is not over after the last beat
-pub line-totals : {x : Session} → Lives x → {b : Brought} → b ≡ broughtBy (lineOver (x .intake)) → b .ending ≡ E.Beat → FitTotals (x .totals)
+-- a session that takes something in is not over after the last line
+pub line-totals : {x : Session} → Lives x → {b : Brought} → b ≡ broughtBy (lineOver (x .intake)) → (b .ending ≡ E.Nothing → ⊥) → FitTotals (x .totals)
 line-totals {x} v {b} e h = go (v .totals)
   where
     go : LiveTotals x → FitTotals (x .totals)
     go (inl f) = f
-    go (inr o) = let q : E.Nothing ≡ E.Beat = sym (ap (λ (y : Brought). y .ending) (e ∙ ap broughtBy (over-line (x .intake) (o .0)))) ∙ h in clash (cc)
+    go (inr o) = absurd (h (ap (λ (y : Brought). y .ending) (e ∙ ap broughtBy (over-line (x .intake) (o .0)))))

@@ -2,16 +2,16 @@
 use mathlib.Core.Path.{_≡_, refl, ap}
 use mathlib.Core.List.{List}
 use Prim.Native.Nat.{ℕ, zero, suc, _*_, _≤_, _<_}
-use borrow.Author.Tests.{le-leb, lt-ltb, eq-eqb}
+use borrow.Author.Tests.{le-leb, lt-ltb}
 use lib.Dec.{leb}
 use Rattle.engine.specs.Order.{maxOrders}
 use Rattle.transcript.specs.declared.totals.Totals.{Totals}
 use Rattle.transcript.specs.declared.view.View.{View}
-use Rattle.transcript.specs.Totals.{maxBeats, endBy, ended, oneIf, areFit}
+use Rattle.transcript.specs.Totals.{lastLine, endBy, ended, oneIf, areFit}
 
-pub fit-but-orders : (n : Totals) → n .beats .0 < maxBeats → n .lines ≡ n .beats .0 → n .coded ≤ n .beats .0 → leb (n .orders) (n .beats .0 * maxOrders) ≡ areFit n
+pub fit-but-orders : (n : Totals) → n .lines < lastLine → n .beats .0 ≤ n .lines → n .coded ≤ n .beats .0 → leb (n .orders) (n .beats .0 * maxOrders) ≡ areFit n
 unfolding areFit
-fit-but-orders n a l b = simp (lt-ltb _ _ a, eq-eqb _ _ l, le-leb _ _ b)
+fit-but-orders n l a b = simp (lt-ltb _ _ l, le-leb _ _ a, le-leb _ _ b)
 
 pub one-other : (n : ℕ) → (n ≡ 0 → ⊥) → 1 ≡ oneIf n
 one-other zero f = absurd (f refl)

@@ -1,4 +1,4 @@
--- A beat line: A or M, the input word, up to eight readings, up to six positions, one space apart (document 01, "On both sides of each edge"; document 02, Req 05). Definitions only.
+-- A line behind the line *: a beat line, A or M, the input word, up to eight readings, up to six positions, one space apart (document 01, "On both sides of each edge"; document 02, Req 05); or a call, PE or RS (Req 07). Definitions only.
 use mathlib.Core.Bool.{Bool, true, false, cond, _&&_, _||_}
 use mathlib.Core.List.{List, [], _∷_, _++_}
 use mathlib.Core.Option.{Option, none, some}
@@ -149,3 +149,23 @@ fieldsLent (m ∷ w ∷ fs) = lentOf (modeOf m) (wordOf w) (readingsOf fs) (posi
 
 unfoldable pub lineLent : List ℕ → Option Lent
 lineLent l = fieldsLent (fields l)
+
+-- ---- what a line says
+
+-- a beat, with what is lent for it; the end of the part program; a control reset
+pub data Said : Type 0 where
+  beat : Lent → Said
+  programEnd : Said
+  controlReset : Said
+
+abbrev pub saysBeat : Option Lent → Option Said
+saysBeat (some l) = some (beat l)
+saysBeat none = none
+
+-- PE or RS, and nothing else in the line; or a beat; none if it is ill-formed
+unfoldable pub lineSaid : List ℕ → Option Said
+lineSaid l =
+    elim (sameBytes l (bytes "PE")) [
+      | true ↦ some programEnd
+      | false ↦ elim (sameBytes l (bytes "RS")) [ true ↦ some controlReset | false ↦ saysBeat (lineLent l) ]
+    ]

@@ -1,4 +1,4 @@
--- A beat line read byte by byte, as the code does; that this comes to what BeatLine says is shown in the crate `sessions`. Behind that the words for digits that the code reads at once. Definitions only.
+-- A line behind the line * read byte by byte, as the code does; that this comes to what BeatLine says is shown in the crate `sessions`. Behind that the words for digits that the code reads at once. Definitions only.
 use mathlib.Core.Path.{_≡_}
 use mathlib.Core.Bool.{Bool, true, false, cond, _&&_, _||_}
 use mathlib.Core.List.{List, [], _∷_}
@@ -15,7 +15,7 @@ use Rattle.working.specs.Variables.{positionCount}
 use Rattle.text.specs.Byte.{CR, SPACE, isDigit}
 use Rattle.transcript.specs.declared.beat_line.HalfLine.{HalfLine}
 use Rattle.transcript.specs.declared.beat_line.Sent.{Sent}
-use Rattle.transcript.specs.BeatLine.{Lent, minus, isHex, hexDigit, sending, leftOff}
+use Rattle.transcript.specs.BeatLine.{Lent, minus, isHex, hexDigit, sending, leftOff, Said, programEnd, controlReset, saysBeat}
 
 -- fields are counted from 0: the mode, the input word, the readings, the positions
 abbrev pub firstPosition : ℕ
@@ -100,11 +100,42 @@ spaceAfter r =
       | false ↦ illFormed r
     ]
 
--- the mode's letter
+-- PE and RS have stages of their own, beyond the ill-formed: the first letter, both, and a CR behind these
+abbrev pub programEndStage : ℕ
+programEndStage = 6
+
+abbrev pub controlResetStage : ℕ
+controlResetStage = 9
+
+-- the stage behind the first byte of a line that is no mode
+unfoldable pub letterStage : ℕ → ℕ
+letterStage b = cond (eqb b 80) 5 (cond (eqb b 82) 8 3)
+
+-- this stage, if the byte is the one that may stand there
+abbrev pub followed : ℕ → ℕ → ℕ → ℕ
+followed b wanted next = cond (eqb b wanted) next 3
+
+-- the stage behind the next byte of PE, of RS, of an ill-formed line
+unfoldable pub callStage : ℕ → ℕ → ℕ
+callStage s b =
+    elim (eqb s 5) [
+      | true ↦ followed b 69 programEndStage
+      | false ↦
+          elim (eqb s 8) [
+            | true ↦ followed b 83 controlResetStage
+            | false ↦ elim (eqb s programEndStage) [ true ↦ followed b CR 7 | false ↦ elim (eqb s controlResetStage) [ true ↦ followed b CR 10 | false ↦ 3 ] ]
+          ]
+    ]
+
+-- the first byte of a line: the mode's letter, or that of a call
 unfoldable pub modeByte : HalfLine → ℕ → HalfLine
 modeByte r b =
-    elim (eqb (r .stage) 0 && (eqb b 65 || eqb b 77)) [
-      | true ↦ record { field = r .field; stage = 2; automatic = eqb b 65; word = r .word; negative = r .negative; value = r .value; sent = r .sent; positions = r .positions }
+    elim (eqb (r .stage) 0) [
+      | true ↦
+          elim (eqb b 65 || eqb b 77) [
+            | true ↦ record { field = r .field; stage = 2; automatic = eqb b 65; word = r .word; negative = r .negative; value = r .value; sent = r .sent; positions = r .positions }
+            | false ↦ withStage r (letterStage b)
+          ]
       | false ↦ illFormed r
     ]
 
@@ -154,7 +185,7 @@ fieldByte r b = elim (eqb (r .field) 0) [ true ↦ modeByte r b | false ↦ elim
 unfoldable pub readByte : HalfLine → ℕ → HalfLine
 readByte r b =
     elim (leb 3 (r .stage)) [
-      | true ↦ illFormed r
+      | true ↦ withStage r (callStage (r .stage) b)
       | false ↦
           elim (eqb b SPACE) [
             | true ↦ spaceAfter (closed r)
@@ -173,15 +204,23 @@ isUntouched r = eqb (r .field) 0 && eqb (r .stage) 0
 
 -- at the line's LF a CR before it is dropped
 unfoldable pub withoutCR : HalfLine → HalfLine
-withoutCR r = elim (eqb (r .stage) 4) [ true ↦ withStage r 2 | false ↦ r ]
+withoutCR r =
+    elim (eqb (r .stage) 4) [
+      | true ↦ withStage r 2
+      | false ↦ elim (eqb (r .stage) 7) [ true ↦ withStage r programEndStage | false ↦ elim (eqb (r .stage) 10) [ true ↦ withStage r controlResetStage | false ↦ r ] ]
+    ]
 
--- what a line that ends there lends: it has a mode and an input word
+-- what a beat line that ends there lends: it has a mode and an input word
 unfoldable pub readLent : HalfLine → Option Lent
 readLent r =
     elim (eqb (closed r .stage) 2 && leb 1 (r .field)) [
       | true ↦ some (record { automatic = closed r .automatic; word = closed r .word; sent = closed r .sent; positions = closed r .positions })
       | false ↦ none
     ]
+
+-- what it says
+unfoldable pub readSaid : HalfLine → Option Said
+readSaid r = elim (eqb (r .stage) programEndStage) [ true ↦ some programEnd | false ↦ elim (eqb (r .stage) controlResetStage) [ true ↦ some controlReset | false ↦ saysBeat (readLent r) ] ]
 
 -- ---- digits read at once
 

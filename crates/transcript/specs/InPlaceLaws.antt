@@ -29,7 +29,7 @@ abbrev pub LivesOn : Intake → Counts → Type 0
 LivesOn i n = (x : State) → Lives (sessionIn i n x)
 
 pub fit-counts : (n : Counts) {x : State} → FitTotals (totalsOf n x) → FitCounts n
-fit-counts n f y = record { beats = f .beats; lines = f .lines; coded = f .coded; orders = f .orders }
+fit-counts n f y = record { lines = f .lines; beats = f .beats; coded = f .coded; orders = f .orders }
 
 pub lives-on : {i : Intake} (n : Counts) {x : State} → Lives (sessionIn i n x) → LivesOn i n
 lives-on {i} n {x} v y = record { intake = v .intake; totals = go (v .totals) }
@@ -42,10 +42,10 @@ pub fit-on : (i : Intake) (n : Counts) (x : State) → isFit (sessionIn i n x) �
 unfolding isFit areFit
 fit-on i n x h y = h
 
--- what a line's end brought may be worked: its text is kept, and a beat may be counted
+-- what a line's end brought may be worked: its text is kept, and a line may be counted
 pub record MayCome (b : Brought) (n : Counts) : Type 0 where
   pub kept : b .size ≤ keptSize
-  pub counts : b .ending ≡ E.Beat → FitCounts n
+  pub counts : (b .ending ≡ E.Nothing → ⊥) → FitCounts n
 
 -- ---- taken apart
 

@@ -1,4 +1,4 @@
--- The input of a session as the code takes it in: set text up to the line *, then beat lines, each in parts of any size, and what the end of a line brings. Nothing is worked or printed here. Definitions only.
+-- The input of a session as the code takes it in: set text up to the line *, then the lines behind it, each in parts of any size, and what the end of a line brings. Nothing is worked or printed here. Definitions only.
 use mathlib.Core.Bool.{Bool, true, false, _&&_}
 use mathlib.Core.List.{List}
 use mathlib.Core.Option.{Option}
@@ -10,11 +10,11 @@ use Rattle.values.specs.PutAt.{putAt}
 use Rattle.transcript.specs.declared.set_text.Place.{Place}
 use Rattle.transcript.specs.declared.beat_line.HalfLine.{HalfLine}
 use Rattle.transcript.specs.declared.intake.Intake.{Intake}
-use Rattle.transcript.specs.BeatLine.{Lent}
+use Rattle.transcript.specs.BeatLine.{Said}
 use Rattle.transcript.specs.SetText.{keptSize, noPlace, starEnds, placeOn, placeEnd, lastSize}
-use Rattle.transcript.specs.HalfLine.{lastField, noHalfLine, readOn, isUntouched, withoutCR, readLent}
+use Rattle.transcript.specs.HalfLine.{lastField, noHalfLine, readOn, isUntouched, withoutCR, readSaid}
 
--- the phases: set text, beat lines, over
+-- the phases: set text, the lines behind the line *, over
 abbrev pub TEXT : ℕ
 TEXT = 0
 
@@ -58,11 +58,11 @@ bytesKept x t l = elim (eqb (x .phase) TEXT) [ true ↦ putAt t (x .place .size)
 
 -- ---- the end of a line, and of the input
 
--- what it brings: nothing; the whole set text, so many bytes of what is kept; a beat line, and what it lends if it is well-formed
+-- what it brings: nothing; the whole set text, so many bytes of what is kept; a line behind the line *, and what it says if it is well-formed
 pub data Arrival : Type 0 where
   nothing : Arrival
   wholeText : ℕ → Arrival
-  beatLine : Option Lent → Arrival
+  lineCame : Option Said → Arrival
 
 pub record Arrived : Type 0 where
   pub intake : Intake
@@ -71,13 +71,13 @@ pub record Arrived : Type 0 where
 abbrev pub nothingCame : Intake → Arrived
 nothingCame x = record { intake = x; arrival = nothing }
 
--- n bytes are the set text, and beat lines follow
+-- n bytes are the set text, and the lines behind the line * follow
 abbrev pub textWhole : Intake → ℕ → Arrived
 textWhole x n = record { intake = withPhase (withHalfLine x noHalfLine) BEATS; arrival = wholeText n }
 
--- a beat line that was read
-abbrev pub beatLineOver : Intake → HalfLine → Arrived
-beatLineOver x r = record { intake = withHalfLine x noHalfLine; arrival = beatLine (readLent r) }
+-- a line behind the line * that was read
+abbrev pub lineRead : Intake → HalfLine → Arrived
+lineRead x r = record { intake = withHalfLine x noHalfLine; arrival = lineCame (readSaid r) }
 
 -- the LF of a line of set text: behind the line * the text before it is whole
 unfoldable pub textLineOver : Intake → Arrived
@@ -91,7 +91,7 @@ unfoldable pub lineOver : Intake → Arrived
 lineOver x =
     elim (eqb (x .phase) TEXT) [
       | true ↦ textLineOver x
-      | false ↦ elim (eqb (x .phase) BEATS) [ true ↦ beatLineOver x (withoutCR (x .half)) | false ↦ nothingCame x ]
+      | false ↦ elim (eqb (x .phase) BEATS) [ true ↦ lineRead x (withoutCR (x .half)) | false ↦ nothingCame x ]
     ]
 
 unfoldable pub lineKept : Intake → List ℕ → List ℕ
@@ -104,7 +104,7 @@ inputOver x =
       | true ↦ textWhole x (lastSize (x .place))
       | false ↦
           elim (eqb (x .phase) BEATS) [
-            | true ↦ elim (isUntouched (x .half)) [ true ↦ nothingCame x | false ↦ beatLineOver x (x .half) ]
+            | true ↦ elim (isUntouched (x .half)) [ true ↦ nothingCame x | false ↦ lineRead x (x .half) ]
             | false ↦ nothingCame x
           ]
     ]

@@ -16,7 +16,7 @@ use Rattle.transcript.specs.declared.intake.Intake.{Intake}
 use Rattle.transcript.specs.SetText.{keptSize, starEnds, placeOn, placeEnd, lastSize}
 use Rattle.transcript.specs.BeatLine.{isHex}
 use Rattle.transcript.specs.HalfLine.{lastField, noHalfLine, isReading, eightDigits, withField, closed, spaceAfter, modeByte, minusByte, digitByte, numberByte, digitsSoFar, hexByte, readingByte, fieldByte, readByte, readOn, greatest, isUntouched, withoutCR}
-use Rattle.transcript.specs.Intake.{TEXT, BEATS, OVER, withPhase, withPlace, withHalfLine, intakeFits, bytesTaken, bytesKept, Arrived, nothingCame, textWhole, textLineOver, textLineKept, beatLineOver, lineOver, lineKept, inputOver}
+use Rattle.transcript.specs.Intake.{TEXT, BEATS, OVER, withPhase, withPlace, withHalfLine, intakeFits, bytesTaken, bytesKept, Arrived, nothingCame, textWhole, textLineOver, textLineKept, lineRead, lineOver, lineKept, inputOver}
 use Rattle.transcript.specs.IntakeAnswers.{sizeIn}
 
 -- ---- a line's fields: a space begins the next only below the fifteenth
@@ -50,7 +50,7 @@ reading-narrow r b n =
 field-narrow : (r : HalfLine) (b : ℕ) → Narrow r → Narrow (fieldByte r b)
 unfolding fieldByte modeByte numberByte minusByte digitByte
 field-narrow r b n =
-    either Narrow (eqb (r .field) 0) (λ e. either Narrow (eqb (r .stage) 0 && (eqb b 65 || eqb b 77)) (λ g. n) (λ g. n)) λ e.
+    either Narrow (eqb (r .field) 0) (λ e. either Narrow (eqb (r .stage) 0) (λ g. either Narrow (eqb b 65 || eqb b 77) (λ h. n) (λ h. n)) (λ g. n)) λ e.
     either Narrow (isReading (r .field)) (λ d. reading-narrow r b n) λ d.
     either Narrow (isDigit b) (λ g. n) λ g.
     either Narrow (eqb b 45) (λ h. either Narrow (eqb (r .stage) 0 && leb 2 (r .field)) (λ k. n) (λ k. n)) (λ h. n)
@@ -179,7 +179,7 @@ module _ (x : Intake) where
     unfolding bytesTaken
     beats-bytes l = simp (bytesTaken, no-text, eq-eqb _ _ h)
 
-    pub beats-line : lineOver x ≡ beatLineOver x (withoutCR (x .half))
+    pub beats-line : lineOver x ≡ lineRead x (withoutCR (x .half))
     unfolding lineOver
     beats-line = simp (lineOver, no-text, eq-eqb _ _ h)
 
@@ -187,7 +187,7 @@ module _ (x : Intake) where
     unfolding inputOver
     beats-new u = simp (inputOver, no-text, eq-eqb _ _ h) (simp u)
 
-    pub beats-input : isUntouched (x .half) ≡ false → inputOver x ≡ beatLineOver x (x .half)
+    pub beats-input : isUntouched (x .half) ≡ false → inputOver x ≡ lineRead x (x .half)
     unfolding inputOver
     beats-input u = simp (inputOver, no-text, eq-eqb _ _ h) (simp u)
 

@@ -10,12 +10,12 @@ use Rattle.reader.specs.Load.{loadAnswer, loadSet}
 use Rattle.transcript.specs.declared.intake.Intake.{Intake}
 use Rattle.transcript.specs.declared.session.Session.{Session}
 use Rattle.transcript.specs.declared.totals.Totals.{Totals}
-use Rattle.transcript.specs.BeatLine.{Lent}
+use Rattle.transcript.specs.BeatLine.{Said}
 use Rattle.transcript.specs.Output.{loadLine, errorLine, outSize, lineRoom}
-use Rattle.transcript.specs.Totals.{maxBeats, noTotals, ended, areFit}
+use Rattle.transcript.specs.Totals.{lastLine, noTotals, ended, areFit}
 use Rattle.transcript.specs.declared.view.View.{View}
-use Rattle.transcript.specs.Tally.{counted, answerOf, beatPrinted}
-use Rattle.transcript.specs.Intake.{BEATS, OVER, noIntake, withPhase, intakeFits, bytesTaken, bytesKept, Arrival, nothing, wholeText, beatLine, lineOver, lineKept, inputOver}
+use Rattle.transcript.specs.Tally.{saidCounted, saidPrinted}
+use Rattle.transcript.specs.Intake.{BEATS, OVER, noIntake, withPhase, intakeFits, bytesTaken, bytesKept, Arrival, nothing, wholeText, lineCame, lineOver, lineKept, inputOver}
 
 -- the kept text, the set, and what is kept beside them
 pub record Machine : Type 0 where
@@ -61,22 +61,22 @@ opened m t =
       | suc c ↦ record { machine = record { text = m .text; set = loadSet t; session = stopped (m .session) }; output = loadLine (suc c) (loadAnswer t .line) }
     ]
 
--- a beat line that lends l
-unfoldable pub beatOf : Machine → Lent → Fed
-beatOf m l =
-    let n = counted (m .session .totals) (answerOf (m .set) (m .session .totals) l) in
-    let text = beatPrinted (m .set) (m .session .totals) l in
-    elim (eqb (n .beats .0) maxBeats) [
+-- a line that says x
+unfoldable pub saidOf : Machine → Said → Fed
+saidOf m x =
+    let n = saidCounted (m .set) (m .session .totals) x in
+    let text = saidPrinted (m .set) (m .session .totals) x in
+    elim (eqb (n .lines) lastLine) [
       | true ↦ record { machine = record { text = m .text; set = m .set; session = stopped (withTotals (m .session) n) }; output = text ++ ended (m .set) n }
       | false ↦ record { machine = record { text = m .text; set = m .set; session = withTotals (m .session) n }; output = text }
     ]
 
--- a beat line, ill-formed or not
-unfoldable pub beatEnd : Machine → Option Lent → Fed
-beatEnd m o =
+-- a line behind the line *, ill-formed or not
+unfoldable pub saidEnd : Machine → Option Said → Fed
+saidEnd m o =
     elim o [
       | none ↦ record { machine = record { text = m .text; set = m .set; session = stopped (m .session) }; output = errorLine (m .session .totals .lines + 1) }
-      | some l ↦ beatOf m l
+      | some x ↦ saidOf m x
     ]
 
 -- what the end of a line, or of the input, brought
@@ -85,7 +85,7 @@ arrivalWorked m a =
     elim a [
       | nothing ↦ standing m
       | wholeText n ↦ opened m (take n (m .text))
-      | beatLine o ↦ beatEnd m o
+      | lineCame o ↦ saidEnd m o
     ]
 
 -- ---- input
@@ -113,7 +113,7 @@ fedLines m [] = record { machine = m; output = [] }
 fedLines m (l ∷ []) = record { machine = chunk m l; output = [] }
 fedLines m (l ∷ k ∷ ls) = let f = lineEnd (chunk m l) in behind (f .output) (fedLines (f .machine) (k ∷ ls))
 
--- the end, where beat lines are still awaited
+-- the end, where lines are still awaited
 unfoldable pub endAfter : List ℕ → Session → List ℕ
 endAfter s x = elim (eqb (x .intake .phase) BEATS) [ true ↦ ended s (x .totals) | false ↦ [] ]
 

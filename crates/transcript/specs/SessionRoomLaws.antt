@@ -19,17 +19,17 @@ use Rattle.engine.specs.Sound.{isSound}
 use Rattle.engine.specs.Status.{statusOf}
 use Rattle.reader.specs.Load.{loadAnswer}
 use Rattle.transcript.specs.declared.session.Session.{Session}
-use Rattle.transcript.specs.BeatLine.{Lent}
+use Rattle.transcript.specs.BeatLine.{Lent, Said, beat, programEnd, controlReset}
 use Rattle.transcript.specs.Output.{beatRoom, endRoom, lineRoom, outSize}
 use Rattle.transcript.specs.OutputLaws.{load-room, error-room, code-room, orders-room, end-room, rows-room}
 use Rattle.transcript.specs.declared.totals.Totals.{Totals}
 use Rattle.transcript.specs.declared.view.View.{View}
 use Rattle.transcript.specs.declared.view.View.the-variants.{Run, Status}
-use Rattle.transcript.specs.Totals.{maxBeats, picture, endBy, ended, areFit}
-use Rattle.transcript.specs.TotalsLaws.{FitTotals, fit-totals, totals-fit, counting-fit}
-use Rattle.transcript.specs.Tally.{counted, givenBy, answerOf, bufferOf, beatText, printedBy, beatPrinted}
-use Rattle.transcript.specs.Machine.{Machine, Fed, isFit, opened, beatOf, beatEnd, chunk, lineEnd, finished, finishedText, stopped, standing, arrivalWorked, keeping, endAfter, lastOutput}
-use Rattle.transcript.specs.Intake.{BEATS, OVER, intakeFits, bytesTaken, Arrival, nothing, wholeText, beatLine, lineOver, lineKept, inputOver}
+use Rattle.transcript.specs.Totals.{lastLine, picture, endBy, ended, areFit}
+use Rattle.transcript.specs.TotalsLaws.{FitTotals, fit-totals, totals-fit, counting-fit, calling-fit}
+use Rattle.transcript.specs.Tally.{givenBy, answerOf, bufferOf, beatText, printedBy, beatPrinted, saidCounted, saidPrinted}
+use Rattle.transcript.specs.Machine.{Machine, Fed, isFit, opened, saidOf, saidEnd, chunk, lineEnd, finished, finishedText, stopped, standing, arrivalWorked, keeping, endAfter, lastOutput}
+use Rattle.transcript.specs.Intake.{BEATS, OVER, intakeFits, bytesTaken, Arrival, nothing, wholeText, lineCame, lineOver, lineKept, inputOver}
 use Rattle.transcript.specs.IntakeLaws.{FitIntake, intake-parts, intake-whole, phase-fit, bytes-fit, line-fit, over-bytes, over-bytes-kept, over-line as intake-line, over-line-kept}
 use Rattle.transcript.specs.Machine.{withIntake}
 use Rattle.transcript.specs.OrdersLaws.{orders-within}
@@ -74,6 +74,12 @@ pub beat-printed-room : (s : List ℕ) (n : Totals) (l : Lent) → length (beatP
 unfolding beatPrinted
 beat-printed-room s n l = printed-room (n .view) (beatText s n l) (beat-room s n l)
 
+-- nor of any line
+said-room : (s : List ℕ) (n : Totals) (x : Said) → Short beatRoom (saidPrinted s n x)
+said-room s n (beat l) = beat-printed-room s n l
+said-room s n programEnd = omega arith
+said-room s n controlReset = omega arith
+
 -- a picture has at most 32 lines
 pub status-count : (s : List ℕ) (st : State) → statusOf s st .count ≤ maxLines
 unfolding statusOf
@@ -98,18 +104,18 @@ ended-room s n = end-by-room (n .view) s n
 abbrev Prints : ℕ → Fed → Type 0
 Prints n f = length (f .output) ≤ n
 
-beatOf-room : (m : Machine) (l : Lent) → Prints lineRoom (beatOf m l)
-unfolding beatOf
-beatOf-room m l =
-    let n = counted (m .session .totals) (answerOf (m .set) (m .session .totals) l) in
-    let a = beat-printed-room (m .set) (m .session .totals) l in
+saidOf-room : (m : Machine) (x : Said) → Prints lineRoom (saidOf m x)
+unfolding saidOf
+saidOf-room m x =
+    let n = saidCounted (m .set) (m .session .totals) x in
+    let a = said-room (m .set) (m .session .totals) x in
     let b = ended-room (m .set) n in
-    either (Prints lineRoom) (eqb (n .beats .0) maxBeats) (λ e. simp length-append (omega arith)) (λ e. omega arith)
+    either (Prints lineRoom) (eqb (n .lines) lastLine) (λ e. simp length-append (omega arith)) (λ e. omega arith)
 
-beat-end-room : (m : Machine) (o : Option Lent) → length (beatEnd m o .output) ≤ lineRoom
-unfolding beatEnd
-beat-end-room m none = let a = error-room (m .session .totals .lines + 1) in omega arith
-beat-end-room m (some l) = beatOf-room m l
+said-end-room : (m : Machine) (o : Option Said) → length (saidEnd m o .output) ≤ lineRoom
+unfolding saidEnd
+said-end-room m none = let a = error-room (m .session .totals .lines + 1) in omega arith
+said-end-room m (some x) = saidOf-room m x
 
 opened-room : (m : Machine) (t : List ℕ) → length (opened m t .output) ≤ lineRoom
 unfolding opened
@@ -119,7 +125,7 @@ pub arrival-room : (m : Machine) (a : Arrival) → Prints lineRoom (arrivalWorke
 unfolding arrivalWorked
 arrival-room m nothing = omega arith
 arrival-room m (wholeText n) = opened-room m (take n (m .text))
-arrival-room m (beatLine o) = beat-end-room m o
+arrival-room m (lineCame o) = said-end-room m o
 
 -- a line of input prints at most this much
 pub line-room : (m : Machine) → length (lineEnd m .output) ≤ lineRoom
@@ -167,11 +173,11 @@ pub fit-whole : (x : Session) → Fit x → isFit x ≡ true
 unfolding isFit
 fit-whole x f = and-true (intake-whole (x .intake) (f .intake)) (totals-fit (x .totals) (f .totals))
 
--- totals that are fit, or those after the last beat, of a session that is over
+-- totals that are fit, or those after the last line, of a session that is over
 abbrev pub LiveTotals : Session → Type 0
-LiveTotals x = FitTotals (x .totals) ⊎ ((x .intake .phase ≡ OVER) × (x .totals .beats .0 ≡ maxBeats))
+LiveTotals x = FitTotals (x .totals) ⊎ ((x .intake .phase ≡ OVER) × (x .totals .lines ≡ lastLine))
 
--- fit, or over after the last beat
+-- fit, or over after the last line
 pub record Lives (x : Session) : Type 0 where
   pub intake : FitIntake (x .intake)
   pub totals : LiveTotals x
@@ -184,23 +190,26 @@ fit-lives f = record { intake = f .intake; totals = inl (f .totals) }
 abbrev FedLives : Fed → Type 0
 FedLives f = Lives (f .machine .session)
 
-beatOf-lives : (m : Machine) (l : Lent) → Fit (m .session) → FedLives (beatOf m l)
-unfolding beatOf
-beatOf-lives m l f =
-    let x = m .session in
-    let a = answerOf (m .set) (x .totals) l in
-    let n = counted (x .totals) a in
-    let o = beat-orders (m .set) (x .totals) l in
-    either FedLives (eqb (n .beats .0) maxBeats) (λ e. record { intake = phase-fit OVER (f .intake); totals = inr (refl, eqb-true (n .beats .0) maxBeats e) })
-    (λ e. record { intake = f .intake; totals = inl (counting-fit (x .totals) (a .code) (a .orders) (a .state) (f .totals) o (eqb-false (n .beats .0) maxBeats e)) })
+-- before the last line the totals stay fit
+said-fit : (s : List ℕ) (n : Totals) (x : Said) → FitTotals n → (saidCounted s n x .lines ≡ lastLine → ⊥) → FitTotals (saidCounted s n x)
+said-fit s n (beat l) f h = let a = answerOf s n l in counting-fit n (a .code) (a .orders) (a .state) f (beat-orders s n l) h
+said-fit s n programEnd f h = calling-fit n _ f h
+said-fit s n controlReset f h = calling-fit n _ f h
+
+saidOf-lives : (m : Machine) (x : Said) → Fit (m .session) → FedLives (saidOf m x)
+unfolding saidOf
+saidOf-lives m x f =
+    let n = saidCounted (m .set) (m .session .totals) x in
+    either FedLives (eqb (n .lines) lastLine) (λ e. record { intake = phase-fit OVER (f .intake); totals = inr (refl, eqb-true (n .lines) lastLine e) })
+    (λ e. record { intake = f .intake; totals = inl (said-fit (m .set) (m .session .totals) x (f .totals) (eqb-false (n .lines) lastLine e)) })
 
 stopped-lives : (x : Session) → Fit x → Lives (stopped x)
 stopped-lives x f = record { intake = phase-fit OVER (f .intake); totals = inl (f .totals) }
 
-beatEnd-lives : (m : Machine) (o : Option Lent) → Fit (m .session) → FedLives (beatEnd m o)
-unfolding beatEnd
-beatEnd-lives m none f = stopped-lives (m .session) f
-beatEnd-lives m (some l) f = beatOf-lives m l f
+saidEnd-lives : (m : Machine) (o : Option Said) → Fit (m .session) → FedLives (saidEnd m o)
+unfolding saidEnd
+saidEnd-lives m none f = stopped-lives (m .session) f
+saidEnd-lives m (some x) f = saidOf-lives m x f
 
 opened-lives : (m : Machine) (t : List ℕ) → Fit (m .session) → FedLives (opened m t)
 unfolding opened
@@ -210,7 +219,7 @@ arrival-lives : (m : Machine) (a : Arrival) → Fit (m .session) → FedLives (a
 unfolding arrivalWorked
 arrival-lives m nothing f = fit-lives f
 arrival-lives m (wholeText n) f = opened-lives m (take n (m .text)) f
-arrival-lives m (beatLine o) f = beatEnd-lives m o f
+arrival-lives m (lineCame o) f = saidEnd-lives m o f
 
 -- ---- over
 

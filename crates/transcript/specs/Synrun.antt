@@ -1,29 +1,29 @@
--- All that synrun prints, and synstat, from all that it reads (document 01, "On both sides of each edge"; document 02, Req 06). Definitions only.
+-- All that synrun prints, and synstat, from all that it reads (document 01, "On both sides of each edge"; document 02, Req 06 and 07). Definitions only.
 use mathlib.Core.Bool.{true, false}
 use mathlib.Core.List.{List, [], _∷_, _++_}
 use mathlib.Core.Option.{none, some}
 use Prim.Native.Nat.{ℕ, zero, suc, _+_}
 use lib.Dec.{eqb}
 use Rattle.reader.specs.Load.{loadAnswer, loadSet}
-use Rattle.transcript.specs.BeatLine.{lineLent}
+use Rattle.transcript.specs.BeatLine.{lineSaid}
 use Rattle.transcript.specs.Output.{loadLine, errorLine}
 use Rattle.transcript.specs.declared.totals.Totals.{Totals}
-use Rattle.transcript.specs.Totals.{maxBeats, noTotals, ended}
+use Rattle.transcript.specs.Totals.{lastLine, noTotals, ended}
 use Rattle.transcript.specs.declared.view.View.{View}
 use Rattle.transcript.specs.declared.view.View.the-variants.{Run, Status}
-use Rattle.transcript.specs.Tally.{counted, answerOf, beatPrinted}
+use Rattle.transcript.specs.Tally.{saidCounted, saidPrinted}
 use Rattle.transcript.specs.Input.{Input, inputOf}
 
--- the beats of the lines left
+-- the lines left: beats and calls
 unfoldable pub beatsText : List ℕ → Totals → List (List ℕ) → List ℕ
 beatsText s n [] = ended s n
 beatsText s n (l ∷ ls) =
-    elim (eqb (n .beats .0) maxBeats) [
+    elim (eqb (n .lines) lastLine) [
       | true ↦ ended s n
       | false ↦
-          elim (lineLent l) [
+          elim (lineSaid l) [
             | none ↦ errorLine (n .lines + 1)
-            | some x ↦ beatPrinted s n x ++ beatsText s (counted n (answerOf s n x)) ls
+            | some x ↦ saidPrinted s n x ++ beatsText s (saidCounted s n x) ls
           ]
     ]
 

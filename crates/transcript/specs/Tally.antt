@@ -1,17 +1,18 @@
--- A beat of a session, counted, and what is printed of it (document 01, "On both sides of each edge"). Definitions only.
+-- A line of a session worked: a beat, counted, and what is printed of it; a call, which prints nothing and is no beat (document 01, "On both sides of each edge"; document 02, Req 07). Definitions only.
 use mathlib.Core.List.{List, [], _++_, map}
 use Prim.Native.Nat.{ℕ, _+_}
 use lib.ListN.{replicate}
 use Rattle.couplers.specs.declared.reading.Reading.{Reading}
 use Rattle.transcript.specs.declared.beat_line.Sent.{Sent}
-use Rattle.transcript.specs.BeatLine.{Lent}
+use Rattle.transcript.specs.BeatLine.{Lent, Said, beat, programEnd, controlReset}
 use Rattle.engine.specs.declared.one_beat.Beaten.{Beaten}
+use Rattle.engine.specs.Calls.{programEndCall, controlResetCall}
 use Rattle.engine.specs.Beat.{bufferSize, Given, beatAnswer, beatBuffer}
 use Rattle.transcript.specs.Output.{codeLine, orderLines}
 use Rattle.transcript.specs.declared.view.View.{View}
 use Rattle.transcript.specs.declared.view.View.the-variants.{Run, Status}
 use Rattle.transcript.specs.declared.totals.Totals.{Totals}
-use Rattle.transcript.specs.Totals.{counting}
+use Rattle.transcript.specs.Totals.{counting, calling}
 
 -- the totals with what a beat answers
 abbrev pub counted : Totals → Beaten → Totals
@@ -43,3 +44,17 @@ printedBy Status text = []
 
 unfoldable pub beatPrinted : List ℕ → Totals → Lent → List ℕ
 beatPrinted s n l = printedBy (n .view) (beatText s n l)
+
+-- ---- by what the line says
+
+-- the totals with it; a call that is refused leaves the state as it is
+abbrev pub saidCounted : List ℕ → Totals → Said → Totals
+saidCounted s n (beat l) = counted n (answerOf s n l)
+saidCounted s n programEnd = calling n (programEndCall s (n .state) .state)
+saidCounted s n controlReset = calling n (controlResetCall s (n .state) .state)
+
+-- what is printed of it
+abbrev pub saidPrinted : List ℕ → Totals → Said → List ℕ
+saidPrinted s n (beat l) = beatPrinted s n l
+saidPrinted s n programEnd = []
+saidPrinted s n controlReset = []

@@ -1,11 +1,11 @@
-// A beat line, read byte by byte, for it has no greatest length and comes in parts; digits that stand together are read at once.
+// A line behind the line *, a beat line or a call, read byte by byte, for it has no greatest length and comes in parts; digits that stand together are read at once.
 ghost use mathlib.Core.Path.{_≡_};
 ghost use mathlib.Core.Bool.{true, false};
 ghost use Prim.Native.Nat.{_+_, _*_, _≤_, _<_, min};
 ghost use lib.ListN.{length, getD, set, drop};
 ghost use Rattle.text.specs.Byte.{isDigit};
 ghost use Rattle.transcript.specs.BeatLine.{isHex, hexDigit, sending, leftOff};
-ghost use Rattle.transcript.specs.HalfLine.{noHalfLine, withStage, illFormed, highest, isReading, readingBy, greatest, signed, withField, closed, spaceAfter, modeByte, minusByte, digitByte, numberByte, readingStage, digitsSoFar, hexByte, readingByte, fieldByte, readByte, readOn, isUntouched, withoutCR, readLent, withReading, eightDigits, withValue, IsNumber, InReading};
+ghost use Rattle.transcript.specs.HalfLine.{noHalfLine, withStage, illFormed, highest, isReading, readingBy, greatest, signed, withField, closed, spaceAfter, letterStage, followed, callStage, modeByte, minusByte, digitByte, numberByte, readingStage, digitsSoFar, hexByte, readingByte, fieldByte, readByte, readOn, isUntouched, withoutCR, readLent, withReading, eightDigits, withValue, IsNumber, InReading};
 ghost use Rattle.transcript.specs.MaybeLent.{maybeLent};
 ghost use mathlib.Core.Option.{none};
 use couplers::channel::CHANNELS;
@@ -45,6 +45,12 @@ const EIGHT_DIGITS: u64 = 4294967296;
 
 const SHORT_VALUE: u64 = 8589934592;
 
+const E: u8 = 69;
+
+const P: u8 = 80;
+
+const R: u8 = 82;
+
 // The stages of a field: nothing of it, its minus, what may end it; the line is ill-formed; a CR stands behind it.
 const NOTHING: u8 = 0;
 
@@ -56,12 +62,25 @@ const ILL: u8 = 3;
 
 const RETURN: u8 = 4;
 
+// Those of PE and of RS: the first letter, both, and a CR behind these.
+const P_READ: u8 = 5;
+
+pub const PROGRAM_END: u8 = 6;
+
+const PROGRAM_END_RETURN: u8 = 7;
+
+const R_READ: u8 = 8;
+
+pub const CONTROL_RESET: u8 = 9;
+
+const CONTROL_RESET_RETURN: u8 = 10;
+
 // What a channel sends.
 pub struct Sent {
     pub reading: Reading,
 }
 
-// A beat line so far. `value` has the digits of the field under way.
+// A line so far. `value` has the digits of the field under way.
 pub struct HalfLine {
     pub field: u8,
     pub stage: u8,
@@ -282,7 +301,43 @@ fn space_after(r: HalfLine) -> HalfLine
     x
 }
 
-// The mode's letter.
+// The stage behind the first byte of a line that is no mode.
+fn letter_stage(b: u8) -> u8
+    ensures { λ x. ⌜ x ≡ letterStage b ⌝ }
+{
+    if b == P {
+        return P_READ;
+    }
+    if b == R { R_READ } else { ILL }
+}
+
+// This stage, if the byte is the one that may stand there.
+fn follow(b: u8, wanted: u8, next: u8) -> u8
+    ensures { λ x. ⌜ x ≡ followed b wanted next ⌝ }
+{
+    if b == wanted { next } else { ILL }
+}
+
+// The stage behind the next byte of PE, of RS, of an ill-formed line.
+fn call_stage(stage: u8, b: u8) -> u8
+    ensures { λ x. ⌜ x ≡ callStage stage b ⌝ }
+{
+    if stage == P_READ {
+        return follow(b, E, PROGRAM_END);
+    }
+    if stage == R_READ {
+        return follow(b, S, CONTROL_RESET);
+    }
+    if stage == PROGRAM_END {
+        return follow(b, CR, PROGRAM_END_RETURN);
+    }
+    if stage == CONTROL_RESET {
+        return follow(b, CR, CONTROL_RESET_RETURN);
+    }
+    ILL
+}
+
+// The first byte of a line: the mode's letter, or that of a call.
 fn mode_byte(r: HalfLine, b: u8) -> HalfLine
     ensures { λ x. ⌜ x ≡ modeByte r b ⌝ }
 {
@@ -297,7 +352,7 @@ fn mode_byte(r: HalfLine, b: u8) -> HalfLine
         return x;
     }
     if b != M {
-        return ill_formed(r);
+        return with_stage(r, letter_stage(b));
     }
     x.automatic = false;
     x
@@ -459,7 +514,7 @@ fn read_byte(r: HalfLine, b: u8) -> HalfLine
 {
     let stage = r.stage;
     if ILL <= stage {
-        return ill_formed(r);
+        return with_stage(r, call_stage(stage, b));
     }
     if b == SPACE {
         return space_after(close(r));
@@ -636,8 +691,17 @@ pub fn without_cr(r: HalfLine) -> HalfLine
     ensures { λ x. ⌜ x ≡ withoutCR r ⌝ }
 {
     let stage = r.stage;
+    if stage < RETURN {
+        return r;
+    }
     if stage == RETURN {
         return with_stage(r, ENDABLE);
+    }
+    if stage == PROGRAM_END_RETURN {
+        return with_stage(r, PROGRAM_END);
+    }
+    if stage == CONTROL_RESET_RETURN {
+        return with_stage(r, CONTROL_RESET);
     }
     r
 }
@@ -655,7 +719,7 @@ pub fn nothing_lent() -> MaybeLent
     }
 }
 
-// What a line that ends there lends.
+// What a beat line that ends there lends.
 pub fn read_lent(r: HalfLine) -> MaybeLent
     ensures { λ x. ⌜ x ≡ maybeLent (readLent r) ⌝ }
 {

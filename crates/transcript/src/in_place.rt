@@ -1,18 +1,20 @@
-// A session worked in place over a piece of input: the lines of the set that were read, and the state by its arrays, which the beats write. What came in is worked and printed.
+// A session worked in place over a piece of input: the lines of the set that were read, and the state by its arrays, which the beats and the calls write. What came in is worked and printed.
 ghost use mathlib.Core.Path.{_≡_};
 ghost use mathlib.Core.Bool.{true};
 ghost use mathlib.Core.List.{List};
 ghost use Prim.Native.Nat.{ℕ, _≤_};
+ghost use Rattle.couplers.specs.declared.channel.Channel.{Channel};
 ghost use Rattle.engine.specs.ReadLines.{linesWritten};
 ghost use Rattle.engine.specs.declared.state.State.{State};
 ghost use Rattle.reader.specs.Load.{loadAnswer, loadSet};
 ghost use Rattle.transcript.specs.declared.totals.Totals.{Totals};
+ghost use Rattle.transcript.specs.BeatLine.{beat, saysBeat};
 ghost use Rattle.transcript.specs.Intake.{Arrived};
 ghost use Rattle.transcript.specs.IntakeAnswers.{broughtBy};
-ghost use Rattle.transcript.specs.Machine.{isFit, opened, beatOf, beatEnd, arrivalWorked, lineEnd, worked};
+ghost use Rattle.transcript.specs.Machine.{isFit, opened, saidOf, saidEnd, arrivalWorked, lineEnd, worked};
 ghost use Rattle.transcript.specs.Output.{lastStart};
 ghost use Rattle.transcript.specs.SessionAnswers.{IsFed, IsWorked, machineOf, sessionOf};
-ghost use Rattle.transcript.specs.InPlace.{stateIn, sessionIn};
+ghost use Rattle.transcript.specs.InPlace.{stateIn, sessionIn, callSaid, callLeft};
 ghost use Rattle.transcript.specs.InPlaceLaws.{FitCounts, LivesOn, MayCome};
 ghost use Rattle.transcript.specs.MaybeLent.{lentIn, lentOr};
 use crate::beat_line::MaybeLent;
@@ -28,7 +30,8 @@ use crate::printing::load_line;
 use crate::set_text::KEPT;
 use crate::tally::tally_beat;
 use crate::totals::Counts;
-use crate::totals::MAX_BEATS;
+use crate::totals::LAST_LINE;
+use crate::totals::count_call;
 use crate::totals::put_end;
 use crate::totals::put_error;
 use couplers::channel::CHANNELS;
@@ -36,8 +39,11 @@ use couplers::channel::Channel;
 use engine::ORDERS;
 use engine::READ;
 use engine::State;
+use engine::control_reset;
 use engine::kept_cells;
+use engine::program_end;
 use engine::read_lines;
+use engine::spread_cells;
 use reader::Loaded;
 use reader::load;
 use text::bytes::Kind;
@@ -97,7 +103,7 @@ pub fn state_in(
     }
 }
 
-// A beat line that lends something: what is printed of the beat, and the end behind the last beat.
+// A beat line that lends something: what is printed of the beat, and the end behind the last line.
 fn work_beat(
     intake: Intake,
     counts: Counts,
@@ -116,7 +122,7 @@ fn work_beat(
     at: usize,
 ) -> Ended
     requires { ⌜ (now lines ≡ linesWritten (now set)) × (FitCounts counts × (at ≤ lastStart)) ⌝ }
-    ensures { λ x. ⌜ ((t : List ℕ) → IsFed (beatOf (machineOf t (now (set .entry)) (sessionIn intake counts (stateIn (now (r .entry)) (now (cells .entry)) (now (runs .entry)) (counts .channels) (now (locked .entry)) (now (cancelled .entry)) (now (memory .entry)) (now (acts .entry))))) (lentIn lent)) (machineOf t (now (set .entry)) (sessionIn (x .intake) (x .counts) (stateIn (now (r .exit)) (now (cells .exit)) (now (runs .exit)) (x .counts .channels) (now (locked .exit)) (now (cancelled .entry)) (now (memory .exit)) (now (acts .exit))))) (now (out .entry)) at (now (out .exit)) (x .end)) ⌝ }
+    ensures { λ x. ⌜ ((t : List ℕ) → IsFed (saidOf (machineOf t (now (set .entry)) (sessionIn intake counts (stateIn (now (r .entry)) (now (cells .entry)) (now (runs .entry)) (counts .channels) (now (locked .entry)) (now (cancelled .entry)) (now (memory .entry)) (now (acts .entry))))) (beat (lentIn lent))) (machineOf t (now (set .entry)) (sessionIn (x .intake) (x .counts) (stateIn (now (r .exit)) (now (cells .exit)) (now (runs .exit)) (x .counts .channels) (now (locked .exit)) (now (cancelled .entry)) (now (memory .exit)) (now (acts .exit))))) (now (out .entry)) at (now (out .exit)) (x .end)) ⌝ }
 {
     let t = tally_beat(
         counts,
@@ -135,7 +141,7 @@ fn work_beat(
         at,
     );
     let next = t.counts;
-    if next.beats.0 == MAX_BEATS.0 {
+    if next.lines == LAST_LINE {
         let channels = next.channels;
         let state = state_in(r, cells, runs, channels, locked, cancelled, memory, acts);
         let end = put_end(next, set, state, out, t.end);
@@ -171,7 +177,7 @@ fn beat_end(
     at: usize,
 ) -> Ended
     requires { ⌜ (now lines ≡ linesWritten (now set)) × (FitCounts counts × (at ≤ lastStart)) ⌝ }
-    ensures { λ x. ⌜ ((t : List ℕ) → IsFed (beatEnd (machineOf t (now (set .entry)) (sessionIn intake counts (stateIn (now (r .entry)) (now (cells .entry)) (now (runs .entry)) (counts .channels) (now (locked .entry)) (now (cancelled .entry)) (now (memory .entry)) (now (acts .entry))))) (lentOr lent)) (machineOf t (now (set .entry)) (sessionIn (x .intake) (x .counts) (stateIn (now (r .exit)) (now (cells .exit)) (now (runs .exit)) (x .counts .channels) (now (locked .exit)) (now (cancelled .entry)) (now (memory .exit)) (now (acts .exit))))) (now (out .entry)) at (now (out .exit)) (x .end)) ⌝ }
+    ensures { λ x. ⌜ ((t : List ℕ) → IsFed (saidEnd (machineOf t (now (set .entry)) (sessionIn intake counts (stateIn (now (r .entry)) (now (cells .entry)) (now (runs .entry)) (counts .channels) (now (locked .entry)) (now (cancelled .entry)) (now (memory .entry)) (now (acts .entry))))) (saysBeat (lentOr lent))) (machineOf t (now (set .entry)) (sessionIn (x .intake) (x .counts) (stateIn (now (r .exit)) (now (cells .exit)) (now (runs .exit)) (x .counts .channels) (now (locked .exit)) (now (cancelled .entry)) (now (memory .exit)) (now (acts .exit))))) (now (out .entry)) at (now (out .exit)) (x .end)) ⌝ }
 {
     let good = lent.good;
     if good {
@@ -198,6 +204,87 @@ fn beat_end(
         intake: stop(intake),
         counts: counts,
         end: end,
+    }
+}
+
+// The state that a call leaves: a control reset, or the end of the part program.
+fn call_left(set: &[u32; SIZE], state: State, reset: bool) -> State
+    ensures { λ x. ⌜ x ≡ callLeft reset (now (set .entry)) state ⌝ }
+{
+    if reset {
+        let c = control_reset(set, state);
+        return c.state;
+    }
+    let c = program_end(set, state);
+    c.state
+}
+
+// A state is put into the arrays.
+fn hold(
+    state: State,
+    r: &mut [i32; RS],
+    cells: &mut [i32; CELLS],
+    runs: &mut [bool; TIMERS],
+    locked: &mut [bool; LINES],
+    cancelled: &mut [bool; LINES],
+    memory: &mut [bool; LINES],
+    acts: &mut [u32; LINES],
+)
+    ensures { λ x. ⌜ ((kept : List Channel) → kept ≡ state .channels → stateIn (now (r .exit)) (now (cells .exit)) (now (runs .exit)) kept (now (locked .exit)) (now (cancelled .exit)) (now (memory .exit)) (now (acts .exit)) ≡ state) ⌝ }
+{
+    let state_r = state.r;
+    *r = state_r;
+    let state_cells = state.cells;
+    *cells = spread_cells(&state_cells);
+    let state_runs = state.runs;
+    *runs = state_runs;
+    let state_locked = state.locked;
+    *locked = state_locked;
+    let state_cancelled = state.cancelled;
+    *cancelled = state_cancelled;
+    let state_memory = state.memory;
+    *memory = state_memory;
+    let state_acts = state.acts;
+    *acts = state_acts;
+}
+
+// A line PE or RS: nothing is printed of it, but the end behind the last line.
+fn work_call(
+    intake: Intake,
+    counts: Counts,
+    set: &[u32; SIZE],
+    r: &mut [i32; RS],
+    cells: &mut [i32; CELLS],
+    runs: &mut [bool; TIMERS],
+    locked: &mut [bool; LINES],
+    cancelled: &mut [bool; LINES],
+    memory: &mut [bool; LINES],
+    acts: &mut [u32; LINES],
+    reset: bool,
+    out: &mut [u8],
+    at: usize,
+) -> Ended
+    requires { ⌜ FitCounts counts × (at ≤ lastStart) ⌝ }
+    ensures { λ x. ⌜ ((t : List ℕ) → IsFed (saidOf (machineOf t (now (set .entry)) (sessionIn intake counts (stateIn (now (r .entry)) (now (cells .entry)) (now (runs .entry)) (counts .channels) (now (locked .entry)) (now (cancelled .entry)) (now (memory .entry)) (now (acts .entry))))) (callSaid reset)) (machineOf t (now (set .entry)) (sessionIn (x .intake) (x .counts) (stateIn (now (r .exit)) (now (cells .exit)) (now (runs .exit)) (x .counts .channels) (now (locked .exit)) (now (cancelled .exit)) (now (memory .exit)) (now (acts .exit))))) (now (out .entry)) at (now (out .exit)) (x .end)) ⌝ }
+{
+    let channels = counts.channels;
+    let before = state_in(r, cells, runs, channels, locked, cancelled, memory, acts);
+    let left = call_left(set, before, reset);
+    hold(left, r, cells, runs, locked, cancelled, memory, acts);
+    let kept = left.channels;
+    let next = count_call(counts, kept);
+    if next.lines == LAST_LINE {
+        let end = put_end(next, set, left, out, at);
+        return Ended {
+            intake: stop(intake),
+            counts: next,
+            end: end,
+        };
+    }
+    Ended {
+        intake: intake,
+        counts: next,
+        end: at,
     }
 }
 
@@ -251,7 +338,7 @@ pub fn work_arrival(
     cells: &mut [i32; CELLS],
     runs: &mut [bool; TIMERS],
     locked: &mut [bool; LINES],
-    cancelled: &[bool; LINES],
+    cancelled: &mut [bool; LINES],
     memory: &mut [bool; LINES],
     acts: &mut [u32; LINES],
     orders: &mut [u8; ORDERS],
@@ -260,7 +347,7 @@ pub fn work_arrival(
 ) -> Ended
     requires { ⌜ (now lines ≡ linesWritten (now set)) × (MayCome b counts × (at ≤ lastStart)) ⌝ }
     ensures { λ x. ⌜ now (lines .exit) ≡ linesWritten (now (set .exit)) ⌝ }
-    ensures { λ x. ⌜ ((a : Arrived) → b ≡ broughtBy a → IsFed (arrivalWorked (machineOf (now (text .entry)) (now (set .entry)) (sessionIn (a .intake) counts (stateIn (now (r .entry)) (now (cells .entry)) (now (runs .entry)) (counts .channels) (now (locked .entry)) (now (cancelled .entry)) (now (memory .entry)) (now (acts .entry))))) (a .arrival)) (machineOf (now (text .entry)) (now (set .exit)) (sessionIn (x .intake) (x .counts) (stateIn (now (r .exit)) (now (cells .exit)) (now (runs .exit)) (x .counts .channels) (now (locked .exit)) (now (cancelled .entry)) (now (memory .exit)) (now (acts .exit))))) (now (out .entry)) at (now (out .exit)) (x .end)) ⌝ }
+    ensures { λ x. ⌜ ((a : Arrived) → b ≡ broughtBy a → IsFed (arrivalWorked (machineOf (now (text .entry)) (now (set .entry)) (sessionIn (a .intake) counts (stateIn (now (r .entry)) (now (cells .entry)) (now (runs .entry)) (counts .channels) (now (locked .entry)) (now (cancelled .entry)) (now (memory .entry)) (now (acts .entry))))) (a .arrival)) (machineOf (now (text .entry)) (now (set .exit)) (sessionIn (x .intake) (x .counts) (stateIn (now (r .exit)) (now (cells .exit)) (now (runs .exit)) (x .counts .channels) (now (locked .exit)) (now (cancelled .exit)) (now (memory .exit)) (now (acts .exit))))) (now (out .entry)) at (now (out .exit)) (x .end)) ⌝ }
 {
     let intake = b.intake;
     let ending = b.ending;
@@ -301,6 +388,36 @@ pub fn work_arrival(
                 at,
             )
         }
+        Ending::ProgramEnd => work_call(
+            intake,
+            counts,
+            set,
+            r,
+            cells,
+            runs,
+            locked,
+            cancelled,
+            memory,
+            acts,
+            false,
+            out,
+            at,
+        ),
+        Ending::ControlReset => work_call(
+            intake,
+            counts,
+            set,
+            r,
+            cells,
+            runs,
+            locked,
+            cancelled,
+            memory,
+            acts,
+            true,
+            out,
+            at,
+        ),
     }
 }
 
@@ -315,7 +432,7 @@ fn line_end(
     cells: &mut [i32; CELLS],
     runs: &mut [bool; TIMERS],
     locked: &mut [bool; LINES],
-    cancelled: &[bool; LINES],
+    cancelled: &mut [bool; LINES],
     memory: &mut [bool; LINES],
     acts: &mut [u32; LINES],
     orders: &mut [u8; ORDERS],
@@ -324,7 +441,7 @@ fn line_end(
 ) -> Ended
     requires { ⌜ (now lines ≡ linesWritten (now set)) × (LivesOn intake counts × (at ≤ lastStart)) ⌝ }
     ensures { λ x. ⌜ now (lines .exit) ≡ linesWritten (now (set .exit)) ⌝ }
-    ensures { λ x. ⌜ IsFed (lineEnd (machineOf (now (text .entry)) (now (set .entry)) (sessionIn intake counts (stateIn (now (r .entry)) (now (cells .entry)) (now (runs .entry)) (counts .channels) (now (locked .entry)) (now (cancelled .entry)) (now (memory .entry)) (now (acts .entry)))))) (machineOf (now (text .exit)) (now (set .exit)) (sessionIn (x .intake) (x .counts) (stateIn (now (r .exit)) (now (cells .exit)) (now (runs .exit)) (x .counts .channels) (now (locked .exit)) (now (cancelled .entry)) (now (memory .exit)) (now (acts .exit))))) (now (out .entry)) at (now (out .exit)) (x .end) ⌝ }
+    ensures { λ x. ⌜ IsFed (lineEnd (machineOf (now (text .entry)) (now (set .entry)) (sessionIn intake counts (stateIn (now (r .entry)) (now (cells .entry)) (now (runs .entry)) (counts .channels) (now (locked .entry)) (now (cancelled .entry)) (now (memory .entry)) (now (acts .entry)))))) (machineOf (now (text .exit)) (now (set .exit)) (sessionIn (x .intake) (x .counts) (stateIn (now (r .exit)) (now (cells .exit)) (now (runs .exit)) (x .counts .channels) (now (locked .exit)) (now (cancelled .exit)) (now (memory .exit)) (now (acts .exit))))) (now (out .entry)) at (now (out .exit)) (x .end) ⌝ }
 {
     let b = end_line(intake, text);
     work_arrival(
@@ -359,7 +476,7 @@ pub fn work_lines(
     cells: &mut [i32; CELLS],
     runs: &mut [bool; TIMERS],
     locked: &mut [bool; LINES],
-    cancelled: &[bool; LINES],
+    cancelled: &mut [bool; LINES],
     memory: &mut [bool; LINES],
     acts: &mut [u32; LINES],
     orders: &mut [u8; ORDERS],
@@ -367,7 +484,7 @@ pub fn work_lines(
     out: &mut [u8; OUT],
 ) -> Piece
     requires { ⌜ (now lines ≡ linesWritten (now set)) × ((y : State) → isFit (sessionIn intake counts y) ≡ true) ⌝ }
-    ensures { λ x. ⌜ IsWorked (worked (machineOf (now (text .entry)) (now (set .entry)) (sessionIn intake counts (stateIn (now (r .entry)) (now (cells .entry)) (now (runs .entry)) (counts .channels) (now (locked .entry)) (now (cancelled .entry)) (now (memory .entry)) (now (acts .entry))))) (now (input .entry))) (machineOf (now (text .exit)) (now (set .exit)) (sessionIn (x .intake) (x .counts) (stateIn (now (r .exit)) (now (cells .exit)) (now (runs .exit)) (x .counts .channels) (now (locked .exit)) (now (cancelled .entry)) (now (memory .exit)) (now (acts .exit))))) (x .taken) (now (out .entry)) (now (out .exit)) (x .written) ⌝ }
+    ensures { λ x. ⌜ IsWorked (worked (machineOf (now (text .entry)) (now (set .entry)) (sessionIn intake counts (stateIn (now (r .entry)) (now (cells .entry)) (now (runs .entry)) (counts .channels) (now (locked .entry)) (now (cancelled .entry)) (now (memory .entry)) (now (acts .entry))))) (now (input .entry))) (machineOf (now (text .exit)) (now (set .exit)) (sessionIn (x .intake) (x .counts) (stateIn (now (r .exit)) (now (cells .exit)) (now (runs .exit)) (x .counts .channels) (now (locked .exit)) (now (cancelled .exit)) (now (memory .exit)) (now (acts .exit))))) (x .taken) (now (out .entry)) (now (out .exit)) (x .written) ⌝ }
 {
     let mut kept = intake;
     let mut n = counts;

@@ -1,11 +1,14 @@
-// The input of a session as it comes in, in parts of lines of any size: set text up to the line *, then beat lines. What a line's end brings is told; nothing is worked or printed here.
+// The input of a session as it comes in, in parts of lines of any size: set text up to the line *, then the lines behind it. What a line's end brings is told; nothing is worked or printed here.
 ghost use mathlib.Core.Path.{_≡_};
-ghost use Rattle.transcript.specs.Intake.{OVER, noIntake, withPhase, intakeFits, bytesTaken, bytesKept, nothingCame, textWhole, textLineOver, textLineKept, beatLineOver, lineOver, lineKept, inputOver};
+ghost use Rattle.transcript.specs.Intake.{OVER, noIntake, withPhase, intakeFits, bytesTaken, bytesKept, withHalfLine, nothingCame, textWhole, textLineOver, textLineKept, lineRead, lineOver, lineKept, inputOver};
 ghost use Rattle.transcript.specs.IntakeAnswers.{broughtBy};
+ghost use Rattle.transcript.specs.HalfLine.{noHalfLine};
 ghost use Rattle.transcript.specs.IntakeLaws.{FitIntake};
+use crate::beat_line::CONTROL_RESET;
 use crate::beat_line::HalfLine;
 use crate::beat_line::LAST_FIELD;
 use crate::beat_line::MaybeLent;
+use crate::beat_line::PROGRAM_END;
 use crate::beat_line::is_untouched;
 use crate::beat_line::no_half_line;
 use crate::beat_line::nothing_lent;
@@ -23,7 +26,7 @@ use text::buffer::put;
 use text::buffer::put_bytes;
 use text::bytes::LF;
 
-// The phases: set text, beat lines, over.
+// The phases: set text, the lines behind the line *, over.
 const TEXT: u8 = 0;
 
 pub const BEATS: u8 = 1;
@@ -37,11 +40,13 @@ pub struct Intake {
     pub half: HalfLine,
 }
 
-// What the end of a line, or of the input, brings: nothing, the whole set text, a beat line.
+// What the end of a line, or of the input, brings: nothing, the whole set text, a beat line, PE, RS.
 pub enum Ending {
     Nothing,
     Text,
     Beat,
+    ProgramEnd,
+    ControlReset,
 }
 
 // The intake behind it, the size of the text if that is whole, and what a beat line lends.
@@ -121,7 +126,7 @@ fn nothing_came(intake: Intake) -> Brought
     }
 }
 
-// The set text is whole, and beat lines follow.
+// The set text is whole, and the lines behind the line * follow.
 fn text_whole(intake: Intake, size: usize) -> Brought
     ensures { λ x. ⌜ x ≡ broughtBy (textWhole intake size) ⌝ }
 {
@@ -136,18 +141,32 @@ fn text_whole(intake: Intake, size: usize) -> Brought
     }
 }
 
-// A beat line is over.
-fn beat_line_over(intake: Intake, half: HalfLine) -> Brought
-    ensures { λ x. ⌜ x ≡ broughtBy (beatLineOver intake half) ⌝ }
+// A line behind the line * brings this.
+fn came(intake: Intake, ending: Ending, lent: MaybeLent) -> Brought
+    ensures { λ x. ⌜ x ≡ record { intake = withHalfLine intake noHalfLine; ending = ending; size = 0; lent = lent } ⌝ }
 {
     let mut x = intake;
     x.half = no_half_line();
     Brought {
         intake: x,
-        ending: Ending::Beat,
+        ending: ending,
         size: 0,
-        lent: read_lent(half),
+        lent: lent,
     }
+}
+
+// Such a line is over.
+fn line_read(intake: Intake, half: HalfLine) -> Brought
+    ensures { λ x. ⌜ x ≡ broughtBy (lineRead intake half) ⌝ }
+{
+    let stage = half.stage;
+    if stage == PROGRAM_END {
+        return came(intake, Ending::ProgramEnd, nothing_lent());
+    }
+    if stage == CONTROL_RESET {
+        return came(intake, Ending::ControlReset, nothing_lent());
+    }
+    came(intake, Ending::Beat, read_lent(half))
 }
 
 // The LF of a line of set text: behind the line * the text before it is whole.
@@ -178,7 +197,7 @@ pub fn end_line(intake: Intake, text: &mut [u8; KEPT]) -> Brought
     }
     if phase == BEATS {
         let half = intake.half;
-        return beat_line_over(intake, without_cr(half));
+        return line_read(intake, without_cr(half));
     }
     nothing_came(intake)
 }
@@ -199,5 +218,5 @@ pub fn end_input(intake: Intake) -> Brought
     if is_untouched(half) {
         return nothing_came(intake);
     }
-    beat_line_over(intake, half)
+    line_read(intake, half)
 }

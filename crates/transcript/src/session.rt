@@ -107,7 +107,7 @@ pub fn step(
     let mut cells = spread_cells(&state_cells);
     let mut runs = state.runs;
     let mut locked = state.locked;
-    let cancelled = state.cancelled;
+    let mut cancelled = state.cancelled;
     let mut memory = state.memory;
     let mut acts = state.acts;
     let mut orders = [0u8; ORDERS];
@@ -122,7 +122,7 @@ pub fn step(
         &mut cells,
         &mut runs,
         &mut locked,
-        &cancelled,
+        &mut cancelled,
         &mut memory,
         &mut acts,
         &mut orders,
@@ -152,7 +152,7 @@ pub fn step(
     }
 }
 
-// The end, where beat lines are still awaited.
+// The end, where lines are still awaited.
 fn put_last(
     intake: Intake,
     counts: Counts,
@@ -189,7 +189,7 @@ pub fn finish(session: Session, text: &[u8; KEPT], set: &[u32; SIZE], out: &mut 
     let mut cells = spread_cells(&state_cells);
     let mut runs = state.runs;
     let mut locked = state.locked;
-    let cancelled = state.cancelled;
+    let mut cancelled = state.cancelled;
     let mut memory = state.memory;
     let mut acts = state.acts;
     let mut orders = [0u8; ORDERS];
@@ -204,7 +204,7 @@ pub fn finish(session: Session, text: &[u8; KEPT], set: &[u32; SIZE], out: &mut 
         &mut cells,
         &mut runs,
         &mut locked,
-        &cancelled,
+        &mut cancelled,
         &mut memory,
         &mut acts,
         &mut orders,

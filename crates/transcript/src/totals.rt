@@ -1,11 +1,11 @@
-// What a session has come to so far, a beat line that is counted, and what is printed of it: the end, and E.
+// What a session has come to so far, a line that is counted, and what is printed of it: the end, and E.
 ghost use mathlib.Core.Path.{_≡_};
 ghost use Prim.Native.Nat.{_+_, _≤_, _<_};
 ghost use Rattle.engine.specs.Order.{maxOrders};
 ghost use Rattle.values.specs.PutAt.{IsPut};
 ghost use Rattle.transcript.specs.Output.{errorLine, endRoom, outSize};
-ghost use Rattle.transcript.specs.Totals.{noTotals, picture, ended, oneIf, areFit, maxBeats};
-ghost use Rattle.transcript.specs.InPlace.{countsOf, totalsOf, countsAfter};
+ghost use Rattle.transcript.specs.Totals.{noTotals, picture, ended, oneIf, areFit, lastLine};
+ghost use Rattle.transcript.specs.InPlace.{countsOf, totalsOf, countsAfter, countsCalled};
 ghost use Rattle.transcript.specs.InPlaceLaws.{FitCounts};
 use crate::printing::end_line;
 use crate::printing::error_line;
@@ -19,12 +19,12 @@ use engine::status_of;
 use tokens::token::SIZE;
 use values::time::Beats;
 
-// After so many beats a session ends.
-pub const MAX_BEATS: Beats = Beats(1000000);
+// After so many lines behind the line * a session ends.
+pub const LAST_LINE: u32 = 1000000;
 
 const MAX_ORDERS: u32 = engine::MAX_ORDERS as u32;
 
-// So far: what is printed, the state, the beat lines, the beats, those with a code, the orders.
+// So far: what is printed, the state, the lines behind the line *, the beats, those with a code, the orders.
 pub struct Totals {
     pub view: View,
     pub state: State,
@@ -89,15 +89,16 @@ pub fn totals_of(counts: Counts, state: State) -> Totals
     }
 }
 
-// Whether a session may have these totals with a beat still to come.
+// Whether a session may have these totals with a line still to come.
 pub fn are_fit(totals: Totals) -> bool
     ensures { λ x. ⌜ x ≡ areFit totals ⌝ }
 {
-    let beats = totals.beats.0;
-    if MAX_BEATS.0 <= beats {
+    let lines = totals.lines;
+    if LAST_LINE <= lines {
         return false;
     }
-    if totals.lines != beats {
+    let beats = totals.beats.0;
+    if lines < beats {
         return false;
     }
     if beats < totals.coded {
@@ -131,6 +132,23 @@ pub fn count(counts: Counts, code: u8, orders: u32, kept: [Channel; CHANNELS]) -
     }
 }
 
+// The counts with a line that is no beat, after which the channels keep this.
+pub fn count_call(counts: Counts, kept: [Channel; CHANNELS]) -> Counts
+    requires { ⌜ FitCounts counts ⌝ }
+    ensures { λ x. ⌜ x ≡ countsCalled counts kept ⌝ }
+{
+    let beats = counts.beats;
+    let view = counts.view;
+    Counts {
+        view: view,
+        channels: kept,
+        lines: counts.lines + 1,
+        beats: beats,
+        coded: counts.coded,
+        orders: counts.orders,
+    }
+}
+
 // The status picture.
 fn put_picture(set: &[u32; SIZE], state: State, out: &mut [u8], at: usize) -> usize
     requires { ⌜ at + endRoom ≤ outSize ⌝ }
@@ -155,7 +173,7 @@ pub fn put_end(counts: Counts, set: &[u32; SIZE], state: State, out: &mut [u8], 
 
 // E of the line behind those that were taken.
 pub fn put_error(counts: Counts, out: &mut [u8], at: usize) -> usize
-    requires { ⌜ (counts .lines < maxBeats) × (at ≤ outSize) ⌝ }
+    requires { ⌜ (counts .lines < lastLine) × (at ≤ outSize) ⌝ }
     ensures { λ x. ⌜ IsPut (now (out .entry)) at (errorLine (counts .lines + 1)) (now (out .exit)) x ⌝ }
 {
     error_line(out, at, counts.lines + 1)

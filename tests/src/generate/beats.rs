@@ -4,14 +4,15 @@ use crate::control::POSITIONS;
 use crate::random::Random;
 use crate::reading::CHANNELS;
 
-const ILL_FORMED: [&str; 46] = [
+const ILL_FORMED: [&str; 54] = [
     "", " ", "A", "M", "A ", "A  1", " A 1", "A 1 ", "A 65536", "A -1", "A -0", "A +1", "A 1 1.0", "A 1 -",
     "A 1 1", "A 1 0", "A 1 -0", "A 1 0000000", "A 1 000000000", "A 1 3f800000", "A 1 0000000G",
     "A 1 -0000000", "A 1 b", "A 1 BB", "A 1 SB", "A 1 B S s", "A 1 B B B B B B B B B",
     "A 1 S S S S S S S S 00000000 1a", "A 1 S S S S S S S S 2147483648", "A 1 S S S S S S S S -2147483649",
     "A 1 S S S S S S S S --1", "A 1 S S S S S S S S 1 2 3 4 5 6 7",
     "A 1 S S S S S S S S 99999999999999999999", "B 1", "S 1", "a 1", "AM 1", "*", "A 1;c", "A\t1", "A1",
-    "; comment", "A 1\r", "A 99999999999999999999", "0 1", "A 1  00000000",
+    "; comment", "A 1\r", "A 99999999999999999999", "0 1", "A 1  00000000", "PE 0", "PE ", " PE", "pe",
+    "RS 1", "Rs", "PERS", "RS\r",
 ];
 const ODD_BUT_GOOD: [&str; 9] = [
     "A 0001",
@@ -144,7 +145,7 @@ fn position(random: &mut Random) -> i64 {
     }
 }
 
-/// A script of beats; a few have an ill-formed line. A long one has a thousand beats before it.
+/// A script of beats, in a third with some program ends and control resets; a few have an ill-formed line. A long one has a thousand beats before it.
 pub fn script(random: &mut Random, long: bool) -> Vec<u8> {
     let beats = match random.below(100) {
         _ if long => random.between(LONG, 2 * LONG),
@@ -155,10 +156,12 @@ pub fn script(random: &mut Random, long: bool) -> Vec<u8> {
     let spoiled = random.chance(12).then(|| random.between(first, beats.max(1)));
     let mut inputs = if long { Inputs::steady() } else { Inputs::default() };
     let end = if random.chance(10) { "\r\n" } else { "\n" };
+    let calls = random.weighted(&[(6, 0), (2, 1), (1, 4)]);
     let mut text = String::new();
     for beat in 0..beats {
         let line = match random.below(60) {
             _ if spoiled == Some(beat) => random.pick(&ILL_FORMED).to_string(),
+            _ if random.below(beats as usize) < calls => random.pick(&["PE", "PE", "RS"]).to_string(),
             0 => random.pick(&ODD_BUT_GOOD).to_string(),
             _ => format!("{} {}", inputs.mode(random), inputs.next(random, POSITIONS)),
         };

@@ -11,7 +11,7 @@ struct Long<'a> {
     session: Session<'a>,
     /// Lines that the host locked, each with the step of its release.
     held: Vec<(i64, i64)>,
-    /// The step of the next load, after a reset has cancelled the ID lines.
+    /// The step of the next load, after a reset or a program end has cancelled the ID lines.
     load: Option<i64>,
 }
 
@@ -33,7 +33,7 @@ pub fn session(random: &mut Random) -> Vec<u8> {
 }
 
 impl Long<'_> {
-    /// One step; `resets` in two thousand are resets, and without these the first load is the only start.
+    /// One step; `resets` in two thousand are resets or program ends, and without these the first load is the only start.
     fn step(&mut self, step: i64, resets: usize) {
         let choice = self.session.random.below(2000);
         match choice {
@@ -96,9 +96,10 @@ impl Long<'_> {
         self.held.retain(|(_, release)| *release > step);
     }
 
-    /// A reset, and a load when the lines that live on have run for a while.
+    /// A reset or a program end, and a load when the lines that live on have run for a while.
     fn reset(&mut self, step: i64) {
-        self.session.add("R");
+        let call = self.session.random.pick(&["R", "E"]);
+        self.session.add(call);
         let beats = self.session.random.between(20, 400);
         self.load.get_or_insert(step + beats);
     }

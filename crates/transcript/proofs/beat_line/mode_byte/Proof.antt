@@ -14,5 +14,9 @@ mode-byte-spec =
     (λ c. simp (modeByte, ne-eqb _ _ (c .before .if1 .taken), c .ill-formed .ensures))
     (λ c. simp (modeByte, eq-eqb _ _ (c .before .if1 .left), eq-eqb _ _ (c .if2 .taken)))
     (λ c κs. search needs)
-    (λ c. simp (modeByte, eq-eqb _ _ (c .before .before .before .if1 .left), ne-eqb _ _ (c .before .before .if2 .left), ne-eqb _ _ (c .before .if3 .taken), c .ill-formed2 .ensures))
+    (λ c κs. search needs)
+    (λ c.
+    let l = c .before in
+    let i = l .before in
+    simp (modeByte, eq-eqb _ _ (i .before .before .if1 .left), ne-eqb _ _ (i .before .if2 .left), ne-eqb _ _ (i .if3 .taken), c .with-stage .ensures, l .letter-stage .ensures))
     (λ c. simp (modeByte, eq-eqb _ _ (c .before .before .if1 .left), ne-eqb _ _ (c .before .if2 .left), eq-eqb _ _ (c .if3 .left))))

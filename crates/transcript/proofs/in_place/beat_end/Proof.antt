@@ -13,7 +13,7 @@ beat-end-spec =
     (λ c κs. search needs)
     (λ c. search needs)
     (λ c t. let p = c .before .before in fed-as (beat-good t _ _ _ (p .before .before .before .before .before .before .before .before .before .if1 .taken)) (p .work-beat .ensures t))
-    (λ c κs. let p = c .before .before .before .pre .1 in let f = p .0 powerOn in (omega (arith, f .beats, f .lines), omega (arith, p .1)))
+    (λ c κs. let p = c .before .before .before .pre .1 in let f = p .0 powerOn in (omega (arith, f .lines), omega (arith, p .1)))
     (λ c κs. search needs)
     (λ c. search needs)
     (λ c t. let p = c .before .before .before in fed (beat-ill t _ _ _ (p .before .before .if1 .left) (c .stop .ensures)) (p .put-error .ensures)))

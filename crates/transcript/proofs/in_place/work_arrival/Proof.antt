@@ -2,11 +2,12 @@
 use borrow.Author.Needs.{needs}
 use native.Mathlib.Omega.{arith}
 use mathlib.Core.Path.{_≡_, sym}
+use mathlib.Core.Bool.{true, false}
 use lib.ListN.{length}
 use lib.Seq.{length-take-le}
 use denote.Ref.{now}
 use Rattle.transcript.specs.SetText.{keptSize}
-use Rattle.transcript.proofs.StepLaws.{fed, fed-as, came-nothing, came-text, came-beat}
+use Rattle.transcript.proofs.StepLaws.{fed, fed-as, beat-comes, call-comes, came-nothing, came-text, came-beat, came-call}
 use Rattle.values.specs.PutLaws.{put-nothing}
 use Rattle.transcript.proofs.in_place.work_arrival.Statement.{statement}
 use Rattle.transcript.proofs.in_place.work_arrival.Tie as tie
@@ -25,9 +26,19 @@ work-arrival-spec =
     (λ c κs. search needs)
     (λ c. search needs)
     (λ c κs.
-    let b = c .before .before .before .before .before .before .before .before .before .before .before in
-    let p = b .before .before .before .before .pre in
-    (p .0, (p .1 .0 .counts (b .enum-told3 .given .1), p .1 .1)))
+    let m = c .before .before .before .before .before .before .before .before .before .before .before .before in
+    let p = m .before .before .before .before .pre in
+    (p .0, (p .1 .0 .counts (beat-comes (m .enum-told3 .given .1)), p .1 .1)))
+    (λ c. search needs)
+    (λ c κs.
+    let m = c .before .before .before .before .before .before .before .before .before in
+    let p = m .before .before .before .before .pre in
+    (p .1 .0 .counts (call-comes false (m .enum-told4 .given .1)), p .1 .1))
+    (λ c. search needs)
+    (λ c κs.
+    let m = c .before .before .before .before .before .before .before .before .before in
+    let p = m .before .before .before .before .pre in
+    (p .1 .0 .counts (call-comes true (m .enum-told5 .given .1)), p .1 .1))
     (λ c. (c .before .before .before .before .pre .0, λ a e. fed (came-nothing _ _ _ a e (c .enum-told .given .1)) put-nothing))
     (λ c. search needs)
     (λ c.
@@ -36,5 +47,15 @@ work-arrival-spec =
     (λ c. search needs)
     (λ c.
     let b = c .before .before in
-    let m = b .before .before .before .before .before .before .before .before .before .before .before .before in
-    (m .before .before .before .before .pre .0, λ a e. fed-as (came-beat _ _ _ a e (m .enum-told3 .given .1)) (b .beat-end .ensures _))))
+    let m = b .before .before .before .before .before .before .before .before .before .before .before .before .before in
+    (m .before .before .before .before .pre .0, λ a e. fed-as (came-beat _ _ _ a e (m .enum-told3 .given .1)) (b .beat-end .ensures _)))
+    (λ c. search needs)
+    (λ c.
+    let w = c .before .before in
+    let m = w .before .before .before .before .before .before .before .before .before .before in
+    (m .before .before .before .before .pre .0, λ a e. fed-as (came-call _ _ _ a e false (m .enum-told4 .given .1)) (w .work-call .ensures _)))
+    (λ c. search needs)
+    (λ c.
+    let w = c .before .before in
+    let m = w .before .before .before .before .before .before .before .before .before .before in
+    (m .before .before .before .before .pre .0, λ a e. fed-as (came-call _ _ _ a e true (m .enum-told5 .given .1)) (w .work-call2 .ensures _))))

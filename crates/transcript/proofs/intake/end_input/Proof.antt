@@ -23,4 +23,4 @@ end-input-spec =
     (λ c κs. search needs)
     (λ c. let u = c .before .before in c .nothing-came2 .ensures ∙ ap broughtBy (sym (beats-new _ (u .before .before .if2 .left) (sym (u .is-untouched .ensures) ∙ c .before .if3 .taken))))
     (λ c κs. search needs)
-    (λ c. let u = c .before .before in c .beat-line-over .ensures ∙ ap broughtBy (sym (beats-input _ (u .before .before .if2 .left) (sym (u .is-untouched .ensures) ∙ c .before .if3 .left)))))
+    (λ c. let u = c .before .before in c .line-read .ensures ∙ ap broughtBy (sym (beats-input _ (u .before .before .if2 .left) (sym (u .is-untouched .ensures) ∙ c .before .if3 .left)))))

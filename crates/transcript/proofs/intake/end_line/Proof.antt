@@ -1,7 +1,7 @@
 -- `intake::end_line` meets its contract: by the phase.
 use borrow.Author.Needs.{needs}
 use mathlib.Core.Path.{sym, ap, _∙_}
-use Rattle.transcript.specs.Intake.{beatLineOver}
+use Rattle.transcript.specs.Intake.{lineRead}
 use Rattle.transcript.specs.IntakeAnswers.{broughtBy}
 use Rattle.transcript.specs.IntakeLaws.{text-line, text-line-kept, beats-line, else-line, else-line-kept}
 use Rattle.transcript.proofs.intake.end_line.Statement.{statement}
@@ -21,6 +21,6 @@ end-line-spec =
     (λ c.
     let r = c .before in
     let i = r .before .before in
-    (c .beat-line-over .ensures ∙ ap broughtBy (ap (beatLineOver (i .before .before .args .intake)) (r .without-cr .ensures) ∙ sym (beats-line _ (i .if2 .taken))), sym (else-line-kept _ (i .before .if1 .left) _)))
+    (c .line-read .ensures ∙ ap broughtBy (ap (lineRead (i .before .before .args .intake)) (r .without-cr .ensures) ∙ sym (beats-line _ (i .if2 .taken))), sym (else-line-kept _ (i .before .if1 .left) _)))
     (λ c κs. search needs)
     (λ c. let i = c .before in (c .nothing-came .ensures ∙ ap broughtBy (sym (else-line _ (i .before .if1 .left) (i .if2 .left))), sym (else-line-kept _ (i .before .if1 .left) _))))

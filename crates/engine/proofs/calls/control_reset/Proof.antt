@@ -1,4 +1,4 @@
--- `calls::reset` meets its contract: the set and the state are sound, and each part of the next state is what its function gives.
+-- `calls::control_reset` meets its contract: the set and the state are sound, and each part of the next state is what its function gives.
 use borrow.Author.Needs.{needs}
 use borrow.Author.Tests.{not-true, not-false}
 use native.Mathlib.Omega.{arith}
@@ -8,14 +8,14 @@ use Rattle.working.specs.Variables.{stateCells}
 use Rattle.engine.specs.SetCountLaws.{sound-count}
 use Rattle.engine.proofs.SoundTestLaws.{unsound-set, sound-as}
 use Rattle.engine.proofs.CallLaws.{reset-unsound, reset-sound}
-use Rattle.engine.proofs.calls.reset.Statement.{statement}
-use Rattle.engine.proofs.calls.reset.Tie as tie
+use Rattle.engine.proofs.calls.control_reset.Statement.{statement}
+use Rattle.engine.proofs.calls.control_reset.Tie as tie
 
 whole : (c : tie.After-cells2) → length (c .before .before .before .before .before .before .args .state .cells) ≡ stateCells
 whole c = search needs
 
-pub reset-spec : {M : Type 1} → statement M
-reset-spec =
+pub control-reset-spec : {M : Type 1} → statement M
+control-reset-spec =
     tie.close
     (tie.spec
     (λ c κs. search needs)
