@@ -102,6 +102,7 @@ impl Control {
         let (state, orders, acted) = (beat.state, beat.orders, beat.acted);
         self.witness.end_beat(self.set.lines()?, &state.lines, acted, result.is_ok());
         self.seen.acted(self.set.lines()?, acted, result.is_ok());
+        self.seen.worked(&self.state, &state, result.is_ok());
         if result.is_ok() || self.slip == Slip::WritesKeptAtAlarm {
             self.state = state;
         } else if self.slip == Slip::FaultsCountedWhenUndone {

@@ -69,7 +69,6 @@ impl Channel {
         seen.reading(reading);
         if let Reading::Volts(bits) = reading {
             if let Some(value) = thousandths(bits, slip) {
-                seen.row_ends(self.faults);
                 return Ok((Channel { known: true, bits, faults: 0 }, value));
             }
         }

@@ -2,9 +2,9 @@
 
 use crate::beat::Turn;
 use crate::code::Code;
-use crate::reading::{Channel, Reading};
+use crate::reading::{Channel, Reading, CHANNELS};
 use crate::set::{Set, LINES};
-use crate::state::{LineState, TOP_ACTS};
+use crate::state::{LineState, State, TOP_ACTS};
 use crate::status::{Standing, Status};
 use crate::token::{Keyword, Name, Scope};
 use crate::tree::{Line, Variable};
@@ -40,21 +40,22 @@ const DAMAGE_EVENTS: [&str; 5] = [
     "curve damage 22 by a curve gone", "curve damage in use",
 ];
 /// What is counted of readings and channels.
-const READING_EVENTS: [&str; 28] = [
+const READING_EVENTS: [&str; 30] = [
     "reading +0", "reading -0", "reading below the normal numbers", "reading exact", "reading under a half",
     "reading over a half", "reading half down to even", "reading half up to even", "reading below zero",
     "reading of the top", "reading just under the top", "reading just over the top", "reading out of range",
     "reading +infinity", "reading -infinity", "reading quiet NaN", "reading signalling NaN", "reading break",
     "reading short", "23, never good", "23 after 25 faulty beats", "row of 1 ends", "row of 24 ends",
     "row of 25 ends", "row through a refused beat", "row through an alarmed beat", "row through a reset",
-    "row through a program end",
+    "row through a program end", "row of 24 ends, an undone beat inside",
+    "row of 25 ends, an undone beat inside",
 ];
 /// What is counted of acts and of the status picture.
-const STATUS_EVENTS: [&str; 14] = [
-    "acts stay at the top", "acts zeroed by a reset", "acts kept by a reset", "status of a full set",
-    "status ID waiting", "status ID locked", "status ID cancelled", "status IDS waiting",
-    "status IDS locked", "status IDS cancelled", "status cancelled with acts", "status acts 1",
-    "status acts 3999999999", "status acts 4000000000",
+const STATUS_EVENTS: [&str; 15] = [
+    "acts reach the top", "acts stay at the top", "acts zeroed by a reset", "acts kept by a reset",
+    "status of a full set", "status ID waiting", "status ID locked", "status ID cancelled",
+    "status IDS waiting", "status IDS locked", "status IDS cancelled", "status cancelled with acts",
+    "status acts 1", "status acts 3999999999", "status acts 4000000000",
 ];
 /// What is counted of program ends.
 const END_EVENTS: [&str; 6] = [
@@ -80,6 +81,14 @@ pub struct Seen {
     held_high: bool,
     /// The lines that acted in alarmed beats since the last good one, bit by rank.
     undone: u32,
+    rows: [Row; CHANNELS],
+}
+
+/// A channel's row of faulty beats: how many good beats have counted, and whether an undone beat with a fault stands among them.
+#[derive(Clone, Copy, Default)]
+struct Row {
+    counted: u8,
+    undone: bool,
 }
 
 impl Seen {
@@ -176,13 +185,42 @@ impl Seen {
         }
     }
 
-    /// Notes a row of faulty beats that a good reading ends.
-    pub fn row_ends(&mut self, faults: u8) {
-        match faults {
-            1 => self.note("row of 1 ends"),
-            24 => self.note("row of 24 ends"),
-            25 => self.note("row of 25 ends"),
+    /// Notes what a beat that was worked, well or in vain, makes of counts and of rows of faulty beats.
+    pub fn worked(&mut self, before: &State, after: &State, good: bool) {
+        if self.counts.is_none() {
+            return;
+        }
+        for (place, (before, after)) in before.channels.iter().zip(&after.channels).enumerate() {
+            self.row(place, before.faults, after.faults, good);
+        }
+        if good {
+            let lines = before.lines.iter().zip(&after.lines);
+            let reaching = lines.filter(|(before, after)| before.acts < TOP_ACTS && after.acts == TOP_ACTS);
+            reaching.for_each(|_| self.note("acts reach the top"));
+        }
+    }
+
+    /// A channel's row over a beat; one that damage made longer has no undone beat inside.
+    fn row(&mut self, place: usize, before: u8, after: u8, good: bool) {
+        if before == 0 {
+            self.rows[place] = Row::default();
+        }
+        let row = self.rows[place];
+        match (good, after > before) {
+            (true, true) if row.counted == before => self.rows[place].counted = after,
+            (false, true) => self.rows[place].undone = true,
+            (true, false) => self.row_ends(before, row.undone && row.counted == before),
             _ => {}
+        }
+    }
+
+    /// Notes a row of faulty beats that a good reading ends.
+    fn row_ends(&mut self, faults: u8, undone_inside: bool) {
+        if [1, 24, 25].contains(&faults) {
+            self.note(&format!("row of {faults} ends"));
+        }
+        if [24, 25].contains(&faults) && undone_inside {
+            self.note(&format!("row of {faults} ends, an undone beat inside"));
         }
     }
 

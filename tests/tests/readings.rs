@@ -56,7 +56,7 @@ fn random_bits_of_all_sizes() {
 
 #[test]
 fn every_eighth_within_range_converts_without_loss() {
-    for eighths in (-8_000_000..=8_000_000i64).step_by(7).chain([8_000_000, 7_999_999, -7_999_999, 1, -1]) {
+    for eighths in -8_000_000..=8_000_000i64 {
         let volts = eighths as f32 / 8.0;
         assert_eq!(thousandths(volts.to_bits(), Slip::None), Some(eighths * 125));
     }

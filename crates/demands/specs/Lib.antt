@@ -1,4 +1,4 @@
--- Demand 3. History, Run, Acts, Deed, RuleCount and Asks are the definitions; Demand3, Consequences, WhatWasDone, Refusals, CountSays, StatusSays, FromALoadOn and EngineUnique the theorems, in their order; the files named ..Laws
+-- Demand 3. History, Run, Acts, Deed, RuleCount, Asks and ChannelReadings are the definitions; Demand3, Consequences, WhatWasDone, Refusals, CountSays, StatusSays, FromALoadOn, CouplerRuns and EngineUnique the theorems, in their order; the files named ..Laws
 -- hold what these need; Cases, CurveCases and PTable are computed.
 pub mod History
 pub mod Run
@@ -21,6 +21,8 @@ pub mod StatusSays
 pub mod Asks
 pub mod AskLaws
 pub mod FromALoadOn
+pub mod ChannelReadings
+pub mod CouplerRuns
 pub mod EngineUnique
 pub mod Cases
 pub mod CurveCases

@@ -139,10 +139,11 @@ pub fn count_call(counts: Counts, kept: [Channel; CHANNELS]) -> Counts
 {
     let beats = counts.beats;
     let view = counts.view;
+    let lines = counts.lines + 1;
     Counts {
         view: view,
         channels: kept,
-        lines: counts.lines + 1,
+        lines: lines,
         beats: beats,
         coded: counts.coded,
         orders: counts.orders,
