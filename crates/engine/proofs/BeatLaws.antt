@@ -21,51 +21,50 @@ use Rattle.engine.specs.declared.state.State.{State}
 use Rattle.tokens.specs.Token.{maxLines}
 use Rattle.engine.specs.ActCount.{oneMore, countedActs}
 use Rattle.engine.specs.ActCountLaws.{counts-later, no-more}
-use Rattle.engine.specs.Sound.{stateSound}
 use Rattle.engine.specs.Order.{orderSize}
 use Rattle.engine.specs.Write.{Vars}
 use Rattle.engine.specs.Turn.{Entry, beatIn, Turned, turnsFrom}
-use Rattle.engine.specs.Beat.{bufferSize, areInputs, Given, samplesIn, begunWith, beatBegun, allTurns, beatOver}
+use Rattle.engine.specs.Beat.{bufferSize, areInputs, Given, samplesIn, begunWith, beatBegun, allTurns, beatKnown}
 use Rattle.engine.specs.Held.{Held, heldIn, turnedCode, heldAfter}
 use Rattle.engine.specs.ActionAnswers.{worldOf}
 
-module _ (s : List ℕ) (ls : Lines) (st : State) (g : Given) where
-  pub lines-unsound : ls .sound ≡ false → beatOver s ls st g ≡ stop unsound
-  unfolding beatOver
-  lines-unsound h = simp (beatOver, h)
+module _ (known : Bool) (s : List ℕ) (ls : Lines) (st : State) (g : Given) where
+  pub lines-unsound : ls .sound ≡ false → beatKnown known s ls st g ≡ stop unsound
+  unfolding beatKnown
+  lines-unsound h = simp (beatKnown, h)
 
   module _ (h : ls .sound ≡ true) where
-    pub state-unsound : stateSound (ls .count) st ≡ false → beatOver s ls st g ≡ stop unsound
-    unfolding beatOver
-    state-unsound e = simp (beatOver, h, e)
+    pub state-unsound : known ≡ false → beatKnown known s ls st g ≡ stop unsound
+    unfolding beatKnown
+    state-unsound e = simp (beatKnown, h, e)
 
-    module _ (e : stateSound (ls .count) st ≡ true) where
-      sound : (ls .sound && stateSound (ls .count) st) ≡ true
+    module _ (e : known ≡ true) where
+      sound : (ls .sound && known) ≡ true
       sound = and-true h e
 
-      pub too-short : length (g .buffer) < bufferSize → beatOver s ls st g ≡ stop shortBuffer
-      unfolding beatOver
+      pub too-short : length (g .buffer) < bufferSize → beatKnown known s ls st g ≡ stop shortBuffer
+      unfolding beatKnown
       too-short l = chosen _ _ _ sound ∙ chosen _ _ _ (lt-ltb (length (g .buffer)) bufferSize l)
 
       module _ (l : bufferSize ≤ length (g .buffer)) where
-        pub no-inputs : areInputs (g .lent) ≡ false → beatOver s ls st g ≡ stop wrongNumbers
-        unfolding beatOver
+        pub no-inputs : areInputs (g .lent) ≡ false → beatKnown known s ls st g ≡ stop wrongNumbers
+        unfolding beatKnown
         no-inputs i = chosen _ _ _ sound ∙ refused _ _ _ (le-ltb (length (g .buffer)) bufferSize l) ∙ refused _ _ _ i
 
         module _ (i : areInputs (g .lent) ≡ true) where
-          pub faulty-channel : samplesIn st g .good ≡ false → beatOver s ls st g ≡ stop faultyChannel
-          unfolding beatOver
+          pub faulty-channel : samplesIn st g .good ≡ false → beatKnown known s ls st g ≡ stop faultyChannel
+          unfolding beatKnown
           faulty-channel k = chosen _ _ _ sound ∙ refused _ _ _ (le-ltb (length (g .buffer)) bufferSize l) ∙ chosen _ _ _ i ∙ refused _ _ _ k
 
           module _ (k : samplesIn st g .good ≡ true) where
-            turns-beat : beatOver s ls st g ≡ (allTurns s ls st g >>= λ t. good (record { world = t .world; entries = beatIn (g .automatic) ∷ t .entries }))
-            unfolding beatOver
+            turns-beat : beatKnown known s ls st g ≡ (allTurns s ls st g >>= λ t. good (record { world = t .world; entries = beatIn (g .automatic) ∷ t .entries }))
+            unfolding beatKnown
             turns-beat = chosen _ _ _ sound ∙ refused _ _ _ (le-ltb (length (g .buffer)) bufferSize l) ∙ chosen _ _ _ i ∙ chosen _ _ _ k
 
             -- what the turns came to, with the values that the channels gave, is what the beat comes to, but for what is written down
             pub turns-told : (b : Held) (before : List Channel) (n : Samples) → n ≡ samplesIn st g → {x : BeatCode} {a : Held} →
                 (let y = turnsFrom s (ls .numbers) (st .cancelled) (g .automatic) (ls .items) (ls .count) 0 (begunWith st (g .word) (n .values) (g .lent)) in (x ≡ turnedCode before (n .channels) y) × (a ≡ heldAfter b (n .channels) y)) →
-                (x ≡ turnedCode before (samplesIn st g .channels) (beatOver s ls st g)) × (a ≡ heldAfter b (samplesIn st g .channels) (beatOver s ls st g))
+                (x ≡ turnedCode before (samplesIn st g .channels) (beatKnown known s ls st g)) × (a ≡ heldAfter b (samplesIn st g .channels) (beatKnown known s ls st g))
             unfolding beatBegun
             turns-told b before n e p = let q = rw e at p in rw turns-beat (q .0 ∙ go (allTurns s ls st g) .0, q .1 ∙ go (allTurns s ls st g) .1)
               where
@@ -84,6 +83,10 @@ module _ (h : Held) (kept : List Channel) (y : Answer Turned) where
   pub refuses : {x : BeatCode} {k : ℕ} → x ≡ record { code = k; orders = 0; acted = 0; channels = h .channels } → y ≡ stop k →
       (x ≡ turnedCode (h .channels) kept y) × (heldIn (h .r) (h .cells) (h .runs) (x .channels) (h .locked) (h .memory) (h .acts) (h .buffer) ≡ heldAfter h kept y)
   refuses p e = undoes p e refl
+
+  -- so where it comes to the same
+  pub as-well : {x : BeatCode} {a : Held} {z : Answer Turned} → y ≡ z → (x ≡ turnedCode (h .channels) kept y) × (a ≡ heldAfter h kept y) → (x ≡ turnedCode (h .channels) kept z) × (a ≡ heldAfter h kept z)
+  as-well e p = rw e at p
 
   -- the first 8 bytes for each order are those of the orders
   module _ (vars : Vars) (locked memory : List Bool) (out : List ℕ) (f : Progress) (es : List Entry) (e : y ≡ good (record { world = worldOf vars locked memory out f; entries = es })) (l : length (take (f .count * orderSize) out) ≡ f .count * orderSize)

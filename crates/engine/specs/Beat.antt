@@ -94,9 +94,17 @@ beatWhere sound s ls st g =
       | false ↦ stop unsound
     ]
 
+-- lines that were read before, and a state, are sound
+abbrev pub soundOver : Lines → State → Bool
+soundOver ls st = ls .sound && stateSound (ls .count) st
+
 -- a beat over lines that were read before
 unfoldable pub beatOver : List ℕ → Lines → State → Given → Answer Turned
-beatOver s ls st g = beatWhere (ls .sound && stateSound (ls .count) st) s ls st g
+beatOver s ls st g = beatWhere (soundOver ls st) s ls st g
+
+-- the same, where the caller says whether they are sound: of the state nothing is asked
+unfoldable pub beatKnown : Bool → List ℕ → Lines → State → Given → Answer Turned
+beatKnown known s ls st g = beatWhere (ls .sound && known) s ls st g
 
 -- the beat: that over the set's own lines
 unfoldable pub wholeBeat : List ℕ → State → Given → Answer Turned

@@ -16,7 +16,7 @@ use Rattle.working.specs.Variables.{inputCount}
 use Rattle.tokens.specs.Token.{maxLines}
 use Rattle.engine.specs.ActCount.{countedActs}
 use Rattle.engine.specs.Turn.{Turned, turnsFrom}
-use Rattle.engine.specs.Beat.{Given, begunWith, beatOver}
+use Rattle.engine.specs.Beat.{Given, begunWith, beatOver, beatKnown}
 
 -- R, the cells of a beat (those of the inputs, then those of the state), which timers run, what the channels keep, locks, memory, how often each line acted, the order buffer
 pub record Held : Type 0 where
@@ -49,6 +49,10 @@ turnsHeld s ls cancelled h automatic word values lent = turnsFrom s (ls .numbers
 
 abbrev pub beatHeld : List ℕ → Lines → List Bool → Held → Bool → ℕ → List Reading → List ℤ → Answer Turned
 beatHeld s ls cancelled h automatic word readings lent = beatOver s ls (stateHeld cancelled h) (givenTo h automatic word readings lent)
+
+-- and where the caller says whether they and the state are sound
+abbrev pub knownHeld : Bool → List ℕ → Lines → List Bool → Held → Bool → ℕ → List Reading → List ℤ → Answer Turned
+knownHeld known s ls cancelled h automatic word readings lent = beatKnown known s ls (stateHeld cancelled h) (givenTo h automatic word readings lent)
 
 -- what the call answers, where the channels kept the first before, and keep the second after a good beat
 abbrev pub turnedCode : List Channel → List Channel → Answer Turned → BeatCode

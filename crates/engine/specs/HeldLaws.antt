@@ -1,6 +1,6 @@
 -- A beat in place, over the lines read from its set and from a state taken apart, is the beat of that state by value. Nothing is assumed.
 use mathlib.Core.Path.{_≡_, refl, sym, ap, _∙_}
-use mathlib.Core.Bool.{Bool, true, false}
+use mathlib.Core.Bool.{Bool, true, false, _&&_}
 use mathlib.Core.List.{List}
 use Prim.Native.Nat.{ℕ}
 use lib.IntN.{ℤ, pos}
@@ -9,6 +9,7 @@ use lib.Seq.{drop-at}
 use Rattle.couplers.specs.declared.reading.Reading.{Reading}
 use Rattle.couplers.specs.declared.channel.Channel.{Channel}
 use Rattle.tokens.specs.Descent.{Answer, good, stop}
+use Rattle.engine.specs.declared.set.Lines.{Lines}
 use Rattle.engine.specs.declared.one_beat.BeatCode.{BeatCode}
 use Rattle.engine.specs.declared.one_beat.Beaten.{Beaten}
 use Rattle.engine.specs.declared.state.State.{State}
@@ -16,10 +17,10 @@ use Rattle.working.specs.Variables.{inputCount}
 use Rattle.engine.specs.Set.{soundLines}
 use Rattle.engine.specs.ReadLines.{linesWritten, linesIn}
 use Rattle.engine.specs.ReadLinesLaws.{lines-back}
-use Rattle.engine.specs.Sound.{isSound}
+use Rattle.engine.specs.Sound.{stateSound, isSound}
 use Rattle.engine.specs.Cells.{spreadCells}
 use Rattle.engine.specs.Turn.{Turned}
-use Rattle.engine.specs.Beat.{buffered, Given, beatBegun, beatEnded, beatWhere, beatOver, wholeBeat, turnedAnswer}
+use Rattle.engine.specs.Beat.{buffered, Given, beatBegun, beatEnded, beatWhere, soundOver, beatOver, beatKnown, wholeBeat, turnedAnswer}
 use Rattle.engine.specs.Held.{Held, heldIn, stateHeld, turnedCode, heldAfter}
 
 -- ---- lines that were read
@@ -28,9 +29,26 @@ beat-by-lines : (s : List ℕ) (st : State) (g : Given) → wholeBeat s st g ≡
 unfolding wholeBeat beatOver isSound
 beat-by-lines s st g = refl
 
+-- where it is known whether they and the state are sound
+pub known-is-beat : (s : List ℕ) (ls : Lines) (st : State) (g : Given) {known : Bool} → known ≡ soundOver ls st → beatKnown known s ls st g ≡ beatOver s ls st g
+unfolding beatKnown beatOver
+known-is-beat s ls st g e = rw e (go (ls .sound))
+  where
+    go : (b : Bool) → beatWhere (b && (b && stateSound (ls .count) st)) s ls st g ≡ beatWhere (b && stateSound (ls .count) st) s ls st g
+    go true = refl
+    go false = refl
+
 -- over the lines read from the set
 pub beat-over-lines : (s : List ℕ) (st : State) (g : Given) {lines : List ℕ} {x : State} → lines ≡ linesWritten s → x ≡ st → beatOver s (linesIn lines) x g ≡ wholeBeat s st g
 beat-over-lines s st g p q = rw (p, q, lines-back s) (sym (beat-by-lines s st g))
+
+pub sound-by-lines : (s : List ℕ) (st : State) {lines : List ℕ} → lines ≡ linesWritten s → soundOver (linesIn lines) st ≡ isSound s st
+unfolding isSound
+sound-by-lines s st p = rw (p, lines-back s)
+
+-- where it is known whether the set and the state are sound
+pub known-over-lines : (s : List ℕ) (st : State) (g : Given) {lines : List ℕ} {known : Bool} → lines ≡ linesWritten s → known ≡ isSound s st → beatKnown known s (linesIn lines) st g ≡ wholeBeat s st g
+known-over-lines s st g {lines} p e = known-is-beat s (linesIn lines) st g (e ∙ sym (sound-by-lines s st p)) ∙ beat-over-lines s st g p refl
 
 -- of the buffer a beat looks at the size only
 pub beat-any-buffer : (s : List ℕ) (st : State) (automatic : Bool) (word : ℕ) (readings : List Reading) (lent : List ℤ) (b c : List ℕ) → length b ≡ length c →

@@ -5,10 +5,10 @@ ghost use mathlib.Core.List.{_++_};
 ghost use Prim.Native.Nat.{_≤_};
 ghost use lib.Dec.{eqb};
 ghost use lib.ListN.{length, take, drop};
-ghost use Rattle.working.specs.Variables.{analogueCount, positionCount};
+ghost use Rattle.working.specs.Variables.{inputCount, analogueCount, positionCount};
 ghost use Rattle.engine.specs.ActCount.{oneMore, countedActs};
-ghost use Rattle.engine.specs.Beat.{bufferSize, areInputs, beatAnswer, beatBuffer};
-ghost use Rattle.engine.specs.Held.{heldIn, heldAfter, keptHeld, turnedCode, turnsHeld, beatHeld};
+ghost use Rattle.engine.specs.Beat.{bufferSize, areInputs, soundOver, beatAnswer, beatBuffer};
+ghost use Rattle.engine.specs.Held.{heldIn, heldAfter, keptHeld, turnedCode, turnsHeld, knownHeld, beatHeld};
 ghost use Rattle.engine.specs.ReadLines.{linesIn};
 ghost use Rattle.engine.specs.Order.{maxOrders};
 ghost use Rattle.tokens.specs.Token.{maxLines};
@@ -205,8 +205,39 @@ fn all_turns(
     finished(f, kept)
 }
 
-// A beat in place, over lines that were read before: its checks 22, 20, 21, 23 in that order, then its turns.
-fn beat_held(
+// Whether lines that were read before and a state are sound: the state is lent by its arrays, its cells as those of a beat.
+pub fn is_sound_over(
+    lines: &[usize; READ],
+    r: &[i32; RS],
+    cells: &[i32; CELLS],
+    runs: &[bool; TIMERS],
+    channels: [Channel; CHANNELS],
+    locked: &[bool; LINES],
+    cancelled: &[bool; LINES],
+    memory: &[bool; LINES],
+    acts: &[u32; LINES],
+) -> bool
+    ensures { λ x. ⌜ x ≡ soundOver (linesIn (now (lines .entry))) (record { r = now (r .entry); cells = drop inputCount (now (cells .entry)); runs = now (runs .entry); channels = channels; locked = now (locked .entry); cancelled = now (cancelled .entry); memory = now (memory .entry); acts = now (acts .entry) }) ⌝ }
+{
+    if !are_sound(lines) {
+        return false;
+    }
+    let all = &cells[..];
+    is_held_sound(
+        count_of(lines),
+        r,
+        &all[INPUTS..],
+        channels,
+        locked,
+        cancelled,
+        memory,
+        acts,
+    )
+}
+
+// A beat in place, over lines that were read before and from a state of which the caller says whether they are sound: its checks 22, 20, 21, 23 in that order, then its turns.
+fn known_held(
+    known: bool,
     set: &[u32; SIZE],
     lines: &[usize; READ],
     r: &mut [i32; RS],
@@ -223,23 +254,13 @@ fn beat_held(
     lent: &[i32],
     orders: &mut [u8],
 ) -> BeatCode
-    ensures { λ x. ⌜ x ≡ turnedCode channels (keptHeld (heldIn (now (r .entry)) (now (cells .entry)) (now (runs .entry)) channels (now (locked .entry)) (now (memory .entry)) (now (acts .entry)) (now (orders .entry))) readings) (beatHeld (now (set .entry)) (linesIn (now (lines .entry))) (now (cancelled .entry)) (heldIn (now (r .entry)) (now (cells .entry)) (now (runs .entry)) channels (now (locked .entry)) (now (memory .entry)) (now (acts .entry)) (now (orders .entry))) automatic inputs readings (now (lent .entry))) ⌝ }
-    ensures { λ x. ⌜ heldIn (now (r .exit)) (now (cells .exit)) (now (runs .exit)) (x .channels) (now (locked .exit)) (now (memory .exit)) (now (acts .exit)) (now (orders .exit)) ≡ heldAfter (heldIn (now (r .entry)) (now (cells .entry)) (now (runs .entry)) channels (now (locked .entry)) (now (memory .entry)) (now (acts .entry)) (now (orders .entry))) (keptHeld (heldIn (now (r .entry)) (now (cells .entry)) (now (runs .entry)) channels (now (locked .entry)) (now (memory .entry)) (now (acts .entry)) (now (orders .entry))) readings) (beatHeld (now (set .entry)) (linesIn (now (lines .entry))) (now (cancelled .entry)) (heldIn (now (r .entry)) (now (cells .entry)) (now (runs .entry)) channels (now (locked .entry)) (now (memory .entry)) (now (acts .entry)) (now (orders .entry))) automatic inputs readings (now (lent .entry))) ⌝ }
+    ensures { λ x. ⌜ x ≡ turnedCode channels (keptHeld (heldIn (now (r .entry)) (now (cells .entry)) (now (runs .entry)) channels (now (locked .entry)) (now (memory .entry)) (now (acts .entry)) (now (orders .entry))) readings) (knownHeld known (now (set .entry)) (linesIn (now (lines .entry))) (now (cancelled .entry)) (heldIn (now (r .entry)) (now (cells .entry)) (now (runs .entry)) channels (now (locked .entry)) (now (memory .entry)) (now (acts .entry)) (now (orders .entry))) automatic inputs readings (now (lent .entry))) ⌝ }
+    ensures { λ x. ⌜ heldIn (now (r .exit)) (now (cells .exit)) (now (runs .exit)) (x .channels) (now (locked .exit)) (now (memory .exit)) (now (acts .exit)) (now (orders .exit)) ≡ heldAfter (heldIn (now (r .entry)) (now (cells .entry)) (now (runs .entry)) channels (now (locked .entry)) (now (memory .entry)) (now (acts .entry)) (now (orders .entry))) (keptHeld (heldIn (now (r .entry)) (now (cells .entry)) (now (runs .entry)) channels (now (locked .entry)) (now (memory .entry)) (now (acts .entry)) (now (orders .entry))) readings) (knownHeld known (now (set .entry)) (linesIn (now (lines .entry))) (now (cancelled .entry)) (heldIn (now (r .entry)) (now (cells .entry)) (now (runs .entry)) channels (now (locked .entry)) (now (memory .entry)) (now (acts .entry)) (now (orders .entry))) automatic inputs readings (now (lent .entry))) ⌝ }
 {
     if !are_sound(lines) {
         return refused(UNSOUND, channels);
     }
-    let all = &cells[..];
-    if !is_held_sound(
-        count_of(lines),
-        r,
-        &all[INPUTS..],
-        channels,
-        locked,
-        cancelled,
-        memory,
-        acts,
-    ) {
+    if !known {
         return refused(UNSOUND, channels);
     }
     if orders.len() < ORDERS {
@@ -275,6 +296,58 @@ fn beat_held(
     )
 }
 
+// The same, where that is found by a look at all of the state.
+fn beat_held(
+    set: &[u32; SIZE],
+    lines: &[usize; READ],
+    r: &mut [i32; RS],
+    cells: &mut [i32; CELLS],
+    runs: &mut [bool; TIMERS],
+    locked: &mut [bool; LINES],
+    cancelled: &[bool; LINES],
+    memory: &mut [bool; LINES],
+    acts: &mut [u32; LINES],
+    channels: [Channel; CHANNELS],
+    automatic: bool,
+    inputs: u16,
+    readings: [Reading; CHANNELS],
+    lent: &[i32],
+    orders: &mut [u8],
+) -> BeatCode
+    ensures { λ x. ⌜ x ≡ turnedCode channels (keptHeld (heldIn (now (r .entry)) (now (cells .entry)) (now (runs .entry)) channels (now (locked .entry)) (now (memory .entry)) (now (acts .entry)) (now (orders .entry))) readings) (beatHeld (now (set .entry)) (linesIn (now (lines .entry))) (now (cancelled .entry)) (heldIn (now (r .entry)) (now (cells .entry)) (now (runs .entry)) channels (now (locked .entry)) (now (memory .entry)) (now (acts .entry)) (now (orders .entry))) automatic inputs readings (now (lent .entry))) ⌝ }
+    ensures { λ x. ⌜ heldIn (now (r .exit)) (now (cells .exit)) (now (runs .exit)) (x .channels) (now (locked .exit)) (now (memory .exit)) (now (acts .exit)) (now (orders .exit)) ≡ heldAfter (heldIn (now (r .entry)) (now (cells .entry)) (now (runs .entry)) channels (now (locked .entry)) (now (memory .entry)) (now (acts .entry)) (now (orders .entry))) (keptHeld (heldIn (now (r .entry)) (now (cells .entry)) (now (runs .entry)) channels (now (locked .entry)) (now (memory .entry)) (now (acts .entry)) (now (orders .entry))) readings) (beatHeld (now (set .entry)) (linesIn (now (lines .entry))) (now (cancelled .entry)) (heldIn (now (r .entry)) (now (cells .entry)) (now (runs .entry)) channels (now (locked .entry)) (now (memory .entry)) (now (acts .entry)) (now (orders .entry))) automatic inputs readings (now (lent .entry))) ⌝ }
+{
+    let known = is_sound_over(
+        lines,
+        r,
+        cells,
+        runs,
+        channels,
+        locked,
+        cancelled,
+        memory,
+        acts,
+    );
+    known_held(
+        known,
+        set,
+        lines,
+        r,
+        cells,
+        runs,
+        locked,
+        cancelled,
+        memory,
+        acts,
+        channels,
+        automatic,
+        inputs,
+        readings,
+        lent,
+        orders,
+    )
+}
+
 // One beat over lines that were read before, in place. The cells are those of a beat: 30 of inputs, then those of the state. What the channels keep goes in and comes back by value. On any code all is as it was.
 pub fn beat_over(
     set: &[u32; SIZE],
@@ -303,6 +376,54 @@ pub fn beat_over(
     ensures { λ x. ⌜ now (orders .exit) ≡ heldAfter (heldIn (now (r .entry)) (now (cells .entry)) (now (runs .entry)) channels (now (locked .entry)) (now (memory .entry)) (now (acts .entry)) (now (orders .entry))) (keptHeld (heldIn (now (r .entry)) (now (cells .entry)) (now (runs .entry)) channels (now (locked .entry)) (now (memory .entry)) (now (acts .entry)) (now (orders .entry))) readings) (beatHeld (now (set .entry)) (linesIn (now (lines .entry))) (now (cancelled .entry)) (heldIn (now (r .entry)) (now (cells .entry)) (now (runs .entry)) channels (now (locked .entry)) (now (memory .entry)) (now (acts .entry)) (now (orders .entry))) automatic inputs readings (now (lent .entry))) .buffer ⌝ }
 {
     beat_held(
+        set,
+        lines,
+        r,
+        cells,
+        runs,
+        locked,
+        cancelled,
+        memory,
+        acts,
+        channels,
+        automatic,
+        inputs,
+        readings,
+        lent,
+        orders,
+    )
+}
+
+// The same for a caller who knows whether the lines and the state are sound, and says so: of the state no place is looked at for 22. Where `known` is what `is_sound_over` answers, this is `beat_over`.
+pub fn beat_known(
+    known: bool,
+    set: &[u32; SIZE],
+    lines: &[usize; READ],
+    r: &mut [i32; RS],
+    cells: &mut [i32; CELLS],
+    runs: &mut [bool; TIMERS],
+    locked: &mut [bool; LINES],
+    cancelled: &[bool; LINES],
+    memory: &mut [bool; LINES],
+    acts: &mut [u32; LINES],
+    channels: [Channel; CHANNELS],
+    automatic: bool,
+    inputs: u16,
+    readings: [Reading; CHANNELS],
+    lent: &[i32],
+    orders: &mut [u8],
+) -> BeatCode
+    ensures { λ x. ⌜ x ≡ turnedCode channels (keptHeld (heldIn (now (r .entry)) (now (cells .entry)) (now (runs .entry)) channels (now (locked .entry)) (now (memory .entry)) (now (acts .entry)) (now (orders .entry))) readings) (knownHeld known (now (set .entry)) (linesIn (now (lines .entry))) (now (cancelled .entry)) (heldIn (now (r .entry)) (now (cells .entry)) (now (runs .entry)) channels (now (locked .entry)) (now (memory .entry)) (now (acts .entry)) (now (orders .entry))) automatic inputs readings (now (lent .entry))) ⌝ }
+    ensures { λ x. ⌜ now (r .exit) ≡ heldAfter (heldIn (now (r .entry)) (now (cells .entry)) (now (runs .entry)) channels (now (locked .entry)) (now (memory .entry)) (now (acts .entry)) (now (orders .entry))) (keptHeld (heldIn (now (r .entry)) (now (cells .entry)) (now (runs .entry)) channels (now (locked .entry)) (now (memory .entry)) (now (acts .entry)) (now (orders .entry))) readings) (knownHeld known (now (set .entry)) (linesIn (now (lines .entry))) (now (cancelled .entry)) (heldIn (now (r .entry)) (now (cells .entry)) (now (runs .entry)) channels (now (locked .entry)) (now (memory .entry)) (now (acts .entry)) (now (orders .entry))) automatic inputs readings (now (lent .entry))) .r ⌝ }
+    ensures { λ x. ⌜ now (cells .exit) ≡ heldAfter (heldIn (now (r .entry)) (now (cells .entry)) (now (runs .entry)) channels (now (locked .entry)) (now (memory .entry)) (now (acts .entry)) (now (orders .entry))) (keptHeld (heldIn (now (r .entry)) (now (cells .entry)) (now (runs .entry)) channels (now (locked .entry)) (now (memory .entry)) (now (acts .entry)) (now (orders .entry))) readings) (knownHeld known (now (set .entry)) (linesIn (now (lines .entry))) (now (cancelled .entry)) (heldIn (now (r .entry)) (now (cells .entry)) (now (runs .entry)) channels (now (locked .entry)) (now (memory .entry)) (now (acts .entry)) (now (orders .entry))) automatic inputs readings (now (lent .entry))) .cells ⌝ }
+    ensures { λ x. ⌜ now (runs .exit) ≡ heldAfter (heldIn (now (r .entry)) (now (cells .entry)) (now (runs .entry)) channels (now (locked .entry)) (now (memory .entry)) (now (acts .entry)) (now (orders .entry))) (keptHeld (heldIn (now (r .entry)) (now (cells .entry)) (now (runs .entry)) channels (now (locked .entry)) (now (memory .entry)) (now (acts .entry)) (now (orders .entry))) readings) (knownHeld known (now (set .entry)) (linesIn (now (lines .entry))) (now (cancelled .entry)) (heldIn (now (r .entry)) (now (cells .entry)) (now (runs .entry)) channels (now (locked .entry)) (now (memory .entry)) (now (acts .entry)) (now (orders .entry))) automatic inputs readings (now (lent .entry))) .runs ⌝ }
+    ensures { λ x. ⌜ now (locked .exit) ≡ heldAfter (heldIn (now (r .entry)) (now (cells .entry)) (now (runs .entry)) channels (now (locked .entry)) (now (memory .entry)) (now (acts .entry)) (now (orders .entry))) (keptHeld (heldIn (now (r .entry)) (now (cells .entry)) (now (runs .entry)) channels (now (locked .entry)) (now (memory .entry)) (now (acts .entry)) (now (orders .entry))) readings) (knownHeld known (now (set .entry)) (linesIn (now (lines .entry))) (now (cancelled .entry)) (heldIn (now (r .entry)) (now (cells .entry)) (now (runs .entry)) channels (now (locked .entry)) (now (memory .entry)) (now (acts .entry)) (now (orders .entry))) automatic inputs readings (now (lent .entry))) .locked ⌝ }
+    ensures { λ x. ⌜ now (memory .exit) ≡ heldAfter (heldIn (now (r .entry)) (now (cells .entry)) (now (runs .entry)) channels (now (locked .entry)) (now (memory .entry)) (now (acts .entry)) (now (orders .entry))) (keptHeld (heldIn (now (r .entry)) (now (cells .entry)) (now (runs .entry)) channels (now (locked .entry)) (now (memory .entry)) (now (acts .entry)) (now (orders .entry))) readings) (knownHeld known (now (set .entry)) (linesIn (now (lines .entry))) (now (cancelled .entry)) (heldIn (now (r .entry)) (now (cells .entry)) (now (runs .entry)) channels (now (locked .entry)) (now (memory .entry)) (now (acts .entry)) (now (orders .entry))) automatic inputs readings (now (lent .entry))) .memory ⌝ }
+    ensures { λ x. ⌜ now (acts .exit) ≡ heldAfter (heldIn (now (r .entry)) (now (cells .entry)) (now (runs .entry)) channels (now (locked .entry)) (now (memory .entry)) (now (acts .entry)) (now (orders .entry))) (keptHeld (heldIn (now (r .entry)) (now (cells .entry)) (now (runs .entry)) channels (now (locked .entry)) (now (memory .entry)) (now (acts .entry)) (now (orders .entry))) readings) (knownHeld known (now (set .entry)) (linesIn (now (lines .entry))) (now (cancelled .entry)) (heldIn (now (r .entry)) (now (cells .entry)) (now (runs .entry)) channels (now (locked .entry)) (now (memory .entry)) (now (acts .entry)) (now (orders .entry))) automatic inputs readings (now (lent .entry))) .acts ⌝ }
+    ensures { λ x. ⌜ now (orders .exit) ≡ heldAfter (heldIn (now (r .entry)) (now (cells .entry)) (now (runs .entry)) channels (now (locked .entry)) (now (memory .entry)) (now (acts .entry)) (now (orders .entry))) (keptHeld (heldIn (now (r .entry)) (now (cells .entry)) (now (runs .entry)) channels (now (locked .entry)) (now (memory .entry)) (now (acts .entry)) (now (orders .entry))) readings) (knownHeld known (now (set .entry)) (linesIn (now (lines .entry))) (now (cancelled .entry)) (heldIn (now (r .entry)) (now (cells .entry)) (now (runs .entry)) channels (now (locked .entry)) (now (memory .entry)) (now (acts .entry)) (now (orders .entry))) automatic inputs readings (now (lent .entry))) .buffer ⌝ }
+{
+    known_held(
+        known,
         set,
         lines,
         r,

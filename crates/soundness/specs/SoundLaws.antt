@@ -1,6 +1,6 @@
 -- Every call keeps a sound state sound, and none answers 22: the turns of a beat, the beat, and any calls one after another from power-on. Nothing is assumed.
 -- A set has at most `setSize` places, a state `rCount` of R and `stateCells` cells, as their types in the program say; that is all that is asked of lengths.
-use mathlib.Core.Path.{_≡_, refl, _∙_}
+use mathlib.Core.Path.{_≡_, refl, sym, ap, _∙_}
 use mathlib.Core.Bool.{Bool, true, false, cond, not, _||_}
 use mathlib.Core.List.{List, [], _∷_, _++_, append-assoc}
 use Prim.Native.Nat.{ℕ, zero, suc, _+_, _/_, _%_, _^_, _≤_, _<_}
@@ -10,7 +10,7 @@ use lib.IntN.{ℤ, pos}
 use lib.ListN.{length, getD, length-append, length-drop, length-set}
 use lib.Seq.{drop-at}
 use borrow.Author.Tests.{eqb-true, not-true}
-use Rattle.values.specs.Choice.{either, ifNot, both}
+use Rattle.values.specs.Choice.{either, ifNot, both, decide, refused}
 use Rattle.values.specs.Value.{unit, inRange}
 use Rattle.values.specs.ValueLaws.{abs-range}
 use Rattle.values.specs.Time.{timer}
@@ -37,7 +37,9 @@ use Rattle.engine.specs.Actions.{actionsOf}
 use Rattle.engine.specs.Turn.{Entry, Turned, remembered, counted, takesTurn, doTurn, tryTurn, turnOf, turnsFrom}
 use Rattle.engine.specs.Keyword.{tries, remembers}
 use Rattle.engine.specs.Beat.{bufferSize, areInputs, Given, samplesIn, beatBegun, beatEnded, allTurns, wholeBeat, turnedAnswer, beatAnswer}
-use Rattle.engine.specs.Calls.{lockCall, unlockCall, cancelCall, programEndCall}
+use Rattle.engine.specs.declared.named_line.Found.{Found}
+use Rattle.engine.specs.NamedLine.{found}
+use Rattle.engine.specs.Calls.{called, lockedCall, lockCall, unlockCall, cancelCall, programEndCall, controlResetCall}
 use Rattle.engine.specs.InputLaws.{length-inputs, inputs-length}
 use Rattle.soundness.specs.Call.{Call, doBeat, doLock, doUnlock, doCancel, doProgramEnd, doControlReset, stateAfter, codeAfter, afterAll}
 use Rattle.soundness.specs.GoodAnswers.{Not22, Holds, holds-then, holds-ok}
@@ -233,6 +235,27 @@ call-keeps s st (doBeat g) l h = beat-answers s st g l h .0
 -- A SOUND STATE STAYS SOUND, whatever is called
 pub sound-stays-sound : (s : List ℕ) (st : State) (c : Call) → length s ≤ setSize → length (st .r) ≡ rCount → length (st .cells) ≡ stateCells → isSound s st ≡ true → isSound s (stateAfter s st c) ≡ true
 sound-stays-sound s st c l lr lc h = call-keeps s st c l (record { sound = h; long = lr; sized = lc }) .sound
+
+-- a state that is not sound stays as it is
+call-refused : (s : List ℕ) (st : State) (n : ℕ) (change : ℕ → State) → isSound s st ≡ false → called st (found s st n) change .state ≡ st
+unfolding called found
+call-refused s st n change e = ap (λ (f : Found). called st f change .state) (refused (isSound s st) _ _ e)
+
+unsound-stays : (s : List ℕ) (st : State) (c : Call) → isSound s st ≡ false → stateAfter s st c ≡ st
+unfolding beatAnswer wholeBeat lockCall unlockCall lockedCall cancelCall programEndCall controlResetCall
+unsound-stays s st (doLock n) e = call-refused s st n _ e
+unsound-stays s st (doUnlock n) e = call-refused s st n _ e
+unsound-stays s st (doCancel n) e = call-refused s st n _ e
+unsound-stays s st doProgramEnd e = ap (λ (x : Called). x .state) (refused (isSound s st) _ _ e)
+unsound-stays s st doControlReset e = ap (λ (x : Called). x .state) (refused (isSound s st) _ _ e)
+unsound-stays s st (doBeat g) e = ap (λ (x : Answer Turned). turnedAnswer st (samplesIn st g .channels) x .state) (refused (isSound s st) _ _ e)
+
+-- A STATE STAYS AS SOUND AS IT IS, and of its size, whatever is called
+pub as-sound : (s : List ℕ) (st : State) (c : Call) → length s ≤ setSize → length (st .r) ≡ rCount → length (st .cells) ≡ stateCells →
+    (isSound s (stateAfter s st c) ≡ isSound s st) × ((length (stateAfter s st c .r) ≡ rCount) × (length (stateAfter s st c .cells) ≡ stateCells))
+as-sound s st c l lr lc =
+    decide _ (isSound s st) (λ e. let w = call-keeps s st c l (record { sound = e; long = lr; sized = lc }) in (w .sound ∙ sym e, (w .long, w .sized)))
+    (λ e. rw (unsound-stays s st c e) (refl, (lr, lc)))
 
 -- and answers no 22
 pub call-not22 : (s : List ℕ) (st : State) (c : Call) → length s ≤ setSize → Whole s st → Not22 (codeAfter s st c)

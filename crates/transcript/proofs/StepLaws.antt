@@ -1,5 +1,5 @@
 -- A session as the code works it: beats, calls, the set text, the line's end. Each law says what the definition comes to where the code's tests led.
-use mathlib.Core.Path.{_≡_, refl, sym, ap, _∙_}
+use mathlib.Core.Path.{_≡_, refl, sym, ap, subst, _∙_}
 use mathlib.Core.Bool.{Bool, true, false}
 use mathlib.Core.List.{List, [], _++_}
 use mathlib.Core.Logic.{inl, inr}
@@ -7,9 +7,13 @@ use mathlib.Core.Option.{Option, none, some}
 use Prim.Native.Nat.{ℕ, zero, suc, _+_, _≤_}
 use native.Mathlib.Omega.{arith}
 use borrow.Author.Tests.{eq-eqb, ne-eqb}
+use lib.Dec.{eqb}
 use lib.ListN.{take}
 use Rattle.values.specs.Numbers.{clash}
+use Rattle.values.specs.Choice.{either}
 use Rattle.engine.specs.declared.state.State.{State}
+use Rattle.soundness.specs.Call.{Call, doBeat, doProgramEnd, doControlReset, stateAfter}
+use Rattle.soundness.specs.SoundLaws.{as-sound}
 use Rattle.reader.specs.declared.load_text.Loaded.{Loaded}
 use Rattle.values.specs.PutAt.{IsPut}
 use Rattle.reader.specs.Load.{loadAnswer, loadSet}
@@ -25,7 +29,7 @@ use Rattle.transcript.specs.declared.totals.Counts.{Counts}
 use Rattle.transcript.specs.declared.totals.Totals.{Totals}
 use Rattle.transcript.specs.Totals.{lastLine, ended, calling, areFit}
 use Rattle.transcript.specs.TotalsLaws.{FitTotals}
-use Rattle.transcript.specs.Tally.{counted, answerOf, beatPrinted, saidCounted, saidPrinted}
+use Rattle.transcript.specs.Tally.{counted, givenBy, answerOf, beatPrinted, saidCounted, saidPrinted}
 use Rattle.transcript.specs.SetText.{keptSize}
 use Rattle.transcript.specs.Intake.{OVER, withPhase, intakeFits, Arrival, nothing, wholeText, lineCame, Arrived, lineOver, lineKept, inputOver}
 use Rattle.transcript.specs.IntakeAnswers.{lineEnding, endingOf, sizeIn, lentSaid, lentBy, broughtBy}
@@ -33,6 +37,7 @@ use Rattle.transcript.specs.IntakeLaws.{FitIntake, line-fit, input-fit, 
 use Rattle.transcript.specs.Machine.{Machine, Fed, withIntake, withTotals, stopped, isFit, standing, opened, saidOf, saidEnd, arrivalWorked, lineEnd}
 use Rattle.transcript.specs.SessionAnswers.{IsFed, machineOf, sessionOf}
 use Rattle.transcript.specs.InPlace.{totalsOf, countsCalled, callSaid, callLeft}
+use Rattle.transcript.specs.InPlaceLaws.{KeptBeside}
 use Rattle.transcript.specs.MaybeLent.{maybeLent, lentIn, lentOr}
 use Rattle.transcript.specs.SessionRoomLaws.{LiveTotals, Lives, beat-printed-room}
 
@@ -122,6 +127,35 @@ module _ (t s : List ℕ) (x : Session) (b : Bool) {y : Totals} (e : y ≡ calli
 -- the counts n with a call that leaves a state, which is then held as x
 pub held-called : (n : Counts) {left : State} {next : Counts} → next ≡ countsCalled n (left .channels) → {x : State} → x ≡ left → (before : State) → totalsOf next x ≡ calling (totalsOf n before) left
 held-called n e h before = rw (h, e)
+
+-- ---- what is kept beside the set and the state
+
+-- a line that says something leaves it as it is
+pub said-beside : (t s : List ℕ) (x : Session) (o : Option Said) {y : Session} {b exit : List ℕ} {at q : ℕ} → IsFed (saidEnd (machineOf t s x) o) (machineOf t s y) b at exit q →
+    {lines : List ℕ} {known : Bool} → KeptBeside s (x .totals .state) lines known → KeptBeside s (y .totals .state) lines known
+unfolding saidEnd saidOf answerOf
+said-beside t s x o f {lines} {known} k = subst (λ (m : Machine). KeptBeside s (m .session .totals .state) lines known) (f .machine) (go o)
+  where
+    called : (c : Call) → KeptBeside s (stateAfter s (x .totals .state) c) lines known
+    called c =
+        let z = k .sized in
+        let e = as-sound s (x .totals .state) c (z .0) (z .1 .0) (z .1 .1) in
+        record { read = k .read; told = k .told ∙ sym (e .0); sized = (z .0, e .1) }
+
+    after : (y : Said) → KeptBeside s (saidCounted s (x .totals) y .state) lines known
+    after (beat l) = called (doBeat (givenBy l))
+    after programEnd = called doProgramEnd
+    after controlReset = called doControlReset
+
+    go : (o : Option Said) → KeptBeside s (saidEnd (machineOf t s x) o .machine .session .totals .state) lines known
+    go none = k
+    go (some y) = either (λ (g : Fed). KeptBeside s (g .machine .session .totals .state) lines known) (eqb (saidCounted s (x .totals) y .lines) lastLine) (λ e. after y) (λ e. after y)
+
+-- so does a call
+pub call-beside : (t s : List ℕ) (x : Session) (b : Bool) {y : Session} {o exit : List ℕ} {at q : ℕ} → IsFed (saidOf (machineOf t s x) (callSaid b)) (machineOf t s y) o at exit q →
+    {lines : List ℕ} {known : Bool} → KeptBeside s (x .totals .state) lines known → KeptBeside s (y .totals .state) lines known
+unfolding saidEnd
+call-beside t s x b f k = said-beside t s x (some (callSaid b)) f k
 
 -- ---- the set text
 

@@ -13,10 +13,10 @@ use Rattle.engine.specs.declared.one_beat.BeatCode.{BeatCode}
 use Rattle.engine.specs.declared.one_beat.Beaten.{Beaten}
 use Rattle.engine.specs.declared.state.State.{State}
 use Rattle.engine.specs.Turn.{Turned}
-use Rattle.engine.specs.ReadLines.{linesWritten, linesIn}
+use Rattle.engine.specs.ReadLines.{linesIn}
 use Rattle.engine.specs.Beat.{bufferSize, buffered, wholeBeat, turnedAnswer, beatAnswer, beatBuffer}
-use Rattle.engine.specs.Held.{Held, stateHeld, givenTo, keptHeld, beatHeld, turnedCode, heldAfter}
-use Rattle.engine.specs.HeldLaws.{beat-over-lines, beat-any-buffer, held-is, put-back}
+use Rattle.engine.specs.Held.{Held, stateHeld, givenTo, keptHeld, knownHeld, turnedCode, heldAfter}
+use Rattle.engine.specs.HeldLaws.{known-over-lines, beat-any-buffer, held-is, put-back}
 use Rattle.engine.specs.Order.{orderSize, maxOrders}
 use Rattle.values.specs.PutAt.{IsPut}
 use Rattle.values.specs.PutLaws.{put-as}
@@ -31,6 +31,7 @@ use Rattle.transcript.specs.declared.totals.Totals.{Totals}
 use Rattle.transcript.specs.declared.view.View.{View}
 use Rattle.transcript.specs.Tally.{readingsIn, counted, givenBy, answerOf, bufferOf, beatText, printedBy, beatPrinted}
 use Rattle.transcript.specs.InPlace.{totalsOf, countsAfter, stateIn}
+use Rattle.transcript.specs.InPlaceLaws.{KeptBeside}
 use Rattle.transcript.specs.SessionRoomLaws.{beat-orders}
 
 -- where C ends
@@ -87,19 +88,19 @@ channels-same : (h : Held) (kept : List Channel) (y : Answer Turned) → turnedC
 channels-same h kept (good t) = refl
 channels-same h kept (stop k) = refl
 
-module _ (s : List ℕ) (n : Counts) (l : Lent) (cancelled : List Bool) (h : Held) {lines : List ℕ} (read : lines ≡ linesWritten s) (size : length (h .buffer) ≡ bufferSize) {readings : List Reading} (sent : readings ≡ readingsIn (l .sent)) where
+module _ (s : List ℕ) (n : Counts) (l : Lent) (cancelled : List Bool) (h : Held) {lines : List ℕ} {known : Bool} (beside : KeptBeside s (stateHeld cancelled h) lines known) (size : length (h .buffer) ≡ bufferSize) {readings : List Reading} (sent : readings ≡ readingsIn (l .sent)) where
   abbrev before : Totals
   before = totalsOf n (stateHeld cancelled h)
 
   abbrev turned : Answer Turned
-  turned = beatHeld s (linesIn lines) cancelled h (l .automatic) (l .word) readings (l .positions)
+  turned = knownHeld known s (linesIn lines) cancelled h (l .automatic) (l .word) readings (l .positions)
 
   abbrev kept : List Channel
   kept = keptHeld h readings
 
   whole : turned ≡ wholeBeat s (stateHeld cancelled h) (givenBy l)
   whole =
-      beat-over-lines s (stateHeld cancelled h) (givenTo h (l .automatic) (l .word) readings (l .positions)) read refl ∙
+      known-over-lines s (stateHeld cancelled h) (givenTo h (l .automatic) (l .word) readings (l .positions)) (beside .read) (beside .told) ∙
       beat-any-buffer s (stateHeld cancelled h) (l .automatic) (l .word) readings (l .positions) (h .buffer) (replicate bufferSize 0) (size ∙ sym (length-replicate {A = ℕ} bufferSize 0)) ∙
       ap (λ (x : List Reading). wholeBeat s (stateHeld cancelled h) (record { automatic = l .automatic; word = l .word; readings = x; lent = l .positions; buffer = replicate bufferSize 0 })) sent
 

@@ -1,12 +1,17 @@
 -- What is fit of a session that is held in place does not look at its state; and totals whose state is taken apart. Assumes nothing.
 use mathlib.Core.Path.{_≡_, sym, ap}
-use mathlib.Core.Bool.{true}
+use mathlib.Core.Bool.{Bool, true}
 use mathlib.Core.List.{List, []}
 use mathlib.Core.Logic.{inl, inr}
-use Prim.Native.Nat.{_≤_}
+use Prim.Native.Nat.{ℕ, _≤_}
 use lib.IntN.{ℤ}
+use lib.ListN.{length}
+use Rattle.tokens.specs.Token.{setSize}
+use Rattle.working.specs.Variables.{rCount, stateCells}
 use Rattle.engine.specs.declared.state.State.{State}
 use Rattle.engine.specs.Cells.{spreadCells}
+use Rattle.engine.specs.ReadLines.{linesWritten}
+use Rattle.engine.specs.Sound.{isSound}
 use Rattle.engine.specs.HeldLaws.{state-apart}
 use Rattle.transcript.specs.declared.intake.Brought.{Brought}
 use Rattle.transcript.specs.declared.intake.Ending.the-variants as E
@@ -46,6 +51,16 @@ fit-on i n x h y = h
 pub record MayCome (b : Brought) (n : Counts) : Type 0 where
   pub kept : b .size ≤ keptSize
   pub counts : (b .ending ≡ E.Nothing → ⊥) → FitCounts n
+
+-- a set and a state of their sizes
+abbrev pub Sized : List ℕ → State → Type 0
+Sized s x = (length s ≤ setSize) × ((length (x .r) ≡ rCount) × (length (x .cells) ≡ stateCells))
+
+-- what is kept beside the set s and the state x while a piece is worked: the lines that were read, and whether both are sound
+pub record KeptBeside (s : List ℕ) (x : State) (lines : List ℕ) (known : Bool) : Type 0 where
+  pub read : lines ≡ linesWritten s
+  pub told : known ≡ isSound s x
+  pub sized : Sized s x
 
 -- ---- taken apart
 

@@ -15,7 +15,7 @@ ghost use Rattle.transcript.specs.Machine.{isFit, opened, saidOf, saidEn
 ghost use Rattle.transcript.specs.Output.{lastStart};
 ghost use Rattle.transcript.specs.SessionAnswers.{IsFed, IsWorked, machineOf, sessionOf};
 ghost use Rattle.transcript.specs.InPlace.{stateIn, sessionIn, callSaid, callLeft};
-ghost use Rattle.transcript.specs.InPlaceLaws.{FitCounts, LivesOn, MayCome};
+ghost use Rattle.transcript.specs.InPlaceLaws.{FitCounts, LivesOn, MayCome, KeptBeside};
 ghost use Rattle.transcript.specs.MaybeLent.{lentIn, lentOr};
 use crate::beat_line::MaybeLent;
 use crate::intake::Brought;
@@ -40,6 +40,7 @@ use engine::ORDERS;
 use engine::READ;
 use engine::State;
 use engine::control_reset;
+use engine::is_sound_over;
 use engine::kept_cells;
 use engine::program_end;
 use engine::read_lines;
@@ -103,8 +104,41 @@ pub fn state_in(
     }
 }
 
+// Whether the set and the state are sound. The three slices are there that the sizes are told.
+pub fn look(
+    set: &[u32; SIZE],
+    lines: &[usize; READ],
+    r: &[i32; RS],
+    cells: &[i32; CELLS],
+    runs: &[bool; TIMERS],
+    channels: [Channel; CHANNELS],
+    locked: &[bool; LINES],
+    cancelled: &[bool; LINES],
+    memory: &[bool; LINES],
+    acts: &[u32; LINES],
+) -> bool
+    requires { ⌜ now lines ≡ linesWritten (now set) ⌝ }
+    ensures { λ x. ⌜ KeptBeside (now (set .entry)) (stateIn (now (r .entry)) (now (cells .entry)) (now (runs .entry)) channels (now (locked .entry)) (now (cancelled .entry)) (now (memory .entry)) (now (acts .entry))) (now (lines .entry)) x ⌝ }
+{
+    let _s = &set[..];
+    let _r = &r[..];
+    let _c = &cells[..];
+    is_sound_over(
+        lines,
+        r,
+        cells,
+        runs,
+        channels,
+        locked,
+        cancelled,
+        memory,
+        acts,
+    )
+}
+
 // A beat line that lends something: what is printed of the beat, and the end behind the last line.
 fn work_beat(
+    known: bool,
     intake: Intake,
     counts: Counts,
     set: &[u32; SIZE],
@@ -121,10 +155,11 @@ fn work_beat(
     out: &mut [u8],
     at: usize,
 ) -> Ended
-    requires { ⌜ (now lines ≡ linesWritten (now set)) × (FitCounts counts × (at ≤ lastStart)) ⌝ }
+    requires { ⌜ KeptBeside (now set) (stateIn (now r) (now cells) (now runs) (counts .channels) (now locked) (now cancelled) (now memory) (now acts)) (now lines) known × (FitCounts counts × (at ≤ lastStart)) ⌝ }
     ensures { λ x. ⌜ ((t : List ℕ) → IsFed (saidOf (machineOf t (now (set .entry)) (sessionIn intake counts (stateIn (now (r .entry)) (now (cells .entry)) (now (runs .entry)) (counts .channels) (now (locked .entry)) (now (cancelled .entry)) (now (memory .entry)) (now (acts .entry))))) (beat (lentIn lent))) (machineOf t (now (set .entry)) (sessionIn (x .intake) (x .counts) (stateIn (now (r .exit)) (now (cells .exit)) (now (runs .exit)) (x .counts .channels) (now (locked .exit)) (now (cancelled .entry)) (now (memory .exit)) (now (acts .exit))))) (now (out .entry)) at (now (out .exit)) (x .end)) ⌝ }
 {
     let t = tally_beat(
+        known,
         counts,
         set,
         lines,
@@ -160,6 +195,7 @@ fn work_beat(
 
 // A beat line: E if it is ill-formed.
 fn beat_end(
+    known: bool,
     intake: Intake,
     counts: Counts,
     set: &[u32; SIZE],
@@ -176,12 +212,13 @@ fn beat_end(
     out: &mut [u8],
     at: usize,
 ) -> Ended
-    requires { ⌜ (now lines ≡ linesWritten (now set)) × (FitCounts counts × (at ≤ lastStart)) ⌝ }
+    requires { ⌜ KeptBeside (now set) (stateIn (now r) (now cells) (now runs) (counts .channels) (now locked) (now cancelled) (now memory) (now acts)) (now lines) known × (FitCounts counts × (at ≤ lastStart)) ⌝ }
     ensures { λ x. ⌜ ((t : List ℕ) → IsFed (saidEnd (machineOf t (now (set .entry)) (sessionIn intake counts (stateIn (now (r .entry)) (now (cells .entry)) (now (runs .entry)) (counts .channels) (now (locked .entry)) (now (cancelled .entry)) (now (memory .entry)) (now (acts .entry))))) (saysBeat (lentOr lent))) (machineOf t (now (set .entry)) (sessionIn (x .intake) (x .counts) (stateIn (now (r .exit)) (now (cells .exit)) (now (runs .exit)) (x .counts .channels) (now (locked .exit)) (now (cancelled .entry)) (now (memory .exit)) (now (acts .exit))))) (now (out .entry)) at (now (out .exit)) (x .end)) ⌝ }
 {
     let good = lent.good;
     if good {
         return work_beat(
+            known,
             intake,
             counts,
             set,
@@ -329,6 +366,7 @@ fn open_set(
 
 // What the end of a line, or of the input, brought.
 pub fn work_arrival(
+    known: &mut bool,
     b: Brought,
     counts: Counts,
     text: &[u8; KEPT],
@@ -345,8 +383,8 @@ pub fn work_arrival(
     out: &mut [u8],
     at: usize,
 ) -> Ended
-    requires { ⌜ (now lines ≡ linesWritten (now set)) × (MayCome b counts × (at ≤ lastStart)) ⌝ }
-    ensures { λ x. ⌜ now (lines .exit) ≡ linesWritten (now (set .exit)) ⌝ }
+    requires { ⌜ KeptBeside (now set) (stateIn (now r) (now cells) (now runs) (counts .channels) (now locked) (now cancelled) (now memory) (now acts)) (now lines) (now known) × (MayCome b counts × (at ≤ lastStart)) ⌝ }
+    ensures { λ x. ⌜ KeptBeside (now (set .exit)) (stateIn (now (r .exit)) (now (cells .exit)) (now (runs .exit)) (x .counts .channels) (now (locked .exit)) (now (cancelled .exit)) (now (memory .exit)) (now (acts .exit))) (now (lines .exit)) (now (known .exit)) ⌝ }
     ensures { λ x. ⌜ ((a : Arrived) → b ≡ broughtBy a → IsFed (arrivalWorked (machineOf (now (text .entry)) (now (set .entry)) (sessionIn (a .intake) counts (stateIn (now (r .entry)) (now (cells .entry)) (now (runs .entry)) (counts .channels) (now (locked .entry)) (now (cancelled .entry)) (now (memory .entry)) (now (acts .entry))))) (a .arrival)) (machineOf (now (text .entry)) (now (set .exit)) (sessionIn (x .intake) (x .counts) (stateIn (now (r .exit)) (now (cells .exit)) (now (runs .exit)) (x .counts .channels) (now (locked .exit)) (now (cancelled .exit)) (now (memory .exit)) (now (acts .exit))))) (now (out .entry)) at (now (out .exit)) (x .end)) ⌝ }
 {
     let intake = b.intake;
@@ -361,6 +399,19 @@ pub fn work_arrival(
             let all = &text[..];
             let size = b.size;
             let o = open_set(intake, &all[..size], set, lines, out, at);
+            let channels = counts.channels;
+            *known = look(
+                set,
+                lines,
+                r,
+                cells,
+                runs,
+                channels,
+                locked,
+                cancelled,
+                memory,
+                acts,
+            );
             let next = o.intake;
             Ended {
                 intake: next,
@@ -371,6 +422,7 @@ pub fn work_arrival(
         Ending::Beat => {
             let lent = b.lent;
             beat_end(
+                *known,
                 intake,
                 counts,
                 set,
@@ -423,6 +475,7 @@ pub fn work_arrival(
 
 // An LF: what it brings is worked.
 fn line_end(
+    known: &mut bool,
     intake: Intake,
     counts: Counts,
     text: &mut [u8; KEPT],
@@ -439,12 +492,13 @@ fn line_end(
     out: &mut [u8],
     at: usize,
 ) -> Ended
-    requires { ⌜ (now lines ≡ linesWritten (now set)) × (LivesOn intake counts × (at ≤ lastStart)) ⌝ }
-    ensures { λ x. ⌜ now (lines .exit) ≡ linesWritten (now (set .exit)) ⌝ }
+    requires { ⌜ KeptBeside (now set) (stateIn (now r) (now cells) (now runs) (counts .channels) (now locked) (now cancelled) (now memory) (now acts)) (now lines) (now known) × (LivesOn intake counts × (at ≤ lastStart)) ⌝ }
+    ensures { λ x. ⌜ KeptBeside (now (set .exit)) (stateIn (now (r .exit)) (now (cells .exit)) (now (runs .exit)) (x .counts .channels) (now (locked .exit)) (now (cancelled .exit)) (now (memory .exit)) (now (acts .exit))) (now (lines .exit)) (now (known .exit)) ⌝ }
     ensures { λ x. ⌜ IsFed (lineEnd (machineOf (now (text .entry)) (now (set .entry)) (sessionIn intake counts (stateIn (now (r .entry)) (now (cells .entry)) (now (runs .entry)) (counts .channels) (now (locked .entry)) (now (cancelled .entry)) (now (memory .entry)) (now (acts .entry)))))) (machineOf (now (text .exit)) (now (set .exit)) (sessionIn (x .intake) (x .counts) (stateIn (now (r .exit)) (now (cells .exit)) (now (runs .exit)) (x .counts .channels) (now (locked .exit)) (now (cancelled .exit)) (now (memory .exit)) (now (acts .exit))))) (now (out .entry)) at (now (out .exit)) (x .end) ⌝ }
 {
     let b = end_line(intake, text);
     work_arrival(
+        known,
         b,
         counts,
         text,
@@ -486,6 +540,19 @@ pub fn work_lines(
     requires { ⌜ (now lines ≡ linesWritten (now set)) × ((y : State) → isFit (sessionIn intake counts y) ≡ true) ⌝ }
     ensures { λ x. ⌜ IsWorked (worked (machineOf (now (text .entry)) (now (set .entry)) (sessionIn intake counts (stateIn (now (r .entry)) (now (cells .entry)) (now (runs .entry)) (counts .channels) (now (locked .entry)) (now (cancelled .entry)) (now (memory .entry)) (now (acts .entry))))) (now (input .entry))) (machineOf (now (text .exit)) (now (set .exit)) (sessionIn (x .intake) (x .counts) (stateIn (now (r .exit)) (now (cells .exit)) (now (runs .exit)) (x .counts .channels) (now (locked .exit)) (now (cancelled .exit)) (now (memory .exit)) (now (acts .exit))))) (x .taken) (now (out .entry)) (now (out .exit)) (x .written) ⌝ }
 {
+    let channels = counts.channels;
+    let mut known = look(
+        set,
+        lines,
+        r,
+        cells,
+        runs,
+        channels,
+        locked,
+        cancelled,
+        memory,
+        acts,
+    );
     let mut kept = intake;
     let mut n = counts;
     let mut i: usize = 0;
@@ -502,6 +569,7 @@ pub fn work_lines(
             };
         }
         let f = line_end(
+            &mut known,
             kept,
             n,
             text,

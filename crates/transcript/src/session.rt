@@ -9,6 +9,7 @@ ghost use Rattle.transcript.specs.Machine.{begun, isFit, endAfter, finis
 ghost use Rattle.transcript.specs.Output.{endRoom, outSize};
 ghost use Rattle.transcript.specs.SessionAnswers.{machineOf, stepAnswer};
 ghost use Rattle.transcript.specs.InPlace.{sessionIn};
+use crate::in_place::look;
 use crate::in_place::state_in;
 use crate::in_place::work_arrival;
 use crate::in_place::work_lines;
@@ -194,7 +195,21 @@ pub fn finish(session: Session, text: &[u8; KEPT], set: &[u32; SIZE], out: &mut 
     let mut acts = state.acts;
     let mut orders = [0u8; ORDERS];
     let intake = session.intake;
+    let before = state.channels;
+    let mut known = look(
+        &own,
+        &lines,
+        &r,
+        &cells,
+        &runs,
+        before,
+        &locked,
+        &cancelled,
+        &memory,
+        &acts,
+    );
     let f = work_arrival(
+        &mut known,
         end_input(intake),
         counts_of(totals),
         text,

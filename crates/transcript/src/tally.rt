@@ -4,12 +4,11 @@ ghost use mathlib.Core.List.{_++_};
 ghost use Prim.Native.Nat.{_≤_};
 ghost use Rattle.values.specs.PutAt.{IsPut};
 ghost use Rattle.engine.specs.Order.{maxOrders};
-ghost use Rattle.engine.specs.ReadLines.{linesWritten};
 ghost use Rattle.transcript.specs.MaybeLent.{lentIn};
 ghost use Rattle.transcript.specs.Output.{codeLine, orderLines, lastStart};
 ghost use Rattle.transcript.specs.Tally.{readingsIn, counted, answerOf, printedBy, beatPrinted};
 ghost use Rattle.transcript.specs.InPlace.{totalsOf, stateIn};
-ghost use Rattle.transcript.specs.InPlaceLaws.{FitCounts};
+ghost use Rattle.transcript.specs.InPlaceLaws.{FitCounts, KeptBeside};
 use crate::beat_line::MaybeLent;
 use crate::beat_line::Sent;
 use crate::printing::code_line;
@@ -22,7 +21,7 @@ use couplers::reading::Reading;
 use couplers::reading::reading_of;
 use engine::ORDERS;
 use engine::READ;
-use engine::beat_over;
+use engine::beat_known;
 use tokens::token::LINES;
 use tokens::token::SIZE;
 use working::variables::CELLS;
@@ -75,6 +74,7 @@ fn put_beat(
 
 // The beat over what a line told: what is printed of it is put, and it is counted. What the order buffer has behind the orders of this beat is not looked at.
 pub fn tally_beat(
+    known: bool,
     counts: Counts,
     set: &[u32; SIZE],
     lines: &[usize; READ],
@@ -90,7 +90,7 @@ pub fn tally_beat(
     out: &mut [u8],
     at: usize,
 ) -> Tallied
-    requires { ⌜ (now lines ≡ linesWritten (now set)) × (FitCounts counts × (at ≤ lastStart)) ⌝ }
+    requires { ⌜ KeptBeside (now set) (stateIn (now r) (now cells) (now runs) (counts .channels) (now locked) (now cancelled) (now memory) (now acts)) (now lines) known × (FitCounts counts × (at ≤ lastStart)) ⌝ }
     ensures { λ x. ⌜ totalsOf (x .counts) (stateIn (now (r .exit)) (now (cells .exit)) (now (runs .exit)) (x .counts .channels) (now (locked .exit)) (now (cancelled .entry)) (now (memory .exit)) (now (acts .exit))) ≡ counted (totalsOf counts (stateIn (now (r .entry)) (now (cells .entry)) (now (runs .entry)) (counts .channels) (now (locked .entry)) (now (cancelled .entry)) (now (memory .entry)) (now (acts .entry)))) (answerOf (now (set .entry)) (totalsOf counts (stateIn (now (r .entry)) (now (cells .entry)) (now (runs .entry)) (counts .channels) (now (locked .entry)) (now (cancelled .entry)) (now (memory .entry)) (now (acts .entry)))) (lentIn lent)) ⌝ }
     ensures { λ x. ⌜ IsPut (now (out .entry)) at (beatPrinted (now (set .entry)) (totalsOf counts (stateIn (now (r .entry)) (now (cells .entry)) (now (runs .entry)) (counts .channels) (now (locked .entry)) (now (cancelled .entry)) (now (memory .entry)) (now (acts .entry)))) (lentIn lent)) (now (out .exit)) (x .end) ⌝ }
 {
@@ -98,7 +98,8 @@ pub fn tally_beat(
     let readings = readings_in(sent);
     let positions = lent.positions;
     let channels = counts.channels;
-    let b = beat_over(
+    let b = beat_known(
+        known,
         set,
         lines,
         r,

@@ -14,7 +14,7 @@ line-end-spec =
     (tie.spec
     (λ c κs. c .before .before .pre .1 .0 powerOn .intake)
     (λ c κs.
-    let l = c .before .before .before .before .before .before .before .before .before .before .before .before in
+    let l = c .before .before .before .before .before .before .before .before .before .before .before .before .before in
     let s = l .before .before .before in
     let v = s .pre .1 .0 powerOn in
     let b = l .end-line .ensures .0 in
@@ -22,6 +22,6 @@ line-end-spec =
     (λ c. search needs)
     (λ c.
     let w = c .before .before in
-    let l = w .before .before .before .before .before .before .before .before .before .before .before .before .before in
+    let l = w .before .before .before .before .before .before .before .before .before .before .before .before .before .before in
     let s = l .before .before .before in
     (w .work-arrival .ensures .0, fed-as (line-as _ _ _ (l .end-line .ensures .1)) (w .work-arrival .ensures .1 (lineOver (s .args .intake)) (l .end-line .ensures .0)))))

@@ -3,11 +3,12 @@ use borrow.Author.Needs.{needs}
 use native.Mathlib.Omega.{arith}
 use mathlib.Core.Path.{_≡_, sym}
 use mathlib.Core.Bool.{true, false}
+use mathlib.Core.List.{[]}
 use lib.ListN.{length}
 use lib.Seq.{length-take-le}
 use denote.Ref.{now}
 use Rattle.transcript.specs.SetText.{keptSize}
-use Rattle.transcript.proofs.StepLaws.{fed, fed-as, beat-comes, call-comes, came-nothing, came-text, came-beat, came-call}
+use Rattle.transcript.proofs.StepLaws.{fed, fed-as, beat-comes, call-comes, said-beside, call-beside, came-nothing, came-text, came-beat, came-call}
 use Rattle.values.specs.PutLaws.{put-nothing}
 use Rattle.transcript.proofs.in_place.work_arrival.Statement.{statement}
 use Rattle.transcript.proofs.in_place.work_arrival.Tie as tie
@@ -23,6 +24,7 @@ work-arrival-spec =
     let t = now (s .args .text) in
     let e : length t ≡ keptSize = search needs in
     sym (length-take-le _ t (omega (arith, s .pre .1 .0 .kept))))
+    (λ c κs. search needs)
     (λ c κs. search needs)
     (λ c. search needs)
     (λ c κs.
@@ -42,20 +44,30 @@ work-arrival-spec =
     (λ c. (c .before .before .before .before .pre .0, λ a e. fed (came-nothing _ _ _ a e (c .enum-told .given .1)) put-nothing))
     (λ c. search needs)
     (λ c.
-    let o = c .before .before .before in
-    (o .open-set .ensures .0, λ a e. fed-as (came-text _ _ _ a e (o .before .before .before .before .before .before .enum-told2 .given .1)) (o .open-set .ensures .1 _ _ _)))
+    let k = c .before in
+    let o = k .before .before .before .before .before .before .before .before .before .before .before .before .before in
+    (k .look .ensures, λ a e. fed-as (came-text _ _ _ a e (o .before .before .before .before .before .before .enum-told2 .given .1)) (o .open-set .ensures .1 _ _ _)))
     (λ c. search needs)
     (λ c.
     let b = c .before .before in
     let m = b .before .before .before .before .before .before .before .before .before .before .before .before .before in
-    (m .before .before .before .before .pre .0, λ a e. fed-as (came-beat _ _ _ a e (m .enum-told3 .given .1)) (b .beat-end .ensures _)))
+    let s = m .before .before .before .before in (
+      said-beside [] _ _ _ (b .beat-end .ensures []) (s .pre .0),
+      λ a e. fed-as (came-beat _ _ _ a e (m .enum-told3 .given .1)) (b .beat-end .ensures _),
+    ))
     (λ c. search needs)
     (λ c.
     let w = c .before .before in
     let m = w .before .before .before .before .before .before .before .before .before .before in
-    (m .before .before .before .before .pre .0, λ a e. fed-as (came-call _ _ _ a e false (m .enum-told4 .given .1)) (w .work-call .ensures _)))
+    let s = m .before .before .before .before in (
+      call-beside [] _ _ false (w .work-call .ensures []) (s .pre .0),
+      λ a e. fed-as (came-call _ _ _ a e false (m .enum-told4 .given .1)) (w .work-call .ensures _),
+    ))
     (λ c. search needs)
     (λ c.
     let w = c .before .before in
     let m = w .before .before .before .before .before .before .before .before .before .before in
-    (m .before .before .before .before .pre .0, λ a e. fed-as (came-call _ _ _ a e true (m .enum-told5 .given .1)) (w .work-call2 .ensures _))))
+    let s = m .before .before .before .before in (
+      call-beside [] _ _ true (w .work-call2 .ensures []) (s .pre .0),
+      λ a e. fed-as (came-call _ _ _ a e true (m .enum-told5 .given .1)) (w .work-call2 .ensures _),
+    )))

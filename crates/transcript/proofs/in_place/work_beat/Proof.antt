@@ -25,7 +25,7 @@ work-beat-spec =
     let s = b .before .before .before .before .before .before .before .before .before .before in
     end-near (now (s .args .set)) (before s .totals) (lentIn (s .args .lent)) (s .pre .1 .1) (b .tally-beat .ensures .1))
     (λ c κs. search needs)
-    (λ c. let e = c .before .before .before in e .put-end .kept .1 .1 .1 .0 ∙ e .before .before .before .before .before .before .before .before .before .before .before .before .before .before .before .tally-beat .kept .1 .1 .1 .1 .1 .1 .1 .1 .1 .1 .1 .1 .0)
+    (λ c. let e = c .before .before .before in e .put-end .kept .1 .1 .1 .0 ∙ e .before .before .before .before .before .before .before .before .before .before .before .before .before .before .before .tally-beat .kept .1 .1 .1 .1 .1 .1 .1 .1 .1 .1 .1 .1 .1 .0)
     (λ c t.
     let e = c .before .before .before in
     let y = e .before .before in

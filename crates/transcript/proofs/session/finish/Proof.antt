@@ -26,26 +26,28 @@ finish-spec =
     (λ c. put-whole (finish-unfit _ _ _ (sym (c .before .is-fit .ensures) ∙ not-true _ (c .if1 .taken))) put-nothing)
     (λ c κs. search needs)
     (λ c κs. search needs)
+    (λ c κs. c .before .before .before .before .before .before .before .before .before .before .before .before .before .before .before .before .before .before .before .before .before .before .read-lines .ensures)
     (λ c κs. search needs)
     (λ c κs. search needs)
     (λ c κs.
     let k = c .before .before .before .before .before .before .before .before .before .before .before in
     let b = k .before in
-    let l = b .before .before .before .before .before .before .before .before .before .before .before .before .before in
+    let q = b .before .before in
+    let l = q .before .before .before .before .before .before .before .before .before .before .before .before .before .before .before .before .before .before .before .before .before .before .before in
     let i = l .before .before .before .before in
     let f = fit-parts _ (fit i) in
-    (l .read-lines .ensures, (record { kept = input-told _ (f .intake) (b .end-input .ensures); counts = λ h y. rw (k .counts-of .ensures) (fit-counts (countsOf (i .before .before .args .session .totals)) (f .totals) y) }, omega arith)))
+    (rw (k .counts-of .ensures) (q .look .ensures), (record { kept = input-told _ (f .intake) (b .end-input .ensures); counts = λ h y. rw (k .counts-of .ensures) (fit-counts (countsOf (i .before .before .args .session .totals)) (f .totals) y) }, omega arith)))
     (λ c κs. search needs)
     (λ c κs.
     let w = c .before .before .before .before .before .before .before .before .before .before .before .before .before in
     let b = w .before .before .before .before .before .before .before .before .before .before .before .before .before in
-    end-has-room (w .work-arrival .ensures .1 (inputOver (b .before .before .before .before .before .before .before .before .before .before .before .before .before .before .before .before .before .before .before .args .session .intake)) (b .end-input .ensures)) (arrival-room _ _))
+    end-has-room (w .work-arrival .ensures .1 (inputOver (b .before .before .before .before .before .before .before .before .before .before .before .before .before .before .before .before .before .before .before .before .before .before .before .before .before .before .before .before .before .before .before .args .session .intake)) (b .end-input .ensures)) (arrival-room _ _))
     (λ c.
     let y = c .before .before .before in
     let w = y .before .before .before .before .before .before .before .before .before .before .before in
     let k = w .before .before .before .before .before .before .before .before .before .before .before .before in
     let b = k .before in
-    let p = b .before .before .before .before .before .before .before in
+    let p = b .before .before .before .before .before .before .before .before .before .before .before .before .before .before .before .before .before .before .before in
     let i = p .before .before .before .before .before .before .before .before .before .before in
     let x = i .before .before .args .session in
     put-after (finish-fit _ _ _ (fit i) (totals-apart (x .totals) (k .counts-of .ensures) (p .spread-cells .ensures)))
