@@ -1,4 +1,4 @@
-//! The control as the host sees it: load, beat, lock, unlock, cancel, program end, reset, status.
+//! The control as the host sees it: load, beat, lock, unlock, cancel, program end, control reset, status.
 
 use crate::beat::{set_lock, Beat, Inputs};
 use crate::beat_line::BeatLine;
@@ -155,8 +155,8 @@ impl Control {
         if let Err(code) = self.demand_sound() {
             return code;
         }
-        if self.slip == Slip::ProgramEndResets {
-            return self.reset();
+        if self.slip == Slip::ProgramEndIsControlReset {
+            return self.control_reset();
         }
         let mut ended = Vec::new();
         for (rank, line) in self.set.lines().into_iter().flatten().enumerate() {
@@ -174,7 +174,7 @@ impl Control {
     }
 
     /// Control reset: cancels ID lines, frees IDS lines, clears markers, parameters and timers.
-    pub fn reset(&mut self) -> Code {
+    pub fn control_reset(&mut self) -> Code {
         if let Err(code) = self.demand_sound() {
             return code;
         }
@@ -183,21 +183,21 @@ impl Control {
                 cancel(known, self.slip);
             }
             known.locked = false;
-            known.memory &= self.slip == Slip::MemoryKeptAtReset;
-            let keeps = known.cancelled && self.slip != Slip::ActsOfCancelledClearedAtReset;
-            self.seen.acts_at_reset(known.acts, known.cancelled);
-            if !keeps && self.slip != Slip::ActsKeptAtReset {
+            known.memory &= self.slip == Slip::MemoryKeptAtControlReset;
+            let keeps = known.cancelled && self.slip != Slip::ActsOfCancelledClearedAtControlReset;
+            self.seen.acts_at_control_reset(known.acts, known.cancelled);
+            if !keeps && self.slip != Slip::ActsKeptAtControlReset {
                 known.acts = 0;
             }
         }
         self.state.markers.fill(0);
         self.state.params.fill(0);
         self.state.timers.fill(Timer::default());
-        if self.slip == Slip::ChannelsClearedAtReset {
+        if self.slip == Slip::ChannelsClearedAtControlReset {
             self.state.channels.fill(Channel::default());
         }
-        self.seen.row_stays(&self.state.channels, "row through a reset");
-        self.witness.write(Entry::Reset);
+        self.seen.row_stays(&self.state.channels, "row through a control reset");
+        self.witness.write(Entry::ControlReset);
         Code::Success
     }
 

@@ -1,5 +1,6 @@
 //! Counts what the random inputs reach, so that a hole in the generator shows.
 
+use crate::calls_seen::{self, CALLS};
 use crate::code::Code;
 use crate::control::Control;
 use crate::generate;
@@ -8,7 +9,7 @@ use crate::load::Refusal;
 use crate::parse;
 use crate::print_seen::{Printed, PATHS};
 use crate::report::Report;
-use crate::runner::{work, Form, Seeds};
+use crate::runner::{reference, work, Form, Seeds};
 use crate::seen::Seen;
 use crate::slip::Slip;
 use crate::text;
@@ -72,11 +73,21 @@ impl Coverage {
             self.note(format!("{}load 0", group(form)));
         }
         if [Form::Synrun, Form::Stat].contains(&form) {
-            let calls = script.iter().filter(|line| [&b"PE"[..], b"RS"].contains(line));
-            calls.for_each(|line| self.note(format!("{} line {}", form.name(), host_form(line))));
+            self.calls(form, input, &script);
         }
         if [Form::Host, Form::Long].contains(&form) {
             script.iter().for_each(|line| self.note(format!("{} line {}", form.name(), host_form(line))));
+        }
+    }
+
+    /// Notes the program ends and control resets of a script, and where they stand.
+    fn calls(&mut self, form: Form, input: &[u8], script: &[&[u8]]) {
+        for call in script.iter().filter_map(|line| CALLS.into_iter().find(|call| call.as_bytes() == *line)) {
+            self.note(format!("{} line {call}", form.name()));
+        }
+        let printed = reference(Form::Synrun, input, Slip::None);
+        for name in calls_seen::names(script, &String::from_utf8_lossy(&printed)) {
+            self.note(format!("{} {name}", form.name()));
         }
     }
 
@@ -252,7 +263,8 @@ fn expected() -> Vec<String> {
     }
     names.push("host status of no line".into());
     for form in ["synrun", "stat"] {
-        names.extend(["PE", "RS"].map(|line| format!("{form} line {line}")));
+        names.extend(CALLS.map(|call| format!("{form} line {call}")));
+        names.extend(calls_seen::expected().iter().map(|name| format!("{form} {name}")));
     }
     names.extend(["long load 0".into(), "long ends with END".into()]);
     names.extend((0..=14).map(|code| format!("print load {code}")));

@@ -17,7 +17,7 @@ pub enum Entry {
     Cancel(usize),
     /// A line acts, by the rule below.
     Act(usize),
-    Reset,
+    ControlReset,
 }
 
 /// Everything written down since the load: for each entry the places at which it stands, so that looking back for one
@@ -85,15 +85,15 @@ impl History {
         self.last(Entry::Beat(Mode::Automatic)) > self.last(Entry::Beat(Mode::Manual))
     }
 
-    /// A cancel of the line since the load; a reset is one of every ID line.
+    /// A cancel of the line since the load; a control reset is one of every ID line.
     fn is_cancelled(&self, line: usize, scope: Scope) -> bool {
-        let by_reset = scope == Scope::Id && self.last(Entry::Reset).is_some();
-        by_reset || self.last(Entry::Cancel(line)).is_some()
+        let by_control_reset = scope == Scope::Id && self.last(Entry::ControlReset).is_some();
+        by_control_reset || self.last(Entry::Cancel(line)).is_some()
     }
 
     /// A lock since the start, and no release after it.
     fn is_locked(&self, line: usize) -> bool {
-        self.last(Entry::Lock(line)) > self.last(Entry::Release(line)).max(self.last(Entry::Reset))
+        self.last(Entry::Lock(line)) > self.last(Entry::Release(line)).max(self.last(Entry::ControlReset))
     }
 
     /// At some turn since the start the condition was true: a WHEN or FROM line has acted.
@@ -106,24 +106,24 @@ impl History {
         self.last(Entry::Gave(line, true)) > self.last(Entry::Gave(line, false)).max(self.start(line))
     }
 
-    /// The start at which looking back for conditions ends: the last reset, or nowhere, which is the load.
+    /// The start at which looking back for conditions ends: the last control reset, or nowhere, which is the load.
     fn start(&self, line: usize) -> Option<usize> {
         match self.slip {
-            Slip::PastReset => None,
-            Slip::BackToRelease => self.last(Entry::Reset).max(self.last(Entry::Release(line))),
-            _ => self.last(Entry::Reset),
+            Slip::PastControlReset => None,
+            Slip::BackToRelease => self.last(Entry::ControlReset).max(self.last(Entry::Release(line))),
+            _ => self.last(Entry::ControlReset),
         }
     }
 
     // ---- what follows from it
 
-    /// The acts of the line since the load or the last reset that left it live: one before its cancel, and none of an ID line.
+    /// The acts of the line since the load or the last control reset that left it live: one before its cancel, and none of an ID line.
     pub fn acts(&self, line: usize, scope: Scope) -> usize {
         let cancelled = self.places[Entry::Cancel(line).index()].first().copied().unwrap_or(self.length);
-        let resets = &self.places[Entry::Reset.index()];
+        let starts = &self.places[Entry::ControlReset.index()];
         let start = match scope {
             Scope::Id => None,
-            Scope::Ids => resets[..resets.partition_point(|reset| *reset < cancelled)].last(),
+            Scope::Ids => starts[..starts.partition_point(|start| *start < cancelled)].last(),
         };
         let acts = &self.places[Entry::Act(line).index()];
         acts.len() - acts.partition_point(|act| Some(act) < start)
@@ -151,7 +151,7 @@ impl Entry {
         match self {
             Entry::Beat(Mode::Automatic) => 0,
             Entry::Beat(Mode::Manual) => 1,
-            Entry::Reset => 2,
+            Entry::ControlReset => 2,
             Entry::Gave(line, false) => 3 + 6 * line,
             Entry::Gave(line, true) => 4 + 6 * line,
             Entry::Lock(line) => 5 + 6 * line,

@@ -109,7 +109,7 @@ impl<W: Write, R: Read> HostCalls<'_, W, R> {
             HostLine::Unlock(line) => self.host_call(number, b'U', line)?,
             HostLine::Cancel(line) => self.host_call(number, b'C', line)?,
             HostLine::ProgramEnd => self.host_call(number, b'E', 0)?,
-            HostLine::Reset => self.host_call(number, b'R', 0)?,
+            HostLine::ControlReset => self.host_call(number, b'R', 0)?,
             HostLine::Status => self.status(number)?,
             HostLine::Print(length) => self.print(number, length)?,
             HostLine::Load(bytes) if bytes > self.set_text.len() => return Ok(None),

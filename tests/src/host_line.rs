@@ -27,7 +27,7 @@ pub enum HostLine {
     Unlock(u8),
     Cancel(u8),
     ProgramEnd,
-    Reset,
+    ControlReset,
     /// A print into a buffer of so many bytes.
     Print(usize),
     Status,
@@ -82,7 +82,7 @@ impl HostLine {
             (b"U", [number]) => Some(HostLine::Unlock(byte(number)?)),
             (b"C", [number]) => Some(HostLine::Cancel(byte(number)?)),
             (b"E", []) => Some(HostLine::ProgramEnd),
-            (b"R", []) => Some(HostLine::Reset),
+            (b"R", []) => Some(HostLine::ControlReset),
             (b"I", []) => Some(HostLine::Status),
             (b"P", [bytes]) => Some(HostLine::Print(below(bytes, LONGEST_PRINT as i64)?)),
             (b"N", [bytes]) => Some(HostLine::Load(below(bytes, 1_000_000)?)),

@@ -53,7 +53,7 @@ impl<'a> Session<'a> {
             HostLine::Unlock(number) => self.host_call(|control| control.unlock(number))?,
             HostLine::Cancel(number) => self.host_call(|control| control.cancel(number))?,
             HostLine::ProgramEnd => self.host_call(Control::program_end)?,
-            HostLine::Reset => self.host_call(Control::reset)?,
+            HostLine::ControlReset => self.host_call(Control::control_reset)?,
             HostLine::Status => self.status()?,
             HostLine::Print(length) => self.print(length)?,
             HostLine::Load(bytes) if bytes > self.set_text.len() => return Ok(None),

@@ -3,8 +3,8 @@
 use crate::cases::Case;
 use crate::runner::Form;
 
-/// Lines after which the program ends.
-const BEATS: usize = 1_000_000;
+/// Lines after which the programs end.
+const LINES: usize = 1_000_000;
 const ZEROS: usize = 1_000_000;
 
 pub fn all() -> Vec<Case> {
@@ -13,6 +13,15 @@ pub fn all() -> Vec<Case> {
         last_beat_ill_formed(),
         calls_count_toward_the_lines(),
         calls_count_toward_k(),
+        last_line("large-pe-as-line-1000000", Form::Synrun, "PE\n?", &good_beats()),
+        last_line("large-rs-as-line-1000000", Form::Synrun, "RS\nA 0", &good_beats()),
+        last_line(
+            "large-pe-as-line-1000000",
+            Form::Stat,
+            "PE\n?",
+            &format!("{ENDED}S IDS 2 waiting 999999\n"),
+        ),
+        last_line("large-rs-as-line-1000000", Form::Stat, "RS\nA 0", &format!("{ENDED}S IDS 2 waiting 0\n")),
         zeros_without_end(),
     ]
 }
@@ -23,35 +32,50 @@ fn case(name: &str, input: String, expected: String) -> Case {
 
 /// Document 01's example over more beats than are worked; the line after the last one is ill-formed.
 fn beats_without_end() -> Case {
-    let input = format!("{EXAMPLE}{}?\n", "A 1\nA 0\n".repeat(BEATS / 2));
+    let input = format!("{EXAMPLE}{}?\n", "A 1\nA 0\n".repeat(LINES / 2));
     let mut expected = String::new();
-    for beat in (1..=BEATS).step_by(2) {
+    for beat in (1..=LINES).step_by(2) {
         expected.push_str(&format!("C {beat} 0 1\nO 1 4 0 7\nC {} 0 0\n", beat + 1));
     }
-    expected.push_str(&format!("END {BEATS} 0 {}\n", BEATS / 2));
+    expected.push_str(&format!("END {LINES} 0 {}\n", LINES / 2));
     case("large-1000000-beats-then-an-ill-formed-line", input, expected)
 }
 
 /// The last beat that is worked has an ill-formed line.
 fn last_beat_ill_formed() -> Case {
-    let input = format!("ID=1 WHENEVER FALSE DO POS[X]=1\n*\n{}?\n", "M 0\n".repeat(BEATS - 1));
-    let good: String = (1..BEATS).map(|beat| format!("C {beat} 0 0\n")).collect();
-    case("large-beat-1000000-ill-formed", input, format!("{good}E {BEATS}\n"))
+    let input = format!("ID=1 WHENEVER FALSE DO POS[X]=1\n*\n{}?\n", "M 0\n".repeat(LINES - 1));
+    let good: String = (1..LINES).map(|beat| format!("C {beat} 0 0\n")).collect();
+    case("large-beat-1000000-ill-formed", input, format!("{good}E {LINES}\n"))
 }
 
 /// Program ends and control resets among the lines that are worked; the beats behind them are not.
 fn calls_count_toward_the_lines() -> Case {
     let input =
-        format!("IDS=1 DO SETAL(65000)\n*\n{}{}?\n", "PE\nRS\n".repeat(BEATS / 2 - 1), "A 0\n".repeat(3));
+        format!("IDS=1 DO SETAL(65000)\n*\n{}{}?\n", "PE\nRS\n".repeat(LINES / 2 - 1), "A 0\n".repeat(3));
     let expected = "C 1 0 1\nO 1 5 0 65000\nC 2 0 1\nO 1 5 0 65000\nEND 2 0 2\n";
     case("large-pe-and-rs-count-toward-1000000", input, expected.into())
 }
 
 /// The last line that is worked is ill-formed, and those before it are no beats.
 fn calls_count_toward_k() -> Case {
-    let input = format!("IDS=1 DO SETAL(65000)\n*\n{}PE \n", "RS\n".repeat(BEATS - 1));
-    case("large-rs-then-line-1000000-ill-formed", input, format!("E {BEATS}\n"))
+    let input = format!("IDS=1 DO SETAL(65000)\n*\n{}PE \n", "RS\n".repeat(LINES - 1));
+    case("large-rs-then-line-1000000-ill-formed", input, format!("E {LINES}\n"))
 }
+
+/// Beats, and as the last line that is worked a program end or a control reset; the line behind it is not looked at.
+fn last_line(name: &str, form: Form, lines: &str, expected: &str) -> Case {
+    let input = format!("ID=1 DO $R[1]=1\nIDS=2 DO $R[2]=2\n*\n{}{lines}\n", "A 0\n".repeat(LINES - 1));
+    Case { form, ..case(name, input, expected.into()) }
+}
+
+/// What `synrun` prints where all lines but one are beats without orders.
+fn good_beats() -> String {
+    let good: String = (1..LINES).map(|beat| format!("C {beat} 0 0\n")).collect();
+    format!("{good}END {} 0 0\n", LINES - 1)
+}
+
+/// What `synstat` prints of the ID line that the last line cancels: it keeps its count.
+const ENDED: &str = "S ID 1 cancelled 999999\n";
 
 /// A beat line of leading zeros.
 fn zeros_without_end() -> Case {

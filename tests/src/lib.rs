@@ -6,6 +6,7 @@
 
 pub mod beat;
 pub mod beat_line;
+pub mod calls_seen;
 pub mod cases;
 pub mod check;
 pub mod code;

@@ -46,16 +46,16 @@ const READING_EVENTS: [&str; 30] = [
     "reading of the top", "reading just under the top", "reading just over the top", "reading out of range",
     "reading +infinity", "reading -infinity", "reading quiet NaN", "reading signalling NaN", "reading break",
     "reading short", "23, never good", "23 after 25 faulty beats", "row of 1 ends", "row of 24 ends",
-    "row of 25 ends", "row through a refused beat", "row through an alarmed beat", "row through a reset",
-    "row through a program end", "row of 24 ends, an undone beat inside",
+    "row of 25 ends", "row through a refused beat", "row through an alarmed beat",
+    "row through a control reset", "row through a program end", "row of 24 ends, an undone beat inside",
     "row of 25 ends, an undone beat inside",
 ];
 /// What is counted of acts and of the status picture.
 const STATUS_EVENTS: [&str; 15] = [
-    "acts reach the top", "acts stay at the top", "acts zeroed by a reset", "acts kept by a reset",
-    "status of a full set", "status ID waiting", "status ID locked", "status ID cancelled",
-    "status IDS waiting", "status IDS locked", "status IDS cancelled", "status cancelled with acts",
-    "status acts 1", "status acts 3999999999", "status acts 4000000000",
+    "acts reach the top", "acts stay at the top", "acts zeroed by a control reset",
+    "acts kept by a control reset", "status of a full set", "status ID waiting", "status ID locked",
+    "status ID cancelled", "status IDS waiting", "status IDS locked", "status IDS cancelled",
+    "status cancelled with acts", "status acts 1", "status acts 3999999999", "status acts 4000000000",
 ];
 /// What is counted of program ends.
 const END_EVENTS: [&str; 6] = [
@@ -231,10 +231,14 @@ impl Seen {
         }
     }
 
-    /// Notes what a reset does to a line's count.
-    pub fn acts_at_reset(&mut self, acts: u32, cancelled: bool) {
+    /// Notes what a control reset does to a line's count.
+    pub fn acts_at_control_reset(&mut self, acts: u32, cancelled: bool) {
         if acts > 0 {
-            self.note(if cancelled { "acts kept by a reset" } else { "acts zeroed by a reset" });
+            self.note(if cancelled {
+                "acts kept by a control reset"
+            } else {
+                "acts zeroed by a control reset"
+            });
         }
     }
 

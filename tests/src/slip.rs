@@ -13,8 +13,8 @@ pub enum Slip {
     MemoryClearedAtUnlock,
     /// A turn skipped, by lock or mode, clears the line's memory.
     MemoryClearedAtSkip,
-    /// A reset leaves the memory of IDS lines.
-    MemoryKeptAtReset,
+    /// A control reset leaves the memory of IDS lines.
+    MemoryKeptAtControlReset,
     /// An alarm keeps the writes made before it.
     WritesKeptAtAlarm,
     /// Lines take turns in the order of the text.
@@ -45,8 +45,8 @@ pub enum Slip {
     FaultsCountedWhenUndone,
     /// A beat refused with 23 keeps what the other channels sent.
     OthersKeptAt23,
-    /// A reset clears the records of the channels.
-    ChannelsClearedAtReset,
+    /// A control reset clears the records of the channels.
+    ChannelsClearedAtControlReset,
     /// A curve of a damaged set is looked at as it was loaded.
     CurvesAsLoaded,
     /// A curve is sound in the place of any other.
@@ -65,12 +65,12 @@ pub enum Slip {
     ActsPastTheTop,
     /// A cancel clears the line's count.
     ActsClearedAtCancel,
-    /// A reset clears the counts of cancelled lines too.
-    ActsOfCancelledClearedAtReset,
-    /// A reset clears no count.
-    ActsKeptAtReset,
+    /// A control reset clears the counts of cancelled lines too.
+    ActsOfCancelledClearedAtControlReset,
+    /// A control reset clears no count.
+    ActsKeptAtControlReset,
     /// Program end is a control reset.
-    ProgramEndResets,
+    ProgramEndIsControlReset,
     /// Program end cancels IDS lines too.
     ProgramEndCancelsAll,
     /// A print keeps zeros at the end of a fraction.
@@ -81,8 +81,8 @@ pub enum Slip {
     PrintShortensChains,
     /// A print has an LF behind its last line.
     PrintEndsInLf,
-    /// The rule of the history looks back past a reset.
-    PastReset,
+    /// The rule of the history looks back past a control reset.
+    PastControlReset,
     /// It looks back for conditions to the line's last release only.
     BackToRelease,
     /// Program end is written into the history as a start.
@@ -99,7 +99,7 @@ impl Slip {
         Slip::EveryByLevel,
         Slip::MemoryClearedAtUnlock,
         Slip::MemoryClearedAtSkip,
-        Slip::MemoryKeptAtReset,
+        Slip::MemoryKeptAtControlReset,
         Slip::WritesKeptAtAlarm,
         Slip::TextOrder,
         Slip::ReadAtBeatStart,
@@ -115,7 +115,7 @@ impl Slip {
         Slip::BridgedFor26,
         Slip::FaultsCountedWhenUndone,
         Slip::OthersKeptAt23,
-        Slip::ChannelsClearedAtReset,
+        Slip::ChannelsClearedAtControlReset,
         Slip::CurvesAsLoaded,
         Slip::CurveOfAnyNumber,
         Slip::TwoMovesTaken,
@@ -125,9 +125,9 @@ impl Slip {
         Slip::TurnsCounted,
         Slip::ActsPastTheTop,
         Slip::ActsClearedAtCancel,
-        Slip::ActsOfCancelledClearedAtReset,
-        Slip::ActsKeptAtReset,
-        Slip::ProgramEndResets,
+        Slip::ActsOfCancelledClearedAtControlReset,
+        Slip::ActsKeptAtControlReset,
+        Slip::ProgramEndIsControlReset,
         Slip::ProgramEndCancelsAll,
         Slip::PrintKeepsZeros,
         Slip::PrintSpacesDollar,
@@ -139,13 +139,13 @@ impl Slip {
         Slip::EveryByLevel,
         Slip::MemoryClearedAtUnlock,
         Slip::MemoryClearedAtSkip,
-        Slip::MemoryKeptAtReset,
+        Slip::MemoryKeptAtControlReset,
         Slip::WritesKeptAtAlarm,
         Slip::TurnsCounted,
         Slip::ActsClearedAtCancel,
-        Slip::ActsOfCancelledClearedAtReset,
-        Slip::ActsKeptAtReset,
-        Slip::PastReset,
+        Slip::ActsOfCancelledClearedAtControlReset,
+        Slip::ActsKeptAtControlReset,
+        Slip::PastControlReset,
         Slip::BackToRelease,
         Slip::ProgramEndIsAStart,
         Slip::FailedBeatsWritten,
@@ -168,14 +168,17 @@ impl Slip {
     }
 
     fn shows_in_counts(self) -> bool {
-        let in_turns = [Slip::EveryByLevel, Slip::WritesKeptAtAlarm, Slip::ProgramEndResets];
+        let in_turns = [Slip::EveryByLevel, Slip::WritesKeptAtAlarm, Slip::ProgramEndIsControlReset];
         let of_no_call = [Slip::ActsPastTheTop, Slip::ActsClearedAtCancel];
         in_turns.contains(&self) || (self.is_in_counts() && !of_no_call.contains(&self))
     }
 
     fn is_in_counts(self) -> bool {
-        let at_calls =
-            [Slip::ActsClearedAtCancel, Slip::ActsOfCancelledClearedAtReset, Slip::ActsKeptAtReset];
+        let at_calls = [
+            Slip::ActsClearedAtCancel,
+            Slip::ActsOfCancelledClearedAtControlReset,
+            Slip::ActsKeptAtControlReset,
+        ];
         at_calls.contains(&self) || [Slip::TurnsCounted, Slip::ActsPastTheTop].contains(&self)
     }
 

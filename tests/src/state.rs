@@ -19,7 +19,7 @@ pub struct Timer {
 }
 
 /// What is known of a line. Memory: WHEN and FROM have acted; EVERY's turn before was true. Acts: how often it acted since the load
-/// or the last reset that left it live.
+/// or the last control reset that left it live.
 #[derive(Clone, Copy, PartialEq, Eq, Default, Debug)]
 pub struct LineState {
     pub locked: bool,

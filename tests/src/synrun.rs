@@ -66,7 +66,7 @@ pub fn work(
         match ScriptLine::read(line) {
             None => return Ok(End::IllFormed(number)),
             Some(ScriptLine::ProgramEnd) => sound(control.program_end()),
-            Some(ScriptLine::ControlReset) => sound(control.reset()),
+            Some(ScriptLine::ControlReset) => sound(control.control_reset()),
             Some(ScriptLine::Beat(beat)) => {
                 let answer = control.beat(&beat, &mut buffer);
                 tell(answer, &buffer)?;

@@ -44,7 +44,7 @@ impl Witness {
     /// Program end is the cancel of each ID line still live, and no start.
     pub fn program_end(&mut self, ended: &[usize]) {
         if self.slip == Some(Slip::ProgramEndIsAStart) {
-            return self.write(Entry::Reset);
+            return self.write(Entry::ControlReset);
         }
         ended.iter().for_each(|rank| self.write(Entry::Cancel(*rank)));
     }
@@ -120,8 +120,8 @@ impl Witness {
     pub fn was_held_high(&self, rank: usize) -> bool {
         self.history.as_ref().is_some_and(|history| {
             let last = |entry| history.last(entry);
-            let turn = last(Entry::Gave(rank, true)).max(last(Entry::Reset));
-            let high = turn > last(Entry::Gave(rank, false)).max(last(Entry::Reset));
+            let turn = last(Entry::Gave(rank, true)).max(last(Entry::ControlReset));
+            let high = turn > last(Entry::Gave(rank, false)).max(last(Entry::ControlReset));
             high && last(Entry::Lock(rank)) > turn && last(Entry::Release(rank)) > last(Entry::Lock(rank))
         })
     }

@@ -68,9 +68,9 @@ fn every_call_refuses_a_set_with_damaged_curves() {
     let mut control = Control::new(Slip::None, Seen::default());
     control.load(format!("{CURVES}{USE}").as_bytes()).expect("the text is taken");
     control.set.damage_curves(|curves| [curves.put_start(1, 2), curves.put_start(2, 1)]);
-    assert_eq!([control.lock(1), control.cancel(9), control.reset()], [Code::NotSound; 3]);
+    assert_eq!([control.lock(1), control.cancel(9), control.control_reset()], [Code::NotSound; 3]);
     control.set.damage_curves(|curves| [curves.put_start(1, 1), curves.put_start(2, 2)]);
-    assert_eq!(control.reset(), Code::Success);
+    assert_eq!(control.control_reset(), Code::Success);
     let printed = print(&control.set, Slip::None).expect("the set is sound");
     assert_eq!(printed, b"FCTDEF(1,0,0,0,0,0,0)\nFCTDEF(2,-1,1,0,0,0,0)\nID=1 DO SYNFCT(1,$R[1],$R[2])");
 }

@@ -81,7 +81,7 @@ fn a_cancelled_line_and_a_damaged_state_print_as_before() {
     assert_eq!(control.cancel(2), Code::Success);
     assert_eq!(print(&control.set, Slip::None).as_deref(), Ok(SMALL_PRINT));
     control.state.markers[0] = 1;
-    assert_eq!(control.reset(), Code::NotSound);
+    assert_eq!(control.control_reset(), Code::NotSound);
     assert_eq!(print(&control.set, Slip::None).as_deref(), Ok(SMALL_PRINT));
 }
 

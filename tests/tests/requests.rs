@@ -51,7 +51,7 @@ impl<R: Read, W: Write> Program<R, W> {
             b'U' => self.call(|control| control.unlock(first as u8))?,
             b'C' => self.call(|control| control.cancel(first as u8))?,
             b'E' => self.call(Control::program_end)?,
-            b'R' => self.call(Control::reset)?,
+            b'R' => self.call(Control::control_reset)?,
             b'I' => self.status()?,
             b'Q' => self.print(first as usize)?,
             b'W' => {

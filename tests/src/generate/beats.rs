@@ -25,6 +25,9 @@ const ODD_BUT_GOOD: [&str; 9] = [
     "A 3 BBBBBBBB 3BBBBBBB 00000001 807FFFFF 3D800000 BE400000 447A0000 40000000",
     "A 3 3F800000 40000000 40400000 3D800000 B S 3E400000 3A83126F 9 -10 0011 -0 -007 14",
 ];
+/// A beat with a position out of range.
+const REFUSED: &str =
+    "A 1 00000000 00000000 00000000 00000000 00000000 00000000 00000000 00000000 1000000001";
 const EDGES: [i64; 8] =
     [1_000_000_000, -1_000_000_000, 1_000_000_001, -1_000_000_001, 2_147_483_647, -2_147_483_648, 0, 1];
 /// Numbers of volts by their bits: zeros, those below the normal numbers, those beside a half of a thousandth, the ends of the
@@ -145,6 +148,15 @@ fn position(random: &mut Random) -> i64 {
     }
 }
 
+/// A program end or a control reset, now and then behind a refused beat.
+fn call(random: &mut Random, end: &str) -> String {
+    let call = random.pick(&["PE", "PE", "RS"]);
+    if random.chance(10) {
+        return format!("{REFUSED}{end}{call}");
+    }
+    call.into()
+}
+
 /// A script of beats, in a third with some program ends and control resets; a few have an ill-formed line. A long one has a thousand beats before it.
 pub fn script(random: &mut Random, long: bool) -> Vec<u8> {
     let beats = match random.below(100) {
@@ -161,7 +173,7 @@ pub fn script(random: &mut Random, long: bool) -> Vec<u8> {
     for beat in 0..beats {
         let line = match random.below(60) {
             _ if spoiled == Some(beat) => random.pick(&ILL_FORMED).to_string(),
-            _ if random.below(beats as usize) < calls => random.pick(&["PE", "PE", "RS"]).to_string(),
+            _ if random.below(beats as usize) < calls => call(random, end),
             0 => random.pick(&ODD_BUT_GOOD).to_string(),
             _ => format!("{} {}", inputs.mode(random), inputs.next(random, POSITIONS)),
         };

@@ -11,13 +11,13 @@ struct Long<'a> {
     session: Session<'a>,
     /// Lines that the host locked, each with the step of its release.
     held: Vec<(i64, i64)>,
-    /// The step of the next load, after a reset or a program end has cancelled the ID lines.
+    /// The step of the next load, after a control reset or a program end has cancelled the ID lines.
     load: Option<i64>,
 }
 
 pub fn session(random: &mut Random) -> Vec<u8> {
     let steps = random.between(2000, 6000);
-    let resets = random.pick(&[0, 1, 3, 8]);
+    let calls = random.pick(&[0, 1, 3, 8]);
     let set = full_set(random);
     let set = if random.chance(25) { filled(random, set) } else { set };
     let session = Session::new(random, set, Inputs::steady());
@@ -27,14 +27,14 @@ pub fn session(random: &mut Random) -> Vec<u8> {
         if long.load.is_some_and(|due| due <= step) {
             long.load_whole();
         }
-        long.step(step, resets);
+        long.step(step, calls);
     }
     long.session.end()
 }
 
 impl Long<'_> {
-    /// One step; `resets` in two thousand are resets or program ends, and without these the first load is the only start.
-    fn step(&mut self, step: i64, resets: usize) {
+    /// One step; `calls` in two thousand are control resets or program ends, and without these the first load is the only start.
+    fn step(&mut self, step: i64, calls: usize) {
         let choice = self.session.random.below(2000);
         match choice {
             0..=39 => self.session.lent_beat(),
@@ -46,10 +46,10 @@ impl Long<'_> {
             172..=174 => self.session.add("I"),
             175..=179 => self.damage(),
             180 => self.session.add("K"),
-            181 if resets > 0 => self.load_whole(),
+            181 if calls > 0 => self.load_whole(),
             182..=184 => self.session.growth_episode(),
             185..=189 => self.session.print(),
-            _ if choice >= 2000 - resets => self.reset(step),
+            _ if choice >= 2000 - calls => self.call(step),
             _ => return self.session.beat(),
         }
         self.seldom_print();
@@ -96,8 +96,8 @@ impl Long<'_> {
         self.held.retain(|(_, release)| *release > step);
     }
 
-    /// A reset or a program end, and a load when the lines that live on have run for a while.
-    fn reset(&mut self, step: i64) {
+    /// A control reset or a program end, and a load when the lines that live on have run for a while.
+    fn call(&mut self, step: i64) {
         let call = self.session.random.pick(&["R", "E"]);
         self.session.add(call);
         let beats = self.session.random.between(20, 400);

@@ -15,7 +15,7 @@ const ROOM: usize = 130;
 /// A body for lines of a text that is too long.
 const SHORT_BODY: &str = "DO POS [ X ] = 1";
 
-/// A set that is taken when loaded; in half of them most lines are IDS lines, which outlive a reset.
+/// A set that is taken when loaded; in half of them most lines are IDS lines, which outlive a control reset.
 pub fn full_set(random: &mut Random) -> RandomSet {
     let sorts = steady_sorts(random);
     let curves = if random.chance(70) { curves(random, &sorts) } else { Vec::new() };
