@@ -12,7 +12,7 @@ use values::codes::{NOT_IN_GRAMMAR, TOO_DEEP, WRONG_CURVE};
 use values::curve::Curve;
 
 // What a line FCTDEF defines: the number of a curve and the curve; and where the line ends. A line with a fault defines none.
-#[derive(Drop)]
+#[derive(Clone, Copy)]
 pub struct Definition {
     pub fault: u8,
     pub number: u32,
@@ -21,7 +21,7 @@ pub struct Definition {
 }
 
 // What was read of a line FCTDEF: its lowest fault, and the place behind, 0 where it is not in the grammar.
-#[derive(Drop)]
+#[derive(Clone, Copy)]
 pub struct Part {
     pub fault: u8,
     pub next: usize,

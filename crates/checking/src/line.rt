@@ -17,7 +17,7 @@ use values::codes::{NOT_IN_GRAMMAR, TOO_DEEP};
 
 // The parts of a line: its number, whether it is IDS, its keyword (0: none), where its condition and its actions begin, where it ends, and whether an action of it names a line or a curve. A
 // line with a fault has none.
-#[derive(Drop)]
+#[derive(Clone, Copy)]
 pub struct Line {
     pub fault: u8,
     pub number: u8,

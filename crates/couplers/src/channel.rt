@@ -10,7 +10,7 @@ pub const CHANNELS: usize = 8;
 pub const MAX_FAULTS: u8 = 25;
 
 // The last good reading, whether there ever was one, and how many beats in a row were faulty since. Never good: the number is not looked at. The widest field stands first, so that a channel takes eight bytes.
-#[derive(Drop)]
+#[derive(Clone, Copy)]
 pub struct Channel {
     pub last: f32,
     pub known: bool,
@@ -18,7 +18,7 @@ pub struct Channel {
 }
 
 // What a channel gives in a beat: its value, and what it keeps then; not good where it is faulty and was never good, or already had 25 faulty beats in a row.
-#[derive(Drop)]
+#[derive(Clone, Copy)]
 pub struct Sampled {
     pub good: bool,
     pub value: i32,
@@ -26,7 +26,7 @@ pub struct Sampled {
 }
 
 // What all channels give: their values and what they keep; not good where one is not, and then they are as they were.
-#[derive(Drop)]
+#[derive(Clone, Copy)]
 pub struct Samples {
     pub good: bool,
     pub values: [i32; CHANNELS],

@@ -5,7 +5,7 @@ ghost use Rattle.couplers.specs.Conversion.{nearest_even, signed_thousandths, th
 use values::arithmetic::{UNIT, Worked, signed};
 
 // What a channel sends: a number of volts, a wire break or a short circuit.
-#[derive(Drop)]
+#[derive(Clone, Copy)]
 pub enum Reading {
     Volts(f32),
     Break,
@@ -13,7 +13,7 @@ pub enum Reading {
 }
 
 // What a number of volts converts to: thousandths, or a fault.
-#[derive(Drop)]
+#[derive(Clone, Copy)]
 pub enum Converted {
     Thousandths(i32),
     Fault,

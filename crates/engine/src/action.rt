@@ -31,14 +31,14 @@ use working::variables::{CELLS, RS, TIMERS};
 use working::{right_side, variable_at};
 
 // What a beat under way holds beside the arrays that are lent: the word of the lines that acted, and the count of orders.
-#[derive(Drop)]
+#[derive(Clone, Copy)]
 pub struct Progress {
     pub acted: u64,
     pub count: usize,
 }
 
 // What stands right of =, worked: its value and the place behind it.
-#[derive(Drop)]
+#[derive(Clone, Copy)]
 pub struct RightSide {
     pub good: bool,
     pub alarm: u8,
@@ -47,14 +47,14 @@ pub struct RightSide {
 }
 
 // What an action assigns to.
-#[derive(Drop)]
+#[derive(Clone, Copy)]
 pub struct Target {
     pub word: u32,
     pub index: u32,
 }
 
 // What actions did: the progress and the place behind them, or an alarm.
-#[derive(Drop)]
+#[derive(Clone, Copy)]
 pub struct Done {
     pub good: bool,
     pub alarm: u8,

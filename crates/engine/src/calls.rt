@@ -15,7 +15,7 @@ use values::codes::UNSOUND;
 use working::variables::{COUNT_AT, MARKER_AT, TIMERS};
 
 // What a call answers.
-#[derive(Drop)]
+#[derive(Clone, Copy)]
 pub struct Called {
     pub code: u8,
     pub state: State,

@@ -9,7 +9,7 @@ use tokens::token::{FA, POS};
 use values::arithmetic::{Worked, feed, sign};
 
 // The order that a drive gives.
-#[derive(Drop)]
+#[derive(Clone, Copy)]
 pub struct Ordered {
     pub good: bool,
     pub alarm: u8,

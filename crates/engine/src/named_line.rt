@@ -9,7 +9,7 @@ use tokens::token::SIZE;
 use values::codes::{UNKNOWN_LINE, UNSOUND};
 
 // The rank of the line that a call names, or the code that refuses it.
-#[derive(Drop)]
+#[derive(Clone, Copy)]
 pub struct Found {
     pub code: u8,
     pub rank: usize,

@@ -22,7 +22,7 @@ use values::codes::{FAULTY_CHANNEL, SHORT_BUFFER, UNSOUND, WRONG_NUMBERS};
 use working::variables::{CELLS, INPUTS, POSITIONS, RS, TIMERS};
 
 // What a beat in place answers: its code, the count of orders in the buffer, the word of the lines that acted, by rank, and what the channels keep.
-#[derive(Drop)]
+#[derive(Clone, Copy)]
 pub struct BeatCode {
     pub code: u8,
     pub orders: u32,
@@ -31,7 +31,7 @@ pub struct BeatCode {
 }
 
 // What a beat answers: the same, and the state.
-#[derive(Drop)]
+#[derive(Clone, Copy)]
 pub struct Beaten {
     pub code: u8,
     pub orders: u32,

@@ -13,7 +13,7 @@ pub const MAX_ORDERS: usize = LINES * ACTIONS;
 
 pub const ORDERS: usize = MAX_ORDERS * ORDER_BYTES;
 
-#[derive(Drop)]
+#[derive(Clone, Copy)]
 pub enum Kind {
     Pos,
     Fa,
@@ -23,7 +23,7 @@ pub enum Kind {
 }
 
 // An order: its kind, the number of its line, the axis (X to W are 1 to 6, else 0), and its value.
-#[derive(Drop)]
+#[derive(Clone, Copy)]
 pub struct Order {
     pub kind: Kind,
     pub line: u8,

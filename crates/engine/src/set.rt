@@ -21,7 +21,7 @@ pub const CURVE_PLACE: usize = START_PLACE + LINES;
 pub const FIRST_PLACE: usize = TABLE_SIZE;
 
 // The lines of a set as its tokens have them, by rising number, if they are sound; else none.
-#[derive(Drop)]
+#[derive(Clone, Copy)]
 pub struct Lines {
     pub sound: bool,
     pub count: usize,

@@ -9,7 +9,7 @@ use working::variables::{RS, STATE_CELLS, TIMERS};
 // A count of acts stays here once it is there.
 pub const ACTS_TOP: u32 = 4_000_000_000;
 
-#[derive(Drop)]
+#[derive(Clone, Copy)]
 pub struct State {
     pub r: [i32; RS],
     pub cells: [i32; STATE_CELLS],

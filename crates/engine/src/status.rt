@@ -11,7 +11,7 @@ use checking::Line;
 use tokens::token::{LINES, SIZE};
 use values::codes::UNSOUND;
 
-#[derive(Drop)]
+#[derive(Clone, Copy)]
 pub enum Standing {
     Locked,
     Cancelled,
@@ -19,7 +19,7 @@ pub enum Standing {
 }
 
 // A line's row in the picture.
-#[derive(Drop)]
+#[derive(Clone, Copy)]
 pub struct LineStatus {
     pub ids: bool,
     pub number: u8,
@@ -28,7 +28,7 @@ pub struct LineStatus {
 }
 
 // The rows of the first `count` places, by rising number, or a code.
-#[derive(Drop)]
+#[derive(Clone, Copy)]
 pub struct Status {
     pub code: u8,
     pub count: usize,

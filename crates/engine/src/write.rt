@@ -18,7 +18,7 @@ use values::time::{Millis, Timer, written};
 use working::variables::{CELLS, COUNT_CELLS, RS, RUN_AT, TIMERS, cell_of, count_of};
 
 // What a write gives.
-#[derive(Drop)]
+#[derive(Clone, Copy)]
 pub struct Wrote {
     pub good: bool,
     pub alarm: u8,

@@ -14,7 +14,7 @@ use tokens::token::{CURVES, SIZE, TEXT_SIZE, token_at};
 use values::codes::{SHORT_PRINT, UNSOUND};
 
 // The code, and with 0 how many bytes were printed.
-#[derive(Drop)]
+#[derive(Clone, Copy)]
 pub struct Printed {
     pub code: u8,
     pub size: usize,

@@ -13,7 +13,7 @@ use values::codes::{NO_TOKEN, USED_ABOVE, WRONG_CURVE};
 
 // The code and the line that refuse the text, 0 while there is none; how many lines are kept, and the place behind their tokens; of each line its number, where it stands in the text, and
 // where its tokens begin and end; and of each curve, by number, whether it is there and where its tokens begin and end.
-#[derive(Drop)]
+#[derive(Clone, Copy)]
 pub struct Draft {
     pub code: u8,
     pub line: u32,

@@ -10,7 +10,7 @@ use text::first_token;
 use tokens::token::SIZE;
 
 // How many tokens were written, and whether every byte of the line made one.
-#[derive(Drop)]
+#[derive(Clone, Copy)]
 pub struct Written {
     pub good: bool,
     pub count: usize,

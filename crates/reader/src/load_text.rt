@@ -10,7 +10,7 @@ use tokens::token::{LINES, SIZE, TEXT_SIZE};
 use values::codes::{NOT_IN_SET, TOO_LONG, TOO_MANY_LINES};
 
 // What loading answers: 0 and 0 if the text is taken, else a code and a line; and the state, that of power-on in each case.
-#[derive(Drop)]
+#[derive(Clone, Copy)]
 pub struct Loaded {
     pub code: u8,
     pub line: u32,

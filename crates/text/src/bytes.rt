@@ -22,7 +22,7 @@ const COMMENT: u8 = 59;
 const LOWLINE: u8 = 95;
 
 // What the bytes of a run are: digits, the bytes of a word, no LF, no comment's begin.
-#[derive(Drop)]
+#[derive(Clone, Copy)]
 pub enum Kind {
     Digit,
     Word,

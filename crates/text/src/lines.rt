@@ -5,7 +5,7 @@ ghost use Rattle.text.specs.Lines.{without_return, bounds_at, is_blank};
 use crate::bytes::{CR, Kind, SPACE, run_end};
 
 // The place where a line ends, at its LF or the end of the text, and the place where its body ends, before comment and CR.
-#[derive(Drop)]
+#[derive(Clone, Copy)]
 pub struct Bounds {
     pub end: usize,
     pub body: usize,

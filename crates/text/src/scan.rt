@@ -13,7 +13,7 @@ use tokens::token::{
 };
 
 // A token and how many bytes it takes; 0 bytes if they begin with none.
-#[derive(Drop)]
+#[derive(Clone, Copy)]
 pub struct First {
     pub token: u32,
     pub size: usize,

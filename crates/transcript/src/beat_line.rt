@@ -71,13 +71,13 @@ pub const CONTROL_RESET: u8 = 9;
 const CONTROL_RESET_RETURN: u8 = 10;
 
 // What a channel sends.
-#[derive(Drop)]
+#[derive(Clone, Copy)]
 pub struct Sent {
     pub reading: Reading,
 }
 
 // A line so far. `value` has the digits of the field under way.
-#[derive(Drop)]
+#[derive(Clone, Copy)]
 pub struct HalfLine {
     pub field: u8,
     pub stage: u8,
@@ -90,7 +90,7 @@ pub struct HalfLine {
 }
 
 // What a beat line lends, if it is well-formed.
-#[derive(Drop)]
+#[derive(Clone, Copy)]
 pub struct MaybeLent {
     pub good: bool,
     pub automatic: bool,
@@ -100,14 +100,14 @@ pub struct MaybeLent {
 }
 
 // A value, and the place behind its digits.
-#[derive(Drop)]
+#[derive(Clone, Copy)]
 struct Digits {
     value: u64,
     end: usize,
 }
 
 // A line so far, and the place behind what of it is read.
-#[derive(Drop)]
+#[derive(Clone, Copy)]
 struct Begun {
     half: HalfLine,
     end: usize,

@@ -32,7 +32,7 @@ use tokens::token::{LINES, SIZE};
 use working::variables::{CELLS, RS, TIMERS};
 
 // What a line came to, beside what is written in place: the place behind what it printed.
-#[derive(Drop)]
+#[derive(Clone, Copy)]
 pub struct Ended {
     pub intake: Intake,
     pub counts: Counts,
@@ -40,14 +40,14 @@ pub struct Ended {
 }
 
 // The same of a set text.
-#[derive(Drop)]
+#[derive(Clone, Copy)]
 pub struct Opened {
     pub intake: Intake,
     pub end: usize,
 }
 
 // What a piece of input came to, beside what is written in place.
-#[derive(Drop)]
+#[derive(Clone, Copy)]
 pub struct Piece {
     pub intake: Intake,
     pub counts: Counts,

@@ -21,7 +21,7 @@ pub const BEATS: u8 = 1;
 pub const OVER: u8 = 2;
 
 // What is kept of the input beside the bytes of the set text.
-#[derive(Drop)]
+#[derive(Clone, Copy)]
 pub struct Intake {
     pub phase: u8,
     pub place: Place,
@@ -29,7 +29,7 @@ pub struct Intake {
 }
 
 // What the end of a line, or of the input, brings: nothing, the whole set text, a beat line, PE, RS.
-#[derive(Drop)]
+#[derive(Clone, Copy)]
 pub enum Ending {
     Nothing,
     Text,
@@ -39,7 +39,7 @@ pub enum Ending {
 }
 
 // The intake behind it, the size of the text if that is whole, and what a beat line lends.
-#[derive(Drop)]
+#[derive(Clone, Copy)]
 pub struct Brought {
     pub intake: Intake,
     pub ending: Ending,

@@ -17,14 +17,14 @@ use engine::{ORDERS, READ, State, read_lines, spread_cells};
 use tokens::token::SIZE;
 
 // What is kept between two pieces of input.
-#[derive(Drop)]
+#[derive(Clone, Copy)]
 pub struct Session {
     pub intake: Intake,
     pub totals: Totals,
 }
 
 // What a piece of input came to: how much of it was taken, and how many bytes were written.
-#[derive(Drop)]
+#[derive(Clone, Copy)]
 pub struct Stepped {
     pub session: Session,
     pub taken: usize,

@@ -12,7 +12,7 @@ pub const KEPT: usize = TEXT_SIZE + 1;
 const STAR: u8 = 42;
 
 // Where the set text stands: how many bytes of it are kept, where its last line begins, and what that line is so far (0 nothing, 1 `*`, 2 `*` and CR, 3 anything else).
-#[derive(Drop)]
+#[derive(Clone, Copy)]
 pub struct Place {
     pub size: usize,
     pub start: usize,

@@ -19,7 +19,7 @@ use tokens::token::{LINES, SIZE};
 use working::variables::{CELLS, RS, TIMERS};
 
 // What a beat came to: the counts with it, and the place behind what was put.
-#[derive(Drop)]
+#[derive(Clone, Copy)]
 pub struct Tallied {
     pub counts: Counts,
     pub end: usize,

@@ -20,7 +20,7 @@ pub const LAST_LINE: u32 = 1000000;
 const MAX_ORDERS: u32 = engine::MAX_ORDERS as u32;
 
 // So far: what is printed, the state, the lines behind the line *, the beats, those with a code, the orders.
-#[derive(Drop)]
+#[derive(Clone, Copy)]
 pub struct Totals {
     pub view: View,
     pub state: State,
@@ -31,7 +31,7 @@ pub struct Totals {
 }
 
 // The same, of the state the channels only: the rest is held by its arrays while a piece of input is worked.
-#[derive(Drop)]
+#[derive(Clone, Copy)]
 pub struct Counts {
     pub view: View,
     pub channels: [Channel; CHANNELS],

@@ -14,7 +14,7 @@ pub const UNIT: i32 = 1000;
 const HALF: u64 = 500;
 
 // What working gives: a value, or the number of an alarm.
-#[derive(Drop)]
+#[derive(Clone, Copy)]
 pub enum Worked {
     Value(i32),
     Alarm(u8),

@@ -5,7 +5,7 @@ ghost use Rattle.values.specs.Curve.{◌times◌, ◌plus◌, polynomial_of, lim
 use crate::arithmetic::{Worked, product, sum};
 
 // A curve: its limits, and its parts, a0 alone to a3 with the third power.
-#[derive(Drop)]
+#[derive(Clone, Copy)]
 pub struct Curve {
     pub lower: i32,
     pub upper: i32,

@@ -12,7 +12,7 @@ use crate::codes::{FIFO_EMPTY, FIFO_FULL, NOT_ALLOWED};
 pub const PLACES: usize = 16;
 
 // What a change gives: the value that went in or out with the new count, the number of an alarm, or that part and count are no FIFO.
-#[derive(Drop)]
+#[derive(Clone, Copy)]
 pub enum Moved {
     Done(i32, u8),
     Alarm(u8),
@@ -20,7 +20,7 @@ pub enum Moved {
 }
 
 // What a reading gives.
-#[derive(Drop)]
+#[derive(Clone, Copy)]
 pub enum FifoValue {
     Value(i32),
     Alarm(u8),

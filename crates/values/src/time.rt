@@ -8,15 +8,15 @@ use crate::arithmetic::TOP;
 const BEAT_MILLIS: u32 = 4;
 
 // A count of beats. It is no time, and no other count.
-#[derive(Drop)]
+#[derive(Clone, Copy)]
 pub struct Beats(pub u32);
 
 // A time in milliseconds: as a value, thousandths of a second.
-#[derive(Drop)]
+#[derive(Clone, Copy)]
 pub struct Millis(pub i32);
 
 // A timer: the time it shows, and whether it runs.
-#[derive(Drop)]
+#[derive(Clone, Copy)]
 pub struct Timer {
     pub time: Millis,
     pub runs: bool,

@@ -20,7 +20,7 @@ use values::arithmetic::Worked;
 use values::codes::UNSOUND;
 
 // What working gives: a value and the place behind it; or, where it is not good, the number of an alarm.
-#[derive(Drop)]
+#[derive(Clone, Copy)]
 pub struct ValueOrAlarm {
     pub good: bool,
     pub value: i32,
