@@ -1,6 +1,8 @@
 // The engine: a set, a state, the host's calls, and one beat over a set and a state.
 //
 // A set is lent, a state goes in by value and comes back. No public call asks anything of its caller: what is not sound is answered 22.
+#![tactic(auto)]
+
 mod action;
 mod actions;
 mod calls;

@@ -1,5 +1,7 @@
 // Calls of the control for programs in Rust or C. Each is a thin shell over a proved call and asks nothing of its caller but arrays of the
 // right length. What begins with `set_` is lent a set, with `reader_` a set text.
+#![tactic(auto)]
+
 ghost use Rattle.std.specs.Prelude.{◌≡◌};
 ghost use Rattle.working.specs.Working.{condition_value, right_value};
 ghost use Rattle.checking.specs.Fault.{line_at};

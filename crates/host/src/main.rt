@@ -1,5 +1,7 @@
 // A short host: it loads a set, works ten beats with a lock, an unlock, a cancel, a program end and a control reset in between, writes what each call answered, and at the end prints its set. A real host reads its inputs
 // from the terminals and hands the orders to the drives; this one has its inputs in `inputs_at` and writes the orders down. docs/HOST.md goes through it.
+#![tactic(auto)]
+
 use couplers::channel::CHANNELS;
 use couplers::reading::Reading;
 use engine::{

@@ -1,5 +1,7 @@
 // hosting, a test: works the requests of a host session by the proved calls and answers each in numbers. tests/HOST-SESSIONS.md, "Requests and answers", gives their form.
 // It is proved safe and to end, no more.
+#![tactic(auto)]
+
 mod numbers;
 mod places;
 mod requests;

@@ -1,6 +1,8 @@
 // What synrun and synstat do alike: reads standard input, hands it to a session piece by piece, and writes what the session prints. Nothing else happens here.
 //
 // Where reading or writing fails it says so on standard error, by the program's name, and stops, without what stands at the end.
+#![tactic(auto)]
+
 ghost use Rattle.std.specs.Prelude.{◌≡◌, false, not, eqb};
 ghost use Rattle.transcript.specs.Intake.{OVER};
 ghost use Rattle.transcript.specs.Machine.{LeadsTo};

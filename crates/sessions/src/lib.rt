@@ -1,1 +1,2 @@
 // No code: theorems over the definitions of `transcript`, in specs/.
+#![tactic(auto)]

@@ -1,6 +1,8 @@
 // synprint: reads what synrun reads, from standard input, and writes the print of the set that the text before the line * loads, or L code line. Beat lines are not looked at.
 //
 // Where reading or writing fails it says so on standard error and stops.
+#![tactic(auto)]
+
 ghost use Rattle.std.specs.Prelude.{◌≡◌, ◌≤◌, length};
 ghost use Rattle.values.specs.PutAt.{put_at};
 ghost use Rattle.synprint.specs.Synprint.{synprint};

@@ -1,4 +1,6 @@
 // synrun: reads a set text and beat lines from standard input, and writes what each beat gives, and END.
+#![tactic(auto)]
+
 use piping::pipe_through;
 use transcript::View;
 

@@ -1,6 +1,8 @@
 // The whole of synrun and synstat but reading and writing: input in pieces of any size, output in pieces (document 01, "On both sides of each edge"; document 02, Req 06).
 //
 // No public call asks anything of its caller.
+#![tactic(auto)]
+
 mod beat_line;
 mod in_place;
 mod intake;

@@ -21,19 +21,19 @@ alarm : {z : ℤ} → SFits w32 z → to_z w64 (of_z w64 (alarms -ℤ Wide z)) �
 alarm h = rw (wide h) (back w64 (apart h))
 
 -- the number that was got fits, in either arm
-value-fits : (c : tie.After-struct-told) → SFits w32 c.before.before.before.args.g.value
-value-fits c = record { sfits = c.struct_told.given.1.0.1 }
+value-fits : (c : tie.After-struct_told-1) → SFits w32 c.args.g.value
+value-fits c = record { sfits = c.struct_told-1.given.1.0.1 }
 
-code_fits : (c : tie.After-struct-told2) → SFits w32 c.before.before.before.args.g.value
-code_fits c = record { sfits = c.struct-told2.given.1.0.1 }
+code_fits : (c : tie.After-struct_told-2-1) → SFits w32 c.args.g.value
+code_fits c = record { sfits = c.struct_told-2-1.given.1.0.1 }
 
-pub packed-value-spec : {M : Type 1} → statement M
+pub packed_value_spec : {M : Type 1} → statement M
 unfolding packed
-packed-value-spec =
+packed_value_spec =
     tie.close
     (tie.spec
     (λ c. cast64 (value-fits c))
-    (λ c. rw c.before.before.if1.true (wide (value-fits c)))
+    (λ c. rw c.if-good.true (wide (value-fits c)))
     (λ c. cast64 (code_fits c))
     (λ c. alarm-fits (code_fits c))
-    (λ c. rw c.before.before.if1.false (alarm (code_fits c))))
+    (λ c. rw c.if-good.false (alarm (code_fits c))))

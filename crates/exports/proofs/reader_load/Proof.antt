@@ -5,9 +5,9 @@ use Rattle.exports.specs.Packed.{packed_load}
 use Rattle.exports.proofs.reader_load.Statement.{statement}
 use Rattle.exports.proofs.reader_load.Tie as tie
 
-pub reader-load-spec : {M : Type 1} → statement M
+pub reader_load_spec : {M : Type 1} → statement M
 unfolding packed_load
-reader-load-spec =
+reader_load_spec =
     tie.close
     (tie.spec
     (λ c κs. search rules)
@@ -15,4 +15,4 @@ reader-load-spec =
     (λ c. search rules)
     (λ c. search rules)
     (λ c. search rules)
-    (λ c. let l = c.before.before.load.ensures in (ap packed_load l.0, l.1)))
+    (λ c. let l = c.load-l.ensures in (ap packed_load l.0, l.1)))

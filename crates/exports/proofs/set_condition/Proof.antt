@@ -7,10 +7,10 @@ use Rattle.exports.specs.Packed.{packed}
 use Rattle.exports.proofs.set_condition.Statement.{statement}
 use Rattle.exports.proofs.set_condition.Tie as tie
 
-pub set-condition-spec : {M : Type 1} → statement M
-set-condition-spec =
+pub set_condition_spec : {M : Type 1} → statement M
+set_condition_spec =
     tie.close
     (tie.spec
     (λ c κs. search rules)
     (λ c κs. search rules)
-    (λ c. back w64 (record { sfits = c.packed-value.type-inv }) ∙ c.packed-value.ensures ∙ ap packed c.before.condition.ensures))
+    (λ c. back w64 (record { sfits = c.packed_value.type_inv }) ∙ c.packed_value.ensures ∙ ap packed c.condition.ensures))

@@ -5,6 +5,6 @@ use Rattle.checking.specs.declared.line.Line.{Line}
 use Rattle.exports.proofs.set_line_fault.Statement.{statement}
 use Rattle.exports.proofs.set_line_fault.Tie as tie
 
-pub set-line-fault-spec : {M : Type 1} → statement M
-set-line-fault-spec =
-    tie.close (tie.spec (λ c κs. search rules) (λ c. search rules) (λ c. ap (λ (l : Line). l.fault) c.before.line_at.ensures))
+pub set_line_fault_spec : {M : Type 1} → statement M
+set_line_fault_spec =
+    tie.close (tie.spec (λ c κs. search rules) (λ c. search rules) (λ c. ap (λ (l : Line). l.fault) c.line_at-line.ensures))

@@ -7,10 +7,10 @@ use Rattle.exports.specs.Packed.{packed}
 use Rattle.exports.proofs.set_right_side.Statement.{statement}
 use Rattle.exports.proofs.set_right_side.Tie as tie
 
-pub set-right-side-spec : {M : Type 1} → statement M
-set-right-side-spec =
+pub set_right_side_spec : {M : Type 1} → statement M
+set_right_side_spec =
     tie.close
     (tie.spec
     (λ c κs. search rules)
     (λ c κs. search rules)
-    (λ c. back w64 (record { sfits = c.packed-value.type-inv }) ∙ c.packed-value.ensures ∙ ap packed c.before.right_side.ensures))
+    (λ c. back w64 (record { sfits = c.packed_value.type_inv }) ∙ c.packed_value.ensures ∙ ap packed c.right_side.ensures))

@@ -4,11 +4,11 @@ use Prim.Native.Nat.{◌-◌}
 use Rattle.host.proofs.carry_out_all.Statement.{statement}
 use Rattle.host.proofs.carry_out_all.Tie as tie
 
-abbrev invariant-loop : tie.invariant-loop
+abbrev invariant-loop : tie.invariant-loop-i
 invariant-loop orders n i₀ i = Unit {0}
 
-abbrev decreases-loop : tie.decreases-loop
+abbrev decreases-loop : tie.decreases-loop-i
 decreases-loop orders n i₀ i = n - i
 
-pub carry-out-all-spec : {M : Type 1} → statement M
-carry-out-all-spec = tie.close (tie.spec invariant-loop decreases-loop (λ c. tt) (λ c κs. tt) (λ c. search rules) (λ c. search rules) (λ c. tt) (λ c. search rules))
+pub carry_out_all_spec : {M : Type 1} → statement M
+carry_out_all_spec = tie.close (tie.spec invariant-loop decreases-loop (λ c. tt) (λ c κs. tt) (λ c. search rules) (λ c. search rules) (λ c. tt) (λ c. search rules))

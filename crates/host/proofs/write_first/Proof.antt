@@ -5,11 +5,11 @@ use lib.Seq.{length-take-le}
 use Rattle.host.proofs.write_first.Statement.{statement}
 use Rattle.host.proofs.write_first.Tie as tie
 
-pub write-first-spec : {M : Type 1} → statement M
-write-first-spec =
+pub write_first_spec : {M : Type 1} → statement M
+write_first_spec =
     tie.close
     (tie.spec
-    (λ c. sym (length-take-le _ _ c.before.if1.true))
+    (λ c. sym (length-take-le _ _ c.if-n-text.true))
     (λ c κs. search rules)
     (λ c. search rules)
     (λ c. search rules))

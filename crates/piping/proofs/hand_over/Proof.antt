@@ -13,21 +13,21 @@ use Rattle.piping.proofs.ProgramLaws.{left-length, written-room, no-more, some, 
 use Rattle.piping.proofs.hand_over.Statement.{statement}
 use Rattle.piping.proofs.hand_over.Tie as tie
 
-abbrev invariant-loop : tie.invariant-loop
+abbrev invariant-loop : tie.invariant-loop-at
 invariant-loop text₀ set₀ piece program s₀ at₀ text set s at =
     (at ≤ length piece) × ((x : Machine) → LeadsTo (machine_of text set s) (drop at piece) x → LeadsTo (machine_of text₀ set₀ s₀) piece x)
 
-abbrev decreases-loop : tie.decreases-loop
+abbrev decreases-loop : tie.decreases-loop-at
 decreases-loop text₀ set₀ piece program s₀ at₀ text set s at = length piece - at
 
-prefix : tie.Need-array-share-prefix-out invariant-loop decreases-loop
-prefix c = written-room _ _ c.before.step.ensures.0 _ c.before.step.ensures.1.1.1 (length-replicate {A = ℕ} out_size 0)
+prefix : tie.Need-slice_bounds-out-end invariant-loop decreases-loop
+prefix c = written-room _ _ c.step-x.ensures.0 _ c.step-x.ensures.1.1.1 (length-replicate {A = ℕ} out_size 0)
 
-counted : tie.Need-slice-aggregate-not-written invariant-loop decreases-loop
+counted : tie.Need-slice_bounds-not_written-end invariant-loop decreases-loop
 counted c = sym (length-take-le _ _ (prefix c.before))
 
-pub hand-over-spec : {M : Type 1} → statement M
-hand-over-spec =
+pub hand_over_spec : {M : Type 1} → statement M
+hand_over_spec =
     tie.close
     (tie.spec
     invariant-loop
@@ -44,29 +44,29 @@ hand-over-spec =
     (λ c.
     let s = c.before.before.before.before.before in
     let b = s.before.before.before.before.before.before in
-    let p = b.before.before.before.args.piece.now in
-    let d = left-length b.loop.at p in
-    let r : s.step.result.taken ≤ length (take (length p - b.loop.at) (drop b.loop.at p)) = no-more _ _ s.step.ensures.0 in
-    omega (arith, b.loop.invariant.0, s.before.before.before.before.before.loop-test.true, b.before.before.before.well-formed))
+    let p = b.args.piece.now in
+    let d = left-length b.loop-at.at p in
+    let r : s.step-x.result.taken ≤ length (take (length p - b.loop-at.at) (drop b.loop-at.at p)) = no-more _ _ s.step-x.ensures.0 in
+    omega (arith, b.loop-at.invariant.0, s.loop-at-test.true, b.before.before.before.well-formed))
     (λ c.
     let s = c.before.before.before.before.before in
     let b = s.before.before.before.before.before.before in
-    let p = b.before.before.before.args.piece.now in
-    let d = left-length b.loop.at p in
-    let r : s.step.result.taken ≤ length (take (length p - b.loop.at) (drop b.loop.at p)) = no-more _ _ s.step.ensures.0 in
-    let t : b.loop.at < length p = s.before.before.before.before.before.loop-test.true in
-    let q = some _ _ s.step.ensures.0 (omega arith) in
+    let p = b.args.piece.now in
+    let d = left-length b.loop-at.at p in
+    let r : s.step-x.result.taken ≤ length (take (length p - b.loop-at.at) (drop b.loop-at.at p)) = no-more _ _ s.step-x.ensures.0 in
+    let t : b.loop-at.at < length p = s.loop-at-test.true in
+    let q = some _ _ s.step-x.ensures.0 (omega arith) in
     omega arith)
     (λ c.
     let s = c.before.before.before.before.before in
     let b = s.before.before.before.before.before.before in
-    let p = b.before.before.before.args.piece.now in
-    let d = left-length b.loop.at p in
-    let r : s.step.result.taken ≤ length (take (length p - b.loop.at) (drop b.loop.at p)) = no-more _ _ s.step.ensures.0 in
-    let i : b.loop.at ≤ length p = b.loop.invariant.0 in
-    (omega arith, λ x l. b.loop.invariant.1 x (step-leads _ x p b.loop.at s.step.ensures.0 s.step.ensures.1.0 s.step.ensures.1.1.0 l)))
+    let p = b.args.piece.now in
+    let d = left-length b.loop-at.at p in
+    let r : s.step-x.result.taken ≤ length (take (length p - b.loop-at.at) (drop b.loop-at.at p)) = no-more _ _ s.step-x.ensures.0 in
+    let i : b.loop-at.at ≤ length p = b.loop-at.invariant.0 in
+    (omega arith, λ x l. b.loop-at.invariant.1 x (step-leads _ x p b.loop-at.at s.step-x.ensures.0 s.step-x.ensures.1.0 s.step-x.ensures.1.1.0 l)))
     (λ c κs. search rules)
     (λ c.
     let b = c.before.before in
-    let p = b.before.before.before.args.piece.now in
-    (λ e. b.loop.invariant.1 _ (rw (drop_of_length-le p c.before.loop-test.false) (at_end _)), λ e. ap not c.is-over.ensures)))
+    let p = b.args.piece.now in
+    (λ e. b.loop-at.invariant.1 _ (rw (drop_of_length-le p c.loop-at-test.false) (at_end _)), λ e. ap not c.is_over-over.ensures)))

@@ -9,17 +9,17 @@ use Rattle.piping.proofs.ProgramLaws.{end-room}
 use Rattle.piping.proofs.pipe_through.Statement.{statement}
 use Rattle.piping.proofs.pipe_through.Tie as tie
 
-abbrev invariant-loop : tie.invariant-loop
+abbrev invariant-loop : tie.invariant-loop-more
 invariant-loop program text₀ set₀ s₀ more₀ rounds₀ text set s more rounds = Unit {0}
 
-abbrev decreases-loop : tie.decreases-loop
+abbrev decreases-loop : tie.decreases-loop-more
 decreases-loop program text₀ set₀ s₀ more₀ rounds₀ text set s more rounds = rounds
 
-prefix : tie.Need-array-share-prefix-out invariant-loop decreases-loop
-prefix c = end-room _ _ c.finish.ensures.0 c.finish.ensures.1 (length-replicate {A = ℕ} out_size 0)
+prefix : tie.Need-slice_bounds-out-end invariant-loop decreases-loop
+prefix c = end-room _ _ c.finish-n.ensures.0 c.finish-n.ensures.1 (length-replicate {A = ℕ} out_size 0)
 
-pub pipe-through-spec : {M : Type 1} → statement M
-pipe-through-spec =
+pub pipe_through_spec : {M : Type 1} → statement M
+pipe_through_spec =
     tie.close
     (tie.spec
     invariant-loop

@@ -21,31 +21,31 @@ module _ (t : List ℕ) {n : ℕ} (e : n ≡ length (input_of t).text) where
   counted : n ≡ length (take n t)
   counted = sym (length-take-le n t (let w = text-within t in omega arith))
 
-pub answer-spec : {M : Type 1} → statement M
-answer-spec =
+pub answer_spec : {M : Type 1} → statement M
+answer_spec =
     tie.close
     (tie.spec
     (λ c κs. search rules)
     (λ c κs. search rules)
-    (λ c. let s = c.before.before in counted s.before.before.args.input.now s.set-text-size.ensures)
+    (λ c. let s = c.before.before in counted s.args.input.now s.set_text_size-size.ensures)
     (λ c κs. search rules)
     (λ c κs. search rules)
     (λ c.
     let i = c.before.before in
     let l = i.before in
     let s = l.before.before.before.before in
-    let a = s.before.before.args in
+    let a = s.args in
     let t = a.input.now in
-    let h = handed t s.set-text-size.ensures in
-    let e = l.load.ensures.0 ∙ ap load_answer h in
-    said-refusal t a.out.now _ _ (omega arith) (ap (λ (x : Loaded). x.code) e) (ap (λ (x : Loaded). x.line) e) i.if1.true c.put-refusal.ensures.0 c.put-refusal.ensures.1)
+    let h = handed t s.set_text_size-size.ensures in
+    let e = l.load-l.ensures.0 ∙ ap load_answer h in
+    said-refusal t a.out.now _ _ (omega arith) (ap (λ (x : Loaded). x.code) e) (ap (λ (x : Loaded). x.line) e) i.if-code-ne0.true c.put_refusal.ensures.0 c.put_refusal.ensures.1)
     (λ c κs. search rules)
     (λ c.
     let i = c.before.before.before in
     let l = i.before in
     let s = l.before.before.before.before in
-    let a = s.before.before.args in
+    let a = s.args in
     let t = a.input.now in
-    let h = handed t s.set-text-size.ensures in
-    let e = l.load.ensures.0 ∙ ap load_answer h in
-    said-print t a.out.now _ _ (omega arith) _ (l.load.ensures.1 ∙ ap load_set h) (sym (ap (λ (x : Loaded). x.code) e) ∙ i.if1.false) c.print.ensures.0 c.print.ensures.1 refl))
+    let h = handed t s.set_text_size-size.ensures in
+    let e = l.load-l.ensures.0 ∙ ap load_answer h in
+    said-print t a.out.now _ _ (omega arith) _ (l.load-l.ensures.1 ∙ ap load_set h) (sym (ap (λ (x : Loaded). x.code) e) ∙ i.if-code-ne0.false) c.print-p.ensures.0 c.print-p.ensures.1 refl))

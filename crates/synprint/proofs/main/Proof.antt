@@ -5,11 +5,11 @@ use lib.Seq.{length-take-le}
 use Rattle.synprint.proofs.main.Statement.{statement}
 use Rattle.synprint.proofs.main.Tie as tie
 
-came : tie.Need-array-share-prefix-input
+came : tie.Need-slice_bounds-input-end
 came c = search rules
 
-printed : tie.Need-array-share-prefix-out
-printed c = c.answer.ensures.0.1
+printed : tie.Need-slice_bounds-out-end
+printed c = c.answer-n.ensures.0.1
 
 pub main_spec : {M : Type 1} → statement M
 main_spec =

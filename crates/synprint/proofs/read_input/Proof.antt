@@ -9,10 +9,10 @@ use borrow.Rule.Slice.PartMut.{mid_of, put_mid, same_len_mid}
 use Rattle.synprint.proofs.read_input.Statement.{statement}
 use Rattle.synprint.proofs.read_input.Tie as tie
 
-abbrev invariant-loop : tie.invariant-loop
+abbrev invariant-loop : tie.invariant-loop-size
 invariant-loop input₀ size₀ input size = (size ≤ length input) × (length input ≡ length input₀)
 
-abbrev decreases-loop : tie.decreases-loop
+abbrev decreases-loop : tie.decreases-loop-size
 decreases-loop input₀ size₀ input size = length input - size
 
 -- a part of the input is lent from `size` on and comes back as long as it was; n bytes of it came
@@ -23,8 +23,8 @@ module _ (input last : List ℕ) (size n : ℕ) (l : size ≤ length input) (k :
   room : size + n ≤ length input
   room = let d = length-drop size input in let t = length-take (length input - size) (drop size input) in omega arith
 
-pub read-input-spec : {M : Type 1} → statement M
-read-input-spec =
+pub read_input_spec : {M : Type 1} → statement M
+read_input_spec =
     tie.close
     (tie.spec
     invariant-loop
@@ -37,26 +37,26 @@ read-input-spec =
     (λ c.
     let r = c.before.before.before in
     let b = r.before.before.before in
-    as_long b.loop.input r.read-part.new.0 b.loop.size r.read-part.result.size b.loop.invariant.0 r.read-part.auto.0 r.read-part.ensures ∙ b.loop.invariant.1)
+    as_long b.loop-size.input r.read_part-c.new.0 b.loop-size.size r.read_part-c.result.size b.loop-size.invariant.0 r.read_part-c.auto.0 r.read_part-c.ensures ∙ b.loop-size.invariant.1)
     (λ c.
     let b = c.before.before.before.before.before.before in
-    omega (arith, b.loop.invariant.0, b.loop.invariant.1))
+    omega (arith, b.loop-size.invariant.0, b.loop-size.invariant.1))
     (λ c.
     let r = c.before.before.before in
     let b = r.before.before.before in
-    let m = room b.loop.input r.read-part.new.0 b.loop.size r.read-part.result.size b.loop.invariant.0 r.read-part.auto.0 r.read-part.ensures in
+    let m = room b.loop-size.input r.read_part-c.new.0 b.loop-size.size r.read_part-c.result.size b.loop-size.invariant.0 r.read_part-c.auto.0 r.read_part-c.ensures in
     search (rules, m))
     (λ c.
     let r = c.before.before.before in
     let b = r.before.before.before in
-    let e = as_long b.loop.input r.read-part.new.0 b.loop.size r.read-part.result.size b.loop.invariant.0 r.read-part.auto.0 r.read-part.ensures in
-    let m = room b.loop.input r.read-part.new.0 b.loop.size r.read-part.result.size b.loop.invariant.0 r.read-part.auto.0 r.read-part.ensures in
-    omega (arith, e, m, c.if1.false))
+    let e = as_long b.loop-size.input r.read_part-c.new.0 b.loop-size.size r.read_part-c.result.size b.loop-size.invariant.0 r.read_part-c.auto.0 r.read_part-c.ensures in
+    let m = room b.loop-size.input r.read_part-c.new.0 b.loop-size.size r.read_part-c.result.size b.loop-size.invariant.0 r.read_part-c.auto.0 r.read_part-c.ensures in
+    omega (arith, e, m, c.if-n-eq0.false))
     (λ c.
     let r = c.before.before.before in
     let b = r.before.before.before in
-    let e = as_long b.loop.input r.read-part.new.0 b.loop.size r.read-part.result.size b.loop.invariant.0 r.read-part.auto.0 r.read-part.ensures in
-    let m = room b.loop.input r.read-part.new.0 b.loop.size r.read-part.result.size b.loop.invariant.0 r.read-part.auto.0 r.read-part.ensures in
-    (omega (arith, e, m), e ∙ b.loop.invariant.1))
-    (λ c. c.before.loop.invariant.1)
-    (λ c. let b = c.before in omega (arith, b.loop.invariant.0, b.loop.invariant.1)))
+    let e = as_long b.loop-size.input r.read_part-c.new.0 b.loop-size.size r.read_part-c.result.size b.loop-size.invariant.0 r.read_part-c.auto.0 r.read_part-c.ensures in
+    let m = room b.loop-size.input r.read_part-c.new.0 b.loop-size.size r.read_part-c.result.size b.loop-size.invariant.0 r.read_part-c.auto.0 r.read_part-c.ensures in
+    (omega (arith, e, m), e ∙ b.loop-size.invariant.1))
+    (λ c. c.loop-size.invariant.1)
+    (λ c. let b = c.before in omega (arith, b.loop-size.invariant.0, b.loop-size.invariant.1)))

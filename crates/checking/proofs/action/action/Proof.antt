@@ -16,38 +16,38 @@ action_spec =
     tie.close
     (tie.spec
     (λ c κs. search rules)
-    (λ c. (faulted-nothing ∙ sym (no-action _ _ _ _ (sym c.before.token-at.ensures ∙ c.if1.true)), counted-nothing _ _ refl))
+    (λ c. (faulted-nothing ∙ sym (no-action _ _ _ _ (sym c.token_at-w.ensures ∙ c.if-w-eq-END.true)), counted-nothing _ _ refl))
     (λ c κs. search rules)
     (λ c κs.
     let s = c.before.before.before in
-    omega (arith, lies-inside s.before.before.before.args.set.now s.before.before.before.args.at s.before.token-at.ensures s.if1.false))
+    omega (arith, lies-inside s.args.set.now s.args.at s.token_at-w.ensures s.if-w-eq-END.false))
     (λ c.
     let i = c.before.before in
-    let t = i.before.before.before.token-at.ensures in (
-      c.unindexed.ensures.0 ∙ action-unindexed _ _ _ _ _ t (sym i.is-indexed.ensures ∙ not-true _ c.before.if2.true),
+    let t = i.token_at-w.ensures in (
+      c.unindexed.ensures.0 ∙ action-unindexed _ _ _ _ _ t (sym i.is_indexed.ensures ∙ not-true _ c.if-not-is_indexed.true-raw),
       counted-token _ _ t c.unindexed.ensures.1.0 c.unindexed.ensures.1.1,
     ))
     (λ c.
     let s = c.before.before.before.before in
-    omega (arith, lies-inside s.before.before.before.args.set.now s.before.before.before.args.at s.before.token-at.ensures s.if1.false))
+    omega (arith, lies-inside s.args.set.now s.args.at s.token_at-w.ensures s.if-w-eq-END.false))
     (λ c κs. search rules)
     (λ c.
     let f = c.before.before.before in
     let i = f.before in (
-      faulted-nothing ∙ action-wrong _ _ _ _ _ i.before.before.before.token-at.ensures (sym i.is-indexed.ensures ∙ not-false _ f.if2.false) (λ e. c.if3.true (c.before.token-at2.ensures ∙ e)),
+      faulted-nothing ∙ action-wrong _ _ _ _ _ i.token_at-w.ensures (sym i.is_indexed.ensures ∙ not-false _ f.if-not-is_indexed.false-raw) (λ e. c.if-token_at-ne-EQUALS.true (c.token_at.ensures ∙ e)),
       counted-nothing _ _ refl,
     ))
     (λ c κs.
     let s = c.before.before.before.before.before.before in
-    omega (arith, lies-inside s.before.before.before.args.set.now s.before.before.before.args.at s.before.token-at.ensures s.if1.false))
+    omega (arith, lies-inside s.args.set.now s.args.at s.token_at-w.ensures s.if-w-eq-END.false))
     (λ c.
     let u = c.before.before in
     let f = u.before.before in
     let i = f.before in
-    let t = i.before.before.before.token-at.ensures in
-    let h = sym i.is-indexed.ensures ∙ not-false _ f.if2.false in
-    let e = sym u.token-at2.ensures ∙ c.before.if3.false in
-    let at = i.before.before.before.before.before.args.at in (
+    let t = i.token_at-w.ensures in
+    let h = sym i.is_indexed.ensures ∙ not-false _ f.if-not-is_indexed.false-raw in
+    let e = sym u.token_at.ensures ∙ c.if-token_at-ne-EQUALS.false in
+    let at = i.args.at in (
       c.assignment.ensures.0 ∙ action-assigns _ _ _ _ _ t h e,
       counted-token _ _ t c.assignment.ensures.1.0 (counted-behind _ (at + 1) (at + 5) (counts-assigned _ _ _ h e) c.assignment.ensures.1.1),
     )))

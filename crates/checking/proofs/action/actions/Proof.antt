@@ -19,16 +19,16 @@ use Rattle.checking.proofs.BracketCountLaws.{onward-same, onward_then, onward-no
 use Rattle.checking.proofs.action.actions.Statement.{statement}
 use Rattle.checking.proofs.action.actions.Tie as tie
 
-abbrev invariant-loop : tie.invariant-loop
+abbrev invariant-loop : tie.invariant-loop-rounds
 invariant-loop tokens keyword w low₀ n₀ names₀ moved₀ rounds₀ low n names moved rounds =
     (m : List ℕ) × Marks m moved × (then (faulted low) (actions_at tokens keyword set_size rounds n m) ≡ actions_at tokens keyword set_size set_size 0 [] (fault_of w) (next_of w)) × ((n + rounds ≡ set_size) × (InGrammar low × (Onward tokens w low × ((names || names_from tokens keyword set_size rounds (next_of low)) ≡ names_from tokens keyword set_size set_size (next_of w)))))
 
-abbrev decreases-loop : tie.decreases-loop
+abbrev decreases-loop : tie.decreases-loop-rounds
 decreases-loop tokens keyword w low₀ n₀ names₀ moved₀ rounds₀ low n names moved rounds = rounds
 
 -- the round so far, behind the next action, and what it goes on behind
-module _ (c : tie.After-next-of2 invariant-loop decreases-loop) where
-  abbrev from : tie.After-next-of invariant-loop decreases-loop
+module _ (c : tie.After-next_of-i invariant-loop decreases-loop) where
+  abbrev from : tie.After-next_of-at invariant-loop decreases-loop
   from = c.before.before.before.before.before.before
 
   round : let j = c.before in let i = from.before.before.loop in let a = from.before.before.before.args in
@@ -70,8 +70,8 @@ module _ (c : tie.After-next-of2 invariant-loop decreases-loop) where
         (c.before.before.before.or-naming.result || names_from a.set.now a.keyword set_size (from.before.before.loop.rounds - 1) (next_of c.before.join-faults.result)) ≡ names_from a.set.now a.keyword set_size set_size (next_of a.w)
     names = let n = c.before.before.before in round-names round o from.before.before.loop.names n.before.token-at.ensures n.or-naming.ensures from.before.before.loop.inv.3.1.1.1
 
-pub actions-spec : {M : Type 1} → statement M
-actions-spec =
+pub actions_spec : {M : Type 1} → statement M
+actions_spec =
     tie.close
     (tie.spec
     invariant-loop
@@ -83,9 +83,9 @@ actions-spec =
     (λ c κs. search rules)
     (λ c κs. search rules)
     (λ c κs. search rules)
-    (λ c. (faulted-nothing ∙ round-stops (round c.before) c.if1.true, (onward-nothing _ _ refl, λ g. absurd (g refl))))
+    (λ c. (faulted-nothing ∙ round-stops (round c.before) c.if-i-eq0.true, (onward-nothing _ _ refl, λ g. absurd (g refl))))
     (λ c. omega arith)
-    (λ c κs. (marks-small _ _ (from c.before).before.before.loop.inv.1, λ h. (index c.before c.if1.false h).1))
+    (λ c κs. (marks-small _ _ (from c.before).before.before.loop.inv.1, λ h. (index c.before c.if-i-eq0.false h).1))
     (λ c κs. search rules)
     (λ c κs. search rules)
     (λ c κs. search rules)
@@ -99,15 +99,15 @@ actions-spec =
     let v = t.before.before in
     let o = v.before in
     let m = o.before in
-    let x = m.before.join-faults.result in
-    let k = number-made {d = 0} _ (omega arith) (omega arith) (in-room _ m.next-of2.ensures) r.number-seen.ensures in
-    let e = sym t.token-at2.ensures ∙ q.before.if2.true in (
-      c.noted.ensures.0 ∙ b.join-faults2.ensures.0 ∙
-          ap (λ (y : Read ℕ). then y (λ g q. read (lower (fault_of x) g) q)) (faulted-made k (omega (arith, o.if1.false)) ∙ ap (λ (f : ℕ). read f m.next-of2.result) (q.end-fault.ensures ∙ marks-fault _ _ _ (marks m o.if1.false v.with-move.ensures))) ∙
-          round-ends (round m) o.if1.false e,
+    let x = m.join_faults-low.result in
+    let k = number-made {d = 0} _ (omega arith) (omega arith) (in-room _ m.next_of-i.ensures) r.number_seen.ensures in
+    let e = sym t.token_at.ensures ∙ q.if-token_at-eq-END.true in (
+      c.noted.ensures.0 ∙ b.join_faults.ensures.0 ∙
+          ap (λ (y : Read ℕ). then y (λ g q. read (lower (fault_of x) g) q)) (faulted-made k (omega (arith, o.if-i-eq0.false)) ∙ ap (λ (f : ℕ). read f m.next_of-i.result) (q.end_fault.ensures ∙ marks-fault _ _ _ (marks m o.if-i-eq0.false v.with_move-moved.ensures))) ∙
+          round-ends (round m) o.if-i-eq0.false e,
       (
-        onward_then _ (onward_then _ (on m) (joined-next _ m.next-of2.ensures o.if1.false (counted_none _ _ _ k.next) b.join-faults2.ensures.1)) (same-end-on _ c.noted.ensures.1.0),
-        λ g. c.noted.ensures.1.1 ∙ noted m o.if1.false e,
+        onward_then _ (onward_then _ (on m) (joined-next _ m.next_of-i.ensures o.if-i-eq0.false (counted_none _ _ _ k.next) b.join_faults.ensures.1)) (same-end-on _ c.noted.ensures.1.0),
+        λ g. c.noted.ensures.1.1 ∙ noted m o.if-i-eq0.false e,
       ),
     ))
     (λ c. omega arith)
@@ -118,15 +118,15 @@ actions-spec =
     let o = v.before in
     let m = o.before in
     let b = (from m).before in
-    let e : get_or (from m).before.before.before.args.set.now m.next-of2.result 0 ≡ END → ⊥ = λ y. c.if2.false (t.token-at2.ensures ∙ y) in (
+    let e : get_or (from m).before.before.before.args.set.now m.next_of-i.result 0 ≡ END → ⊥ = λ y. c.if-token_at-eq-END.false (t.token_at.ensures ∙ y) in (
       _,
-      marks m o.if1.false v.with-move.ensures,
-      round-goes (round m) o.if1.false e,
-      (omega (arith, b.loop-test.taken, b.before.loop.inv.3.0), (λ y. o.if1.false (m.next-of2.ensures ∙ y), (on m, names m o.if1.false e))),
+      marks m o.if-i-eq0.false v.with_move-moved.ensures,
+      round-goes (round m) o.if-i-eq0.false e,
+      (omega (arith, b.loop-rounds-test.taken, b.loop-rounds.inv.3.0), (λ y. o.if-i-eq0.false (m.next_of-i.ensures ∙ y), (on m, names m o.if-i-eq0.false e))),
     ))
     (λ c.
-    let i = c.before.loop in
-    let a = c.before.before.args in (
-      faulted-nothing ∙ sym (acts-none _ _ _ _ _ _ _ _ c.loop-test.false) ∙ ap (λ (r : Read ℕ). then r (actions_at a.set.now a.keyword set_size i.rounds i.n i.invariant.0)) (sym (faulted-read i.low refl i.invariant.3.1.0)) ∙ i.invariant.2,
+    let i = c.loop-rounds in
+    let a = c.args in (
+      faulted-nothing ∙ sym (acts-none _ _ _ _ _ _ _ _ c.loop-rounds-test.false) ∙ ap (λ (r : Read ℕ). then r (actions_at a.set.now a.keyword set_size i.rounds i.n i.invariant.0)) (sym (faulted-read i.low refl i.invariant.3.1.0)) ∙ i.invariant.2,
       (onward-nothing _ _ refl, λ g. absurd (g refl)),
     )))

@@ -12,9 +12,9 @@ use Rattle.checking.proofs.BracketCountLaws.{counts-index, counted_none, counted
 use Rattle.checking.proofs.action.assigned.Statement.{statement}
 use Rattle.checking.proofs.action.assigned.Tie as tie
 
-pub assigned-spec : {M : Type 1} → statement M
+pub assigned_spec : {M : Type 1} → statement M
 unfolding assigned_at
-assigned-spec =
+assigned_spec =
     tie.close
     (tie.spec
     (λ c κs. search rules)
@@ -22,10 +22,10 @@ assigned-spec =
     (λ c κs. search rules)
     (λ c.
     let r = c.before.before in
-    let a = r.before.args in
-    let h = sym r.is-removal.ensures ∙ c.before.if1.true in
-    let m : a.at + 4 < room = omega (arith, r.before.requires) in
-    let k = number-made {f = 0} {d = 0} _ (omega arith) (omega arith) m c.number-seen.ensures in
+    let a = r.args in
+    let h = sym r.is_removal.ensures ∙ c.if-is_removal.true in
+    let m : a.at + 4 < room = omega (arith, r.requires) in
+    let k = number-made {f = 0} {d = 0} _ (omega arith) (omega arith) m c.number_seen.ensures in
     let t = removal-tokens _ _ h in (
       simp (assigned_at, h) (faulted-made k (omega arith)),
       counted-token _ _ refl (λ g. t.0) (counted-behind _ _ (a.at + 4) (counts-index _ _ _ t.1) (counted_none _ _ _ k.next)),
@@ -34,6 +34,6 @@ assigned-spec =
     (λ c κs. search rules)
     (λ c.
     let s = c.before in (
-      simp (assigned_at, sym s.before.before.is-removal.ensures ∙ s.before.if1.false) (faulted-wanted _ _ _ (sum_at _ _ _ _) s.sum.ensures.0 c.as_wanted.ensures.0),
+      simp (assigned_at, sym s.is_removal.ensures ∙ s.if-is_removal.false) (faulted-wanted _ _ _ (sum_at _ _ _ _) s.sum.ensures.0 c.as_wanted.ensures.0),
       (same-end-on _ c.as_wanted.ensures.1).goes _ s.sum.ensures.1,
     )))

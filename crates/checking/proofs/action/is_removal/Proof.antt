@@ -11,35 +11,35 @@ use Rattle.checking.proofs.FaultLaws.{removal}
 use Rattle.checking.proofs.action.is_removal.Statement.{statement}
 use Rattle.checking.proofs.action.is_removal.Tie as tie
 
-fifo : (c : tie.Else1) → is_fifo c.before.before.token-at.result ≡ true
-fifo c = sym c.before.is-fifo.ensures ∙ not-false _ c.if1.false
+fifo : (c : tie.Else-not-is_fifo) → is_fifo c.token_at-w.result ≡ true
+fifo c = sym c.is_fifo.ensures ∙ not-false _ c.if-not-is_fifo.false-raw
 
-bracketed : (c : tie.Else2) → let d = c.before.before.before.before.before in is_indexed d.before.before.args.set.now d.token-at.result d.before.before.args.at ≡ true
-bracketed c = sym c.before.is-indexed.ensures ∙ not-false _ c.if2.false
+bracketed : (c : tie.Else-not-is_indexed) → let d = c.before.before.before.before.before in is_indexed d.args.set.now d.token_at-w.result d.args.at ≡ true
+bracketed c = sym c.is_indexed.ensures ∙ not-false _ c.if-not-is_indexed.false-raw
 
-pub is-removal-spec : {M : Type 1} → statement M
-is-removal-spec =
+pub is_removal_spec : {M : Type 1} → statement M
+is_removal_spec =
     tie.close
     (tie.spec
     (λ c κs. search rules)
     (λ c κs. search rules)
-    (λ c. rw (← removal _ _ _ _ c.before.before.token-at.ensures refl) (simp (sym c.before.is-fifo.ensures ∙ not-true _ c.if1.true)))
+    (λ c. rw (← removal _ _ _ _ c.token_at-w.ensures refl) (simp (sym c.is_fifo.ensures ∙ not-true _ c.if-not-is_fifo.true-raw)))
     (λ c κs. search rules)
     (λ c.
     let s = c.before.before.before in
-    rw (← removal _ _ _ _ s.before.before.token-at.ensures refl) (simp (fifo s, sym c.before.is-indexed.ensures ∙ not-true _ c.if2.true)))
+    rw (← removal _ _ _ _ s.token_at-w.ensures refl) (simp (fifo s, sym c.is_indexed.ensures ∙ not-true _ c.if-not-is_indexed.true-raw)))
     (λ c κs. search rules)
     (λ c.
     let s = c.before.before.before in
     let r = s.before.before.before in
-    rw (← removal _ _ _ _ r.before.before.token-at.ensures refl) (simp (fifo r, bracketed s, ne_eqb _ _ (λ e. c.if3.true (c.before.index_at.ensures ∙ e)))))
+    rw (← removal _ _ _ _ r.token_at-w.ensures refl) (simp (fifo r, bracketed s, ne_eqb _ _ (λ e. c.if-index_at-ne0.true (c.index_at.ensures ∙ e)))))
     (λ c.
     let s = c.before.before.before.before.before.before.before in
-    omega (arith, lies-inside s.before.before.before.before.args.set.now s.before.before.before.before.args.at s.before.before.token-at.ensures (no_end FIFO1 FIFO4 s.before.before.token-at.result (omega arith) s.before.is-fifo.ensures (not-false _ s.if1.false))))
+    omega (arith, lies-inside s.args.set.now s.args.at s.token_at-w.ensures (no_end FIFO1 FIFO4 s.token_at-w.result (omega arith) s.is_fifo.ensures (not-false _ s.if-not-is_fifo.false-raw))))
     (λ c κs. search rules)
     (λ c κs. search rules)
     (λ c.
     let s = c.before.before.before in
     let r = s.before.before.before in
     let q = r.before.before.before in
-    rw (← removal _ _ _ _ q.before.before.token-at.ensures c.before.token-at2.ensures) (simp (fifo q, bracketed r, eq-eqb _ _ (sym s.before.index_at.ensures ∙ s.if3.false), c.is-arithmetic.ensures))))
+    rw (← removal _ _ _ _ q.token_at-w.ensures c.token_at.ensures) (simp (fifo q, bracketed r, eq-eqb _ _ (sym s.index_at.ensures ∙ s.if-index_at-ne0.false), c.is_arithmetic.ensures))))

@@ -5,14 +5,14 @@ use Rattle.checking.proofs.SightNumberLaws.{made-noted}
 use Rattle.checking.proofs.action.noted.Statement.{statement}
 use Rattle.checking.proofs.action.noted.Tie as tie
 
-pub noted-spec : {M : Type 1} → statement M
-noted-spec =
+pub noted_spec : {M : Type 1} → statement M
+noted_spec =
     tie.close
     (tie.spec
     (λ c κs. search rules)
     (λ c κs. search rules)
     (λ c κs. search rules)
     (λ c κs. search rules)
-    (λ c. let n = c.before.before in let d = n.before in made-noted _ d.before.fault-of.ensures d.depth-of.ensures n.next-of.ensures true c.before.if1.true c.truth-seen.ensures)
+    (λ c. let n = c.before.before in let d = n.before in made-noted _ d.fault_of-fault.ensures d.depth_of-depth.ensures n.next_of-i.ensures true c.if-names.true c.truth_seen.ensures)
     (λ c κs. search rules)
-    (λ c. let n = c.before.before in let d = n.before in made-noted _ d.before.fault-of.ensures d.depth-of.ensures n.next-of.ensures false c.before.if1.false c.number-seen.ensures))
+    (λ c. let n = c.before.before in let d = n.before in made-noted _ d.fault_of-fault.ensures d.depth_of-depth.ensures n.next_of-i.ensures false c.if-names.false c.number_seen.ensures))

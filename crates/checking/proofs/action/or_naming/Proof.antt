@@ -3,5 +3,5 @@ use borrow.Author.Rules.{rules}
 use Rattle.checking.proofs.action.or_naming.Statement.{statement}
 use Rattle.checking.proofs.action.or_naming.Tie as tie
 
-pub or-naming-spec : {M : Type 1} → statement M
-or-naming-spec = tie.close (tie.spec (λ c. rw c.if1.true) (λ c κs. search rules) (λ c. rw c.before.if1.false c.is-naming.ensures))
+pub or_naming_spec : {M : Type 1} → statement M
+or_naming_spec = tie.close (tie.spec (λ c. rw c.if-names.true) (λ c κs. search rules) (λ c. rw c.if-names.false c.is_naming.ensures))

@@ -12,22 +12,22 @@ use Rattle.checking.proofs.BracketCountLaws.{counts-synfct, counted-nothing, cou
 use Rattle.checking.proofs.action.synfct.Statement.{statement}
 use Rattle.checking.proofs.action.synfct.Tie as tie
 
-pub synfct-spec : {M : Type 1} → statement M
-synfct-spec =
+pub synfct_spec : {M : Type 1} → statement M
+synfct_spec =
     tie.close
     (tie.spec
     (λ c κs. search rules)
-    (λ c. (faulted-nothing ∙ synfct-none _ _ (sym c.before.is-synfct.ensures ∙ not-true _ c.if1.true), counted-nothing _ _ refl))
+    (λ c. (faulted-nothing ∙ synfct-none _ _ (sym c.is_synfct.ensures ∙ not-true _ c.if-not-is_synfct.true-raw), counted-nothing _ _ refl))
     (λ c κs. search rules)
     (λ c. omega arith)
     (λ c κs. search rules)
     (λ c.
     let f = c.before in
     let e = f.before in
-    let a = e.before.before.args in
-    let h = sym e.before.is-synfct.ensures ∙ not-false _ e.if1.false in
-    let m : a.at + 14 < room = omega (arith, e.before.before.requires) in
-    let k = number-made {d = 1} _ (omega arith) (omega arith) m c.number-seen.ensures in (
-      faulted-made k (omega arith) ∙ ap (λ (g : ℕ). read g (a.at + 14)) f.synfct-fault.ensures ∙ synfct-read _ _ h,
+    let a = e.args in
+    let h = sym e.is_synfct.ensures ∙ not-false _ e.if-not-is_synfct.false-raw in
+    let m : a.at + 14 < room = omega (arith, e.requires) in
+    let k = number-made {d = 1} _ (omega arith) (omega arith) m c.number_seen.ensures in (
+      faulted-made k (omega arith) ∙ ap (λ (g : ℕ). read g (a.at + 14)) f.synfct_fault.ensures ∙ synfct-read _ _ h,
       counted-to _ _ _ k.next k.depth (λ g. counts-synfct a.set.now a.at h),
     )))

@@ -5,8 +5,8 @@ use Rattle.checking.proofs.FaultLaws.{synfct-faults}
 use Rattle.checking.proofs.action.synfct_fault.Statement.{statement}
 use Rattle.checking.proofs.action.synfct_fault.Tie as tie
 
-pub synfct-fault-spec : {M : Type 1} → statement M
-synfct-fault-spec =
+pub synfct_fault_spec : {M : Type 1} → statement M
+synfct_fault_spec =
     tie.close
     (tie.spec
     (λ c. omega arith)
@@ -31,4 +31,4 @@ synfct-fault-spec =
     let w = v.before.before in
     let t = w.before.before.before in
     let n = t.before.before in
-    synfct-faults _ _ n.before.before.token-at.ensures n.before.whole_of.ensures n.curve-fault.ensures t.token-at2.ensures w.before.index_at.ensures w.write-fault.ensures v.token-at3.ensures r.before.index-at2.ensures r.read-fault.ensures c.before.lower_of.ensures c.lower-of2.ensures))
+    synfct-faults _ _ n.token_at.ensures n.whole_of.ensures n.curve_fault-number.ensures t.token_at-target.ensures w.index_at.ensures w.write_fault-write.ensures v.token_at-variable.ensures r.index_at-2.ensures r.read_fault-read.ensures c.lower_of.ensures c.lower_of-2.ensures))

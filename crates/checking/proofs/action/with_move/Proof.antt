@@ -15,8 +15,8 @@ use Rattle.checking.proofs.action.with_move.Statement.{statement}
 use Rattle.checking.proofs.action.with_move.Tie as tie
 
 -- the word is a move, and its axis is small
-module _ (c : tie.After-index-at) where
-  abbrev begun : tie.After-is-move
+module _ (c : tie.After-index_at-axis) where
+  abbrev begun : tie.After-is_move
   begun = c.before.before.before
 
   moves : is_move begun.before.args.w ≡ true
@@ -32,17 +32,17 @@ module _ (c : tie.After-index-at) where
   of-index : with_move begun.before.args.moved begun.before.args.w c.index_at.result ≡ with_move begun.before.args.moved begun.before.args.w (index_at begun.before.args.set.now begun.before.args.w begun.before.args.at)
   of-index = ap (with_move begun.before.args.moved begun.before.args.w) c.index_at.ensures
 
-pub with-move-spec : {M : Type 1} → statement M
-with-move-spec =
+pub with_move_spec : {M : Type 1} → statement M
+with_move_spec =
     tie.close
     (tie.spec
     (λ c κs. search rules)
-    (λ c. with_none _ _ _ (sym c.before.is_move.ensures ∙ not-true _ c.if1.true))
+    (λ c. with_none _ _ _ (sym c.is_move.ensures ∙ not-true _ c.if-not-is_move.true-raw))
     (λ c κs. search rules)
     (λ c. search rules)
     (λ c. omega (arith, small c))
-    (λ c. with-again _ _ _ (moves c.before) c.if2.true ∙ of-index c.before)
+    (λ c. with-again _ _ _ (moves c.before) c.if-moved-axis-eq1.true ∙ of-index c.before)
     (λ c. search rules)
     (λ c. omega (arith, small c.before))
     (λ c. record { fits = omega (arith, bit c.before, pow_mono (small c.before), (begun c.before).before.pre.0) })
-    (λ c. ap (λ (b : ℕ). (begun c.before).before.args.moved + b) (bit c.before) ∙ with_first _ _ _ (moves c.before) c.if2.false ∙ of-index c.before))
+    (λ c. ap (λ (b : ℕ). (begun c.before).before.args.moved + b) (bit c.before) ∙ with_first _ _ _ (moves c.before) c.if-moved-axis-eq1.false ∙ of-index c.before))

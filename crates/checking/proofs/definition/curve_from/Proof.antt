@@ -18,9 +18,9 @@ six : {l u a b c d l' u' a' b' c' d' : ℤ} → l ≡ l' → u ≡ u' → a ≡ 
     ◌≡◌ {A = Curve} (record { lower = l; upper = u; a0 = a; a1 = b; a2 = c; a3 = d }) (record { lower = l'; upper = u'; a0 = a'; a1 = b'; a2 = c'; a3 = d' })
 six l u a b c d = rw (l, u, a, b, c, d)
 
-pub curve-from-spec : {M : Type 1} → statement M
+pub curve_from_spec : {M : Type 1} → statement M
 unfolding curve_from
-curve-from-spec =
+curve_from_spec =
     tie.close
     (tie.spec
     (λ c κs. search rules)
@@ -35,5 +35,5 @@ curve-from-spec =
     let p3 = p4.before in
     let p2 = p3.before in
     let p1 = p2.before in
-    six (kept (record { sfits = p1.parameter.type-inv }) p1.parameter.ensures) (kept (record { sfits = p2.parameter2.type-inv }) p2.parameter2.ensures) (kept (record { sfits = p3.parameter3.type-inv }) p3.parameter3.ensures)
-    (kept (record { sfits = p4.parameter4.type-inv }) p4.parameter4.ensures) (kept (record { sfits = p5.parameter5.type-inv }) p5.parameter5.ensures) (kept (record { sfits = c.parameter6.type-inv }) c.parameter6.ensures)))
+    six (kept (record { sfits = p1.parameter.type_inv }) p1.parameter.ensures) (kept (record { sfits = p2.parameter-2.type_inv }) p2.parameter-2.ensures) (kept (record { sfits = p3.parameter-3.type_inv }) p3.parameter-3.ensures)
+    (kept (record { sfits = p4.parameter-4.type_inv }) p4.parameter-4.ensures) (kept (record { sfits = p5.parameter-5.type_inv }) p5.parameter-5.ensures) (kept (record { sfits = c.parameter-6.type_inv }) c.parameter-6.ensures)))

@@ -8,7 +8,7 @@ use Rattle.checking.proofs.definition.defined_by.Statement.{statement}
 use Rattle.checking.proofs.definition.defined_by.Tie as tie
 
 -- what was read, up to the last parameter
-module _ (c : tie.After-part-behind6) where
+module _ (c : tie.After-part_behind-a3) where
   abbrev start : tie.Start
   start = c.before.before.before.before.before.before
 
@@ -28,8 +28,8 @@ module _ (c : tie.After-part-behind6) where
       let p2 = p3.before in
       six-parts _ _ _ p2.before.part-behind.ensures p2.part-behind2.ensures p3.part-behind3.ensures p4.part-behind4.ensures p5.part-behind5.ensures c.part-behind6.ensures
 
-pub defined-by-spec : {M : Type 1} → statement M
-defined-by-spec =
+pub defined_by_spec : {M : Type 1} → statement M
+defined_by_spec =
     tie.close
     (tie.spec
     (λ c κs. search rules)
@@ -39,17 +39,17 @@ defined-by-spec =
     (λ c κs. search rules)
     (λ c κs. search rules)
     (λ c κs. search rules)
-    (λ c. let d = c.before.before in c.faulty.ensures ∙ ended-none _ _ (curve d) _ c.before.if1.true ∙ read d)
+    (λ c. let d = c.before.before in c.faulty.ensures ∙ ended-none _ _ (curve d) _ c.if-end-eq0.true ∙ read d)
     (λ c κs. search rules)
     (λ c κs. search rules)
     (λ c.
     let t = c.before.before in
     let o = t.before.before in
-    c.faulty2.ensures ∙ ended-not _ _ (curve o.before) _ o.if1.false t.token-at.ensures c.before.if2.true ∙ read o.before)
+    c.faulty-then-token_at-ne-END.ensures ∙ ended-not _ _ (curve o.before) _ o.if-end-eq0.false t.token_at.ensures c.if-token_at-ne-END.true ∙ read o.before)
     (λ c κs. search rules)
     (λ c κs. search rules)
     (λ c.
     let e = c.before.before in
     let o = e.before.before.before in
     let d = o.before in
-    c.judged-curve.ensures ∙ ap (λ (k : Curve). judged_curve (start d).args.n d.part-behind6.result.fault k d.part-behind6.result.next) c.before.curve-from.ensures ∙ ended_so _ _ (curve d) _ o.if1.false e.before.token-at.ensures e.if2.false ∙ read d))
+    c.judged_curve.ensures ∙ ap (λ (k : Curve). judged_curve (start d).args.n d.part_behind-a3.result.fault k d.part_behind-a3.result.next) c.curve_from.ensures ∙ ended_so _ _ (curve d) _ o.if-end-eq0.false e.token_at.ensures e.if-token_at-ne-END.false ∙ read d))

@@ -15,41 +15,41 @@ use Rattle.checking.proofs.definition.definition_at.Statement.{statement}
 use Rattle.checking.proofs.definition.definition_at.Tie as tie
 
 -- behind the first test: no definition begins there
-none : (c : tie.Else1) → let a = c.before.before.before.args in is_defining a.set.now a.at ≡ false → faulty_definition not_in_grammar ≡ definition_at a.set.now a.at
-none c = defined-not _ _ c.before.opens-too-many.ensures c.if1.false
+none : (c : tie.Else-opens_too_many) → let a = c.args in is_defining a.set.now a.at ≡ false → faulty_definition not_in_grammar ≡ definition_at a.set.now a.at
+none c = defined-not _ _ c.opens_too_many.ensures c.if-opens_too_many.false
 
 -- what the others told: FCTDEF, which stands inside, (, a whole number
-named : (c : tie.Else2) → eqb c.before.token-at.result FCTDEF ≡ true
-named c = eq-eqb _ _ c.if2.false
+named : (c : tie.Else-token_at-ne-FCTDEF) → eqb c.token_at.result FCTDEF ≡ true
+named c = eq-eqb _ _ c.if-token_at-ne-FCTDEF.false
 
-inside : (c : tie.Else2) → c.before.before.before.before.before.before.args.at < set_size
-inside c = let a = c.before.before.before.before.before.before.args in omega (arith, lies-inside a.set.now a.at c.before.token-at.ensures (λ z. omega (arith, c.if2.false)))
+inside : (c : tie.Else-token_at-ne-FCTDEF) → c.args.at < set_size
+inside c = let a = c.args in omega (arith, lies-inside a.set.now a.at c.token_at.ensures (λ z. omega (arith, c.if-token_at-ne-FCTDEF.false)))
 
-opened : (c : tie.Else3) → eqb c.before.token-at2.result OPEN ≡ true
-opened c = eq-eqb _ _ c.if3.false
+opened : (c : tie.Else-token_at-ne-OPEN) → eqb c.token_at-2.result OPEN ≡ true
+opened c = eq-eqb _ _ c.if-token_at-ne-OPEN.false
 
-numbered : (c : tie.Else4) → is_whole c.before.before.token-at3.result ≡ true
-numbered c = sym c.before.is-whole.ensures ∙ not-false _ c.if4.false
+numbered : (c : tie.Else-not-is_whole) → is_whole c.token_at-n.result ≡ true
+numbered c = sym c.is_whole.ensures ∙ not-false _ c.if-not-is_whole.false-raw
 
-pub definition-at-spec : {M : Type 1} → statement M
-definition-at-spec =
+pub definition_at_spec : {M : Type 1} → statement M
+definition_at_spec =
     tie.close
     (tie.spec
     (λ c κs. search rules)
     (λ c κs. search rules)
-    (λ c. c.faulty.ensures ∙ defined-deep _ _ c.before.before.opens-too-many.ensures c.before.if1.true)
+    (λ c. c.faulty.ensures ∙ defined-deep _ _ c.opens_too_many.ensures c.if-opens_too_many.true)
     (λ c κs. search rules)
     (λ c κs. search rules)
     (λ c.
     let t = c.before.before in
-    c.faulty2.ensures ∙ none t.before.before (rw (← defining _ _ _ _ _ _ t.token-at.ensures refl refl refl) (simp (ne_eqb _ _ c.before.if2.true))))
+    c.faulty-then-token_at-ne-FCTDEF.ensures ∙ none t.before.before (rw (← defining _ _ _ _ _ _ t.token_at.ensures refl refl refl) (simp (ne_eqb _ _ c.if-token_at-ne-FCTDEF.true))))
     (λ c. omega (arith, inside c.before))
     (λ c κs. search rules)
     (λ c κs. search rules)
     (λ c.
     let u = c.before.before in
     let e = u.before.before in
-    c.faulty3.ensures ∙ none e.before.before.before (rw (← defining _ _ _ _ _ _ e.before.token-at.ensures u.token-at2.ensures refl refl) (simp (named e, ne_eqb _ _ c.before.if3.true))))
+    c.faulty-then-token_at-ne-OPEN.ensures ∙ none e.before.before.before (rw (← defining _ _ _ _ _ _ e.token_at.ensures u.token_at-2.ensures refl refl) (simp (named e, ne_eqb _ _ c.if-token_at-ne-OPEN.true))))
     (λ c. omega (arith, inside c.before.before.before.before))
     (λ c κs. search rules)
     (λ c κs. search rules)
@@ -59,7 +59,7 @@ definition-at-spec =
     let v = w.before in
     let f = v.before.before in
     let e = f.before.before.before in
-    c.faulty4.ensures ∙ none e.before.before.before (rw (← defining _ _ _ _ _ _ e.before.token-at.ensures f.before.token-at2.ensures v.token-at3.ensures refl) (simp (named e, opened f, sym w.is-whole.ensures ∙ not-true _ c.before.if4.true))))
+    c.faulty-then-not-is_whole.ensures ∙ none e.before.before.before (rw (← defining _ _ _ _ _ _ e.token_at.ensures f.token_at-2.ensures v.token_at-n.ensures refl) (simp (named e, opened f, sym w.is_whole.ensures ∙ not-true _ c.if-not-is_whole.true-raw))))
     (λ c. omega (arith, inside c.before.before.before.before.before.before.before.before))
     (λ c κs. search rules)
     (λ c κs. search rules)
@@ -69,7 +69,7 @@ definition-at-spec =
     let v = g.before.before in
     let f = v.before.before in
     let e = f.before.before.before in
-    c.faulty5.ensures ∙ none e.before.before.before (rw (← defining _ _ _ _ _ _ e.before.token-at.ensures f.before.token-at2.ensures v.token-at3.ensures x.token-at4.ensures) (simp (named e, opened f, numbered g, ne_eqb _ _ c.before.if5.true))))
+    c.faulty-then-token_at-ne-COMMA.ensures ∙ none e.before.before.before (rw (← defining _ _ _ _ _ _ e.token_at.ensures f.token_at-2.ensures v.token_at-n.ensures x.token_at-3.ensures) (simp (named e, opened f, numbered g, ne_eqb _ _ c.if-token_at-ne-COMMA.true))))
     (λ c κs. search rules)
     (λ c κs. search rules)
     (λ c. omega (arith, inside c.before.before.before.before.before.before.before.before.before.before.before.before))
@@ -83,6 +83,6 @@ definition-at-spec =
     let f = v.before.before in
     let e = f.before.before.before in
     let o = e.before.before.before in
-    let a = o.before.before.before.args in
-    let all : is_defining a.set.now a.at ≡ true = rw (← defining _ _ _ _ _ _ e.before.token-at.ensures f.before.token-at2.ensures v.token-at3.ensures x.token-at4.ensures) (simp (named e, opened f, numbered g, eq-eqb _ _ h.if5.false)) in
-    c.defined-by.ensures ∙ defined-so _ _ o.before.opens-too-many.ensures o.if1.false all v.token-at3.ensures k.before.whole_of.ensures k.curve-fault.ensures))
+    let a = o.args in
+    let all : is_defining a.set.now a.at ≡ true = rw (← defining _ _ _ _ _ _ e.token_at.ensures f.token_at-2.ensures v.token_at-n.ensures x.token_at-3.ensures) (simp (named e, opened f, numbered g, eq-eqb _ _ h.if-token_at-ne-COMMA.false)) in
+    c.defined_by.ensures ∙ defined-so _ _ o.opens_too_many.ensures o.if-opens_too_many.false all v.token_at-n.ensures k.whole_of-number.ensures k.curve_fault.ensures))

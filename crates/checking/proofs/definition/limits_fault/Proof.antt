@@ -7,17 +7,17 @@ use Rattle.checking.specs.CurveDefinition.{limits_fault}
 use Rattle.checking.proofs.definition.limits_fault.Statement.{statement}
 use Rattle.checking.proofs.definition.limits_fault.Tie as tie
 
-told : (c : tie.After-is-less) → let k = c.before.before.before.args.curve in c.is-less.result ≡ less_than k.upper k.lower
+told : (c : tie.After-is_less) → let k = c.args.curve in c.is_less.result ≡ less_than k.upper k.lower
 told c =
-    let k = c.before.before.before.args.curve in
-    let g = c.before.struct-told2.given in
-    c.is-less.ensures ∙ both less_than {a = k.upper} {b = k.lower} (record { sfits = g.1.0.1 }) (record { sfits = g.0.1 })
+    let k = c.args.curve in
+    let g = c.struct_told-2-1.given in
+    c.is_less.ensures ∙ both less_than {a = k.upper} {b = k.lower} (record { sfits = g.1.0.1 }) (record { sfits = g.0.1 })
 
-pub limits-fault-spec : {M : Type 1} → statement M
+pub limits_fault_spec : {M : Type 1} → statement M
 unfolding limits_fault
-limits-fault-spec =
+limits_fault_spec =
     tie.close
     (tie.spec
     (λ c κs. search rules)
-    (λ c. rw (sym (told c.before) ∙ c.if1.true))
-    (λ c. rw (sym (told c.before) ∙ c.if1.false)))
+    (λ c. rw (sym (told c.before) ∙ c.if-is_less.true))
+    (λ c. rw (sym (told c.before) ∙ c.if-is_less.false)))

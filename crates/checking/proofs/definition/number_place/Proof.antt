@@ -6,11 +6,11 @@ use Rattle.checking.proofs.DefinitionLaws.{place-behind, place_here}
 use Rattle.checking.proofs.definition.number_place.Statement.{statement}
 use Rattle.checking.proofs.definition.number_place.Tie as tie
 
-pub number-place-spec : {M : Type 1} → statement M
-number-place-spec =
+pub number_place_spec : {M : Type 1} → statement M
+number_place_spec =
     tie.close
     (tie.spec
     (λ c κs. search rules)
-    (λ c. let a = c.before.before.before.args in omega (arith, lies-inside a.set.now a.at c.before.token-at.ensures (λ z. omega (arith, c.if1.true))))
-    (λ c. place-behind _ _ c.before.token-at.ensures c.if1.true)
-    (λ c. place_here _ _ c.before.token-at.ensures c.if1.false))
+    (λ c. let a = c.args in omega (arith, lies-inside a.set.now a.at c.token_at.ensures (λ z. omega (arith, c.if-token_at-eq-MINUS.true))))
+    (λ c. place-behind _ _ c.token_at.ensures c.if-token_at-eq-MINUS.true)
+    (λ c. place_here _ _ c.token_at.ensures c.if-token_at-eq-MINUS.false))

@@ -6,18 +6,18 @@ use Rattle.checking.proofs.DefinitionLaws.{value-minus, value-plain}
 use Rattle.checking.proofs.definition.parameter.Statement.{statement}
 use Rattle.checking.proofs.definition.parameter.Tie as tie
 
-pub parameter-spec : {M : Type 1} → statement M
-parameter-spec =
+pub parameter_spec : {M : Type 1} → statement M
+parameter_spec =
     tie.close
     (tie.spec
     (λ c κs. search rules)
     (λ c κs. search rules)
     (λ c. search rules)
     (λ c κs. search rules)
-    (λ c. negative_fits _ c.before.before.before.size-at.ensures.1)
+    (λ c. negative_fits _ c.size_at-size.ensures.1)
     (λ c.
     let n = c.before.before.before in
-    negative_back _ n.size-at.ensures.1 ∙ value-minus _ _ c.before.token-at.ensures n.before.number-place.ensures n.size-at.ensures.0 c.if1.true)
+    negative_back _ n.size_at-size.ensures.1 ∙ value-minus _ _ c.token_at.ensures n.number_place.ensures n.size_at-size.ensures.0 c.if-token_at-eq-MINUS.true)
     (λ c.
     let n = c.before.before.before in
-    size_back _ n.size-at.ensures.1 ∙ value-plain _ _ c.before.token-at.ensures n.before.number-place.ensures n.size-at.ensures.0 c.if1.false))
+    size_back _ n.size_at-size.ensures.1 ∙ value-plain _ _ c.token_at.ensures n.number_place.ensures n.size_at-size.ensures.0 c.if-token_at-eq-MINUS.false))

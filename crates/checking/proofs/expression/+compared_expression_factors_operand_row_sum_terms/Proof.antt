@@ -53,18 +53,18 @@ use Rattle.checking.proofs.expression.+compared_expression_factors_operand_row_s
 use Rattle.checking.proofs.expression.+compared_expression_factors_operand_row_sum_terms.{statement}
 use Rattle.checking.proofs.expression.+compared_expression_factors_operand_row_sum_terms.Tie.{close}
 
-abbrev factors-Inv : factors-lts.invariant-loop
+abbrev factors-Inv : factors-lts.invariant-loop-rounds
 factors-Inv tokens w left a₀ rounds₀ a rounds = Loop tokens sight is_factor (read_operand tokens sight left) seen left w rounds a × Onward tokens w a
 
-abbrev terms-Inv : terms-lts.invariant-loop
+abbrev terms-Inv : terms-lts.invariant-loop-rounds
 terms-Inv tokens w left a₀ rounds₀ a rounds = Loop tokens sight is_term (product_at tokens sight left) seen left w rounds a × Onward tokens w a
 
-abbrev row-Inv : row-lts.invariant-loop
+abbrev row-Inv : row-lts.invariant-loop-rounds
 row-Inv tokens first w left a₀ rounds₀ a rounds = Loop tokens sight (is_row first) (read_sum tokens sight (read_operand tokens sight left) left) seen left w rounds a × Onward tokens w a
 
-pub +compared-expression-factors-operand-row-sum-terms-spec : {M : Type 1} → statement M
+pub +compared_expression_factors_operand_row_sum_terms_spec : {M : Type 1} → statement M
 unfolding sight sum_at expression_at
-+compared-expression-factors-operand-row-sum-terms-spec =
++compared_expression_factors_operand_row_sum_terms_spec =
     close
     (λ κs a. 8 * a.1.1.0 + 5)
     (λ κs a. 8 * a.1.1.0 + 6)
@@ -76,55 +76,55 @@ unfolding sight sum_at expression_at
     -- compared
     (λ t. compared-lts.spec (_, next-of.Learnt, _, token-at.Learnt, _, is-compare.Learnt, _, sum.Post, _, join.Learnt, _, is-logic.Learnt, _, row.Post) _ compared.Post
     (λ c κs. search rules)
-    (λ c. (passes _ c.before.next-of.ensures _ c.if1.true, onward-same _ _))
+    (λ c. (passes _ c.next_of-i.ensures _ c.if-i-eq0.true, onward-same _ _))
     (λ c κs. search rules)
     (λ c κs. search rules)
-    (λ c. let d = c.before.before in omega (arith, lies-inside d.before.before.before.before.args.set.now d.before.before.before.next-of.result d.token-at.ensures (no_end SAME ATLEAST d.token-at.result (omega arith) c.before.is-compare.ensures c.if2.true)))
+    (λ c. let d = c.before.before in omega (arith, lies-inside d.args.set.now d.next_of-i.result d.token_at-t.ensures (no_end SAME ATLEAST d.token_at-t.result (omega arith) c.is_compare.ensures c.if-is_compare.true)))
     (λ c κs. omega arith)
     (λ c κs. search rules)
     (λ c.
     let e = c.before.before in
     let d = e.before.before in
     let n = d.before.before.before in
-    let a = n.before.args in
-    let k = sym e.before.is-compare.ensures ∙ e.if2.true in (
-      rest-compares _ _ _ _ (seen_read a.a n.next-of.ensures d.before.before.if1.false) d.token-at.ensures e.before.is-compare.ensures e.if2.true c.before.sum.ensures.0 (level-joins compare-level _ (sight_of a.a) (seen c.before.sum.result) k c.join.ensures.0),
-      joined-on _ n.next-of.ensures d.before.before.if1.false d.token-at.ensures (compare-level.no-bracket _ k) c.before.sum.ensures.1 c.join.ensures.1,
+    let a = n.args in
+    let k = sym e.is_compare.ensures ∙ e.if-is_compare.true in (
+      rest-compares _ _ _ _ (seen_read a.a n.next_of-i.ensures d.if-i-eq0.false) d.token_at-t.ensures e.is_compare.ensures e.if-is_compare.true c.sum.ensures.0 (level-joins compare-level _ (sight_of a.a) (seen c.sum.result) k c.join.ensures.0),
+      joined-on _ n.next_of-i.ensures d.if-i-eq0.false d.token_at-t.ensures (compare-level.no-bracket _ k) c.sum.ensures.1 c.join.ensures.1,
     ))
     (λ c κs. search rules)
     (λ c.
     let e = c.before.before in
     let d = e.before.before in
     let n = d.before.before.before in
-    (rest-none _ _ _ _ (seen_read _ n.next-of.ensures d.before.before.if1.false) d.token-at.ensures e.before.is-compare.ensures e.if2.false c.before.is-logic.ensures c.if3.true, onward-same _ _))
+    (rest-none _ _ _ _ (seen_read _ n.next_of-i.ensures d.if-i-eq0.false) d.token_at-t.ensures e.is_compare.ensures e.if-is_compare.false c.is_logic.ensures c.if-not-is_logic.true-raw, onward-same _ _))
     (λ c κs. omega arith)
     (λ c.
     let e = c.before.before.before in
     let d = e.before.before in
     let n = d.before.before.before in
-    (rest-rows _ _ _ _ (seen_read _ n.next-of.ensures d.before.before.if1.false) d.token-at.ensures e.before.is-compare.ensures e.if2.false c.row.ensures.0, c.row.ensures.1)))
+    (rest-rows _ _ _ _ (seen_read _ n.next_of-i.ensures d.if-i-eq0.false) d.token_at-t.ensures e.is_compare.ensures e.if-is_compare.false c.row.ensures.0, c.row.ensures.1)))
     -- expression
     (λ t. expression-lts.spec (_, operand.Post, _, next-of.Learnt, _, token-at.Learnt, _, is-arithmetic.Learnt, _, compared.Post, _, factors.Post, _, terms.Post) _ expression.Post
     (λ c κs. omega arith)
     (λ c κs. search rules)
     (λ c.
-    let h = seen-stop _ c.before.next-of.ensures c.if1.true in
-    let o = c.before.before.operand.ensures in
+    let h = seen-stop _ c.next_of-i.ensures c.if-i-eq0.true in
+    let o = c.operand-a.ensures in
     (expression-stops _ _ _ _ _ (sum-stops _ _ _ _ o.0 h) h, o.1))
     (λ c κs. search rules)
     (λ c.
     let d = c.before in
     let n = d.before.before.before in
-    let o = n.before.operand.ensures in
-    (expression-closes _ _ _ _ o.0 (seen_read _ n.next-of.ensures d.before.before.if1.false) d.token-at.ensures c.if2.true, o.1))
+    let o = n.operand-a.ensures in
+    (expression-closes _ _ _ _ o.0 (seen_read _ n.next_of-i.ensures d.if-i-eq0.false) d.token_at-t.ensures c.if-t-eq-CLOSE.true, o.1))
     (λ c κs. search rules)
     (λ c κs. omega arith)
     (λ c.
     let e = c.before in
     let d = e.before.before.before in
     let n = d.before.before.before in
-    let o = n.before.operand.ensures in (
-      expression-is _ _ _ _ _ (sum-single _ _ _ _ o.0 (seen_read _ n.next-of.ensures d.before.before.if1.false) d.token-at.ensures e.before.is-arithmetic.ensures e.if3.true) c.compared.ensures.0,
+    let o = n.operand-a.ensures in (
+      expression-is _ _ _ _ _ (sum-single _ _ _ _ o.0 (seen_read _ n.next_of-i.ensures d.if-i-eq0.false) d.token_at-t.ensures e.is_arithmetic.ensures e.if-not-is_arithmetic.true-raw) c.compared.ensures.0,
       c.compared.ensures.1.goes _ o.1,
     ))
     (λ c κs. omega arith)
@@ -132,23 +132,23 @@ unfolding sight sum_at expression_at
     (λ c κs. omega arith)
     (λ c.
     let f = c.before.before in
-    let o = f.before.before.before.before.before.before.before.before.operand.ensures in (
-      expression-is _ _ _ _ _ (sum_is _ _ _ _ _ (product_is _ _ _ _ _ o.0 f.factors.ensures.0) c.before.terms.ensures.0) c.compared2.ensures.0,
-      c.compared2.ensures.1.goes _ (c.before.terms.ensures.1.goes _ (f.factors.ensures.1.goes _ o.1)),
+    let o = f.operand-a.ensures in (
+      expression-is _ _ _ _ _ (sum_is _ _ _ _ _ (product_is _ _ _ _ _ o.0 f.factors.ensures.0) c.terms.ensures.0) c.compared-2.ensures.0,
+      c.compared-2.ensures.1.goes _ (c.terms.ensures.1.goes _ (f.factors.ensures.1.goes _ o.1)),
     )))
     -- factors
     (λ t. factors-lts.spec (_, next-of.Learnt, _, token-at.Learnt, _, is-factor.Learnt, _, operand.Post, _, join.Learnt) _ factors.Post factors-Inv (λ tokens w left a₀ rounds₀ a rounds. rounds)
     (λ c. (loop-begins, onward-same _ _))
     (λ c κs. search rules)
-    (λ c. let i = c.before.before.before.loop.invariant in (loop-stops i.0 sights-say c.before.next-of.ensures c.if1.true, i.1))
+    (λ c. let i = c.loop-rounds.invariant in (loop-stops i.0 sights-say c.next_of-i.ensures c.if-i-eq0.true, i.1))
     (λ c κs. search rules)
     (λ c κs. search rules)
     (λ c.
     let d = c.before.before in
     let n = d.before.before.before in
-    let i = n.before.before.loop.invariant in
-    (loop-ends i.0 sights-say n.next-of.ensures d.before.before.if1.false d.token-at.ensures c.before.is-factor.ensures c.if2.true, i.1))
-    (λ c. let d = c.before.before in omega (arith, loop-inside d.before.before.before.before.before.loop.invariant.0 refl d.token-at.ensures c.before.is-factor.ensures c.if2.false))
+    let i = n.loop-rounds.invariant in
+    (loop-ends i.0 sights-say n.next_of-i.ensures d.if-i-eq0.false d.token_at-t.ensures c.is_factor.ensures c.if-not-is_factor.true-raw, i.1))
+    (λ c. let d = c.before.before in omega (arith, loop-inside d.loop-rounds.invariant.0 refl d.token_at-t.ensures c.is_factor.ensures c.if-not-is_factor.false-raw))
     (λ c κs. omega arith)
     (λ c κs. search rules)
     (λ c. omega arith)
@@ -157,86 +157,86 @@ unfolding sight sum_at expression_at
     let e = c.before.before in
     let d = e.before.before in
     let n = d.before.before.before in
-    round factor-level n.before.before.loop.invariant n.next-of.ensures d.before.before.if1.false d.token-at.ensures e.before.is-factor.ensures e.if2.false (omega arith) c.before.operand.ensures c.join.ensures)
-    (λ c. let i = c.before.loop.invariant in (loop-spent i.0 (omega arith), i.1)))
+    round factor-level n.loop-rounds.invariant n.next_of-i.ensures d.if-i-eq0.false d.token_at-t.ensures e.is_factor.ensures e.if-not-is_factor.false-raw (omega arith) c.operand.ensures c.join-a.ensures)
+    (λ c. let i = c.loop-rounds.invariant in (loop-spent i.0 (omega arith), i.1)))
     -- operand
     (λ t. operand-lts.spec (_, token-at.Learnt, _, number-fault.Learnt, _, number-seen.Learnt, _, is-variable.Learnt, _, variable.Learnt, _, expression.Post, _, closed.Learnt, _, signs-behind.Learnt, _, operand.Post, _, as_wanted.Learnt, _, truth.Learnt) _ operand.Post
-    (λ c. (seen_nothing ∙ sym (spent _ _ _ _ c.if1.true), counted-nothing _ _ refl))
+    (λ c. (seen_nothing ∙ sym (spent _ _ _ _ c.if-left-eq0.true), counted-nothing _ _ refl))
     (λ c κs. search rules)
     (λ c κs. omega arith)
-    (λ c. omega (arith, lies-inside c.before.before.before.before.before.args.set.now c.before.before.before.before.before.args.at c.before.before.token-at.ensures (λ z. omega arith)))
+    (λ c. omega (arith, lies-inside c.args.set.now c.args.at c.token_at-t.ensures (λ z. omega arith)))
     (λ c κs. search rules)
     (λ c.
     let d = c.before.before.before in
-    let m : d.before.before.before.args.at + 1 < room = omega (arith, lies-inside d.before.before.before.args.set.now d.before.before.before.args.at d.token-at.ensures (λ z. omega arith)) in (
-      seen-number {d = 0} _ (omega arith) (omega arith) m (omega arith) c.number-seen.ensures c.before.number-fault.ensures ∙
-          number-arm _ _ _ _ _ d.before.before.if1.false d.token-at.ensures c.before.before.if2.true,
-      counted-token _ _ d.token-at.ensures (λ g. other-above _ (omega (arith, c.before.before.if2.true))) (counted_none _ _ _ (number-made {d = 0} _ (omega arith) (omega arith) m c.number-seen.ensures).next),
+    let m : d.args.at + 1 < room = omega (arith, lies-inside d.args.set.now d.args.at d.token_at-t.ensures (λ z. omega arith)) in (
+      seen-number {d = 0} _ (omega arith) (omega arith) m (omega arith) c.number_seen.ensures c.number_fault.ensures ∙
+          number-arm _ _ _ _ _ d.if-left-eq0.false d.token_at-t.ensures c.if-t-ge-NUMBER.true,
+      counted-token _ _ d.token_at-t.ensures (λ g. other-above _ (omega (arith, c.if-t-ge-NUMBER.true))) (counted_none _ _ _ (number-made {d = 0} _ (omega arith) (omega arith) m c.number_seen.ensures).next),
     ))
     (λ c κs. search rules)
-    (λ c κs. let d = c.before.before.before in omega (arith, lies-inside d.before.before.before.args.set.now d.before.before.before.args.at d.token-at.ensures (no_end IN IM d.token-at.result (omega arith) c.before.is-variable.ensures c.if3.true)))
+    (λ c κs. let d = c.before.before.before in omega (arith, lies-inside d.args.set.now d.args.at d.token_at-t.ensures (no_end IN IM d.token_at-t.result (omega arith) c.is_variable.ensures c.if-is_variable.true)))
     (λ c.
     let s = c.before.before.before in
-    let v = c.before.before.is-variable.ensures in (
-      c.variable.ensures.0 ∙ variable-arm _ _ _ _ _ s.before.before.before.if1.false s.before.token-at.ensures s.if2.false (sym v ∙ c.before.if3.true),
-      counted-token _ _ s.before.token-at.ensures (λ g. other-high IN IM _ (omega arith) v c.before.if3.true) c.variable.ensures.1,
+    let v = c.is_variable.ensures in (
+      c.variable.ensures.0 ∙ variable-arm _ _ _ _ _ s.if-left-eq0.false s.token_at-t.ensures s.if-t-ge-NUMBER.false (sym v ∙ c.if-is_variable.true),
+      counted-token _ _ s.token_at-t.ensures (λ g. other-high IN IM _ (omega arith) v c.if-is_variable.true) c.variable.ensures.1,
     ))
-    (λ c. omega (arith, lies-inside c.before.before.before.before.before.before.before.args.set.now c.before.before.before.before.before.before.before.args.at c.before.before.before.before.token-at.ensures (λ z. omega arith)))
+    (λ c. omega (arith, lies-inside c.args.set.now c.args.at c.token_at-t.ensures (λ z. omega arith)))
     (λ c. omega arith)
     (λ c κs. omega arith)
     (λ c κs. search rules)
     (λ c.
     let s = c.before.before.before.before.before.before in
-    let o = c.before.before.if4.true in (
-      stepped (read_close s.before.before.before.args.set.now sight) (read_expression _ _ _ _ _) c.before.expression.ensures.0 c.closed.ensures.0 (open-arm _ _ _ _ _ s.before.before.if1.false s.token-at.ensures o),
-      c.closed.ensures.1.goes _ (sym s.token-at.ensures ∙ o) c.before.expression.ensures.1,
+    let o = c.if-t-eq-OPEN.true in (
+      stepped (read_close s.args.set.now sight) (read_expression _ _ _ _ _) c.expression.ensures.0 c.closed.ensures.0 (open-arm _ _ _ _ _ s.if-left-eq0.false s.token_at-t.ensures o),
+      c.closed.ensures.1.goes _ (sym s.token_at-t.ensures ∙ o) c.expression.ensures.1,
     ))
     (λ c. omega arith)
-    (λ c κs. omega (arith, lies-inside c.before.before.before.before.before.before.before.before.args.set.now c.before.before.before.before.before.before.before.before.args.at c.before.before.before.before.before.token-at.ensures (λ z. omega arith)))
-    (λ c. omega (arith, c.signs-behind.ensures.1.1))
-    (λ c. omega (arith, c.signs-behind.ensures.1.1))
+    (λ c κs. omega (arith, lies-inside c.args.set.now c.args.at c.token_at-t.ensures (λ z. omega arith)))
+    (λ c. omega (arith, c.signs_behind-n.ensures.1.1))
+    (λ c. omega (arith, c.signs_behind-n.ensures.1.1))
     (λ c. omega arith)
-    (λ c. omega (arith, c.signs-behind.ensures.1.0))
+    (λ c. omega (arith, c.signs_behind-n.ensures.1.0))
     (λ c κs. omega arith)
     (λ c κs. search rules)
     (λ c.
     let b = c.before.before in
     let s = b.before.before.before.before.before.before in
-    let at = s.before.before.before.args.at in
-    let n = b.signs-behind in (
-      stepped (signed_sight false) (read_operand _ _ _ _) c.before.operand.ensures.0 c.as_wanted.ensures.0 (signs-arm _ _ _ _ _ _ _ s.before.before.if1.false s.token-at.ensures b.before.if5.true n.ensures.0 refl refl),
-      (same-end-on _ c.as_wanted.ensures.1).goes _ (counted-token _ _ s.token-at.ensures (λ g. other-below _ (omega (arith, b.before.if5.true)) (omega (arith, b.before.if5.true))) (counted-behind _ (at + 1) (at + n.result + 1) (counts-signs _ _ _ _ n.ensures.0) c.before.operand.ensures.1)),
+    let at = s.args.at in
+    let n = b.signs_behind-n in (
+      stepped (signed_sight false) (read_operand _ _ _ _) c.operand.ensures.0 c.as_wanted.ensures.0 (signs-arm _ _ _ _ _ _ _ s.if-left-eq0.false s.token_at-t.ensures b.if-t-eq-MINUS.true n.ensures.0 refl refl),
+      (same-end-on _ c.as_wanted.ensures.1).goes _ (counted-token _ _ s.token_at-t.ensures (λ g. other-below _ (omega (arith, b.if-t-eq-MINUS.true)) (omega (arith, b.if-t-eq-MINUS.true))) (counted-behind _ (at + 1) (at + n.result + 1) (counts-signs _ _ _ _ n.ensures.0) c.operand.ensures.1)),
     ))
-    (λ c. omega (arith, lies-inside c.before.before.before.before.before.before.before.before.before.args.set.now c.before.before.before.before.before.before.before.before.before.args.at c.before.before.before.before.before.before.token-at.ensures (λ z. omega arith)))
+    (λ c. omega (arith, lies-inside c.args.set.now c.args.at c.token_at-t.ensures (λ z. omega arith)))
     (λ c. omega arith)
     (λ c κs. omega arith)
     (λ c κs. search rules)
     (λ c.
     let s = c.before.before.before.before.before.before.before.before in (
-      stepped (signed_sight true) (read_operand _ _ _ _) c.before.operand2.ensures.0 c.as-wanted2.ensures.0 (not-arm _ _ _ _ _ s.before.before.if1.false s.token-at.ensures c.before.before.if6.true),
-      (same-end-on _ c.as-wanted2.ensures.1).goes _ (counted-token _ _ s.token-at.ensures (λ g. other-above _ (omega (arith, c.before.before.if6.true))) c.before.operand2.ensures.1),
+      stepped (signed_sight true) (read_operand _ _ _ _) c.operand-then-t-eq-NOT.ensures.0 c.as_wanted-then-t-eq-NOT.ensures.0 (not-arm _ _ _ _ _ s.if-left-eq0.false s.token_at-t.ensures c.if-t-eq-NOT.true),
+      (same-end-on _ c.as_wanted-then-t-eq-NOT.ensures.1).goes _ (counted-token _ _ s.token_at-t.ensures (λ g. other-above _ (omega (arith, c.if-t-eq-NOT.true))) c.operand-then-t-eq-NOT.ensures.1),
     ))
-    (λ c κs. λ ne. omega (arith, lies-inside c.before.before.before.before.before.before.before.before.before.args.set.now c.before.before.before.before.before.before.before.before.before.args.at c.before.before.before.before.before.before.token-at.ensures ne))
+    (λ c κs. λ ne. omega (arith, lies-inside c.args.set.now c.args.at c.token_at-t.ensures ne))
     (λ c.
     let s = c.before.before.before in
     let r = s.before.before.before in
-    let t = r.before.token-at.ensures in (
-      c.truth.ensures.0 ∙ truth-arm _ _ _ _ _ r.before.before.before.if1.false t r.if2.false (sym s.before.before.is-variable.ensures ∙ s.before.if3.false) s.if4.false c.before.before.if5.false c.before.if6.false,
+    let t = r.token_at-t.ensures in (
+      c.truth.ensures.0 ∙ truth-arm _ _ _ _ _ r.if-left-eq0.false t r.if-t-ge-NUMBER.false (sym s.is_variable.ensures ∙ s.if-is_variable.false) s.if-t-eq-OPEN.false c.if-t-eq-MINUS.false c.if-t-eq-NOT.false,
       counted-token _ _ t c.truth.ensures.1.0 c.truth.ensures.1.1,
     )))
     -- row
     (λ t. row-lts.spec (_, next-of.Learnt, _, token-at.Learnt, _, is_row.Learnt, _, sum.Post, _, join.Learnt) _ row.Post row-Inv (λ tokens first w left a₀ rounds₀ a rounds. rounds)
     (λ c. (loop-begins, onward-same _ _))
     (λ c κs. search rules)
-    (λ c. let i = c.before.before.before.loop.invariant in (loop-stops i.0 sights-say c.before.next-of.ensures c.if1.true, i.1))
+    (λ c. let i = c.loop-rounds.invariant in (loop-stops i.0 sights-say c.next_of-i.ensures c.if-i-eq0.true, i.1))
     (λ c κs. search rules)
     (λ c κs. search rules)
     (λ c.
     let d = c.before.before in
     let n = d.before.before.before in
-    let i = n.before.before.loop.invariant in
-    (loop-ends i.0 sights-say n.next-of.ensures d.before.before.if1.false d.token-at.ensures c.before.is_row.ensures c.if2.true, i.1))
-    (λ c. let d = c.before.before in omega (arith, loop-inside d.before.before.before.before.before.loop.invariant.0 refl d.token-at.ensures c.before.is_row.ensures c.if2.false))
+    let i = n.loop-rounds.invariant in
+    (loop-ends i.0 sights-say n.next_of-i.ensures d.if-i-eq0.false d.token_at-t.ensures c.is_row.ensures c.if-not-is_row.true-raw, i.1))
+    (λ c. let d = c.before.before in omega (arith, loop-inside d.loop-rounds.invariant.0 refl d.token_at-t.ensures c.is_row.ensures c.if-not-is_row.false-raw))
     (λ c κs. omega arith)
     (λ c κs. search rules)
     (λ c. omega arith)
@@ -245,25 +245,25 @@ unfolding sight sum_at expression_at
     let e = c.before.before in
     let d = e.before.before in
     let n = d.before.before.before in
-    round (row-level _) n.before.before.loop.invariant n.next-of.ensures d.before.before.if1.false d.token-at.ensures e.before.is_row.ensures e.if2.false (omega arith) c.before.sum.ensures c.join.ensures)
-    (λ c. let i = c.before.loop.invariant in (loop-spent i.0 (omega arith), i.1)))
+    round (row-level _) n.loop-rounds.invariant n.next_of-i.ensures d.if-i-eq0.false d.token_at-t.ensures e.is_row.ensures e.if-not-is_row.false-raw (omega arith) c.sum.ensures c.join-a.ensures)
+    (λ c. let i = c.loop-rounds.invariant in (loop-spent i.0 (omega arith), i.1)))
     -- sum
     (λ t. sum-lts.spec (_, operand.Post, _, next-of.Learnt, _, token-at.Learnt, _, is-arithmetic.Learnt, _, factors.Post, _, terms.Post) _ sum.Post
     (λ c κs. omega arith)
     (λ c κs. search rules)
-    (λ c. let o = c.before.before.operand.ensures in (sum-stops _ _ _ _ o.0 (seen-stop _ c.before.next-of.ensures c.if1.true), o.1))
+    (λ c. let o = c.operand-a.ensures in (sum-stops _ _ _ _ o.0 (seen-stop _ c.next_of-i.ensures c.if-i-eq0.true), o.1))
     (λ c κs. search rules)
     (λ c κs. search rules)
     (λ c.
     let d = c.before.before in
     let n = d.before.before.before in
-    let o = n.before.operand.ensures in
-    (sum-single _ _ _ _ o.0 (seen_read _ n.next-of.ensures d.before.before.if1.false) d.token-at.ensures c.before.is-arithmetic.ensures c.if2.true, o.1))
+    let o = n.operand-a.ensures in
+    (sum-single _ _ _ _ o.0 (seen_read _ n.next_of-i.ensures d.if-i-eq0.false) d.token_at.ensures c.is_arithmetic.ensures c.if-not-is_arithmetic.true-raw, o.1))
     (λ c κs. omega arith)
     (λ c κs. omega arith)
     (λ c.
-    let o = c.before.before.before.before.before.before.before.before.operand.ensures in
-    let f = c.before.factors.ensures in
+    let o = c.operand-a.ensures in
+    let f = c.factors.ensures in
     (sum_is _ _ _ _ _ (product_is _ _ _ _ _ o.0 f.0) c.terms.ensures.0, c.terms.ensures.1.goes _ (f.1.goes _ o.1))))
     -- terms
     λ t. terms-lts.spec (_, next-of.Learnt, _, token-at.Learnt, _, is-term.Learnt, _, operand.Post, _, factors.Post, _, join.Learnt) _ terms.Post terms-Inv (λ tokens w left a₀ rounds₀ a rounds. rounds)

@@ -11,23 +11,23 @@ use Rattle.checking.proofs.BracketCountLaws.{other-above, counted_none, counted-
 use Rattle.checking.proofs.expression.truth.Statement.{statement}
 use Rattle.checking.proofs.expression.truth.Tie as tie
 
-pub truth-spec : {M : Type 1} → statement M
+pub truth_spec : {M : Type 1} → statement M
 unfolding sight
-truth-spec =
+truth_spec =
     tie.close
     (tie.spec
-    (λ c. omega (arith, c.before.requires (λ e. omega arith)))
+    (λ c. omega (arith, c.requires (λ e. omega arith)))
     (λ c κs. search rules)
     (λ c.
-    let m : c.before.before.args.at + 1 < room = omega (arith, c.before.before.requires (λ e. omega arith)) in (
-      seen-truth {f = 0} {d = 0} _ (omega arith) (omega arith) m (omega arith) c.truth-seen.ensures refl ∙ sym (yes-truth _ _ _ _ c.before.if1.true),
-      (λ g. other-above _ (omega (arith, c.before.if1.true)), counted_none _ _ _ (truth-made {f = 0} {d = 0} _ (omega arith) (omega arith) m c.truth-seen.ensures).next),
+    let m : c.args.at + 1 < room = omega (arith, c.requires (λ e. omega arith)) in (
+      seen-truth {f = 0} {d = 0} _ (omega arith) (omega arith) m (omega arith) c.truth_seen.ensures refl ∙ sym (yes-truth _ _ _ _ c.if-t-eq-TRUE.true),
+      (λ g. other-above _ (omega (arith, c.if-t-eq-TRUE.true)), counted_none _ _ _ (truth-made {f = 0} {d = 0} _ (omega arith) (omega arith) m c.truth_seen.ensures).next),
     ))
-    (λ c. omega (arith, c.before.before.requires (λ e. omega arith)))
+    (λ c. omega (arith, c.requires (λ e. omega arith)))
     (λ c κs. search rules)
     (λ c.
-    let m : c.before.before.before.args.at + 1 < room = omega (arith, c.before.before.before.requires (λ e. omega arith)) in (
-      seen-truth {f = 0} {d = 0} _ (omega arith) (omega arith) m (omega arith) c.truth-seen2.ensures refl ∙ sym (no_truth _ _ _ _ c.before.if2.true),
-      (λ g. other-above _ (omega (arith, c.before.if2.true)), counted_none _ _ _ (truth-made {f = 0} {d = 0} _ (omega arith) (omega arith) m c.truth-seen2.ensures).next),
+    let m : c.args.at + 1 < room = omega (arith, c.requires (λ e. omega arith)) in (
+      seen-truth {f = 0} {d = 0} _ (omega arith) (omega arith) m (omega arith) c.truth_seen-then-t-eq-FALSE.ensures refl ∙ sym (no_truth _ _ _ _ c.if-t-eq-FALSE.true),
+      (λ g. other-above _ (omega (arith, c.if-t-eq-FALSE.true)), counted_none _ _ _ (truth-made {f = 0} {d = 0} _ (omega arith) (omega arith) m c.truth_seen-then-t-eq-FALSE.ensures).next),
     ))
-    (λ c. (seen_nothing ∙ sym (not-truth _ _ _ _ c.before.if1.false c.if2.false), (λ g. absurd (g refl), counted-nothing _ _ refl))))
+    (λ c. (seen_nothing ∙ sym (not-truth _ _ _ _ c.if-t-eq-TRUE.false c.if-t-eq-FALSE.false), (λ g. absurd (g refl), counted-nothing _ _ refl))))

@@ -13,22 +13,22 @@ use Rattle.checking.proofs.BracketCountLaws.{counts-index, counted_none, counted
 use Rattle.checking.proofs.expression.variable.Statement.{statement}
 use Rattle.checking.proofs.expression.variable.Tie as tie
 
-pub variable-spec : {M : Type 1} → statement M
+pub variable_spec : {M : Type 1} → statement M
 unfolding sight
-variable-spec =
+variable_spec =
     tie.close
     (tie.spec
     (λ c κs. search rules)
-    (λ c. (seen_nothing ∙ sym (indexed-not _ _ _ _ (sym c.before.is-indexed.ensures ∙ not-true _ c.if1.true)), counted-nothing _ _ refl))
+    (λ c. (seen_nothing ∙ sym (indexed-not _ _ _ _ (sym c.is_indexed.ensures ∙ not-true _ c.if-not-is_indexed.true-raw)), counted-nothing _ _ refl))
     (λ c κs. search rules)
     (λ c κs. search rules)
     (λ c. search rules)
     (λ c κs. search rules)
     (λ c.
     let d = c.before.before.before.before in
-    let a = d.before.before.before.args in
-    let m : a.at + 4 < room = omega (arith, d.before.before.before.requires) in
-    let h = sym d.before.is-indexed.ensures ∙ not-false _ d.if1.false in (
-      seen-number {d = 0} _ (omega arith) (omega arith) m (omega arith) c.number-seen.ensures (c.before.read-fault.ensures ∙ ap (λ (i : ℕ). read_fault a.w i) c.before.before.index_at.ensures) ∙ sym (indexed _ _ _ _ h),
-      counted-behind _ _ (a.at + 4) (counts-index _ _ _ h) (counted_none _ _ _ (number-made {d = 0} _ (omega arith) (omega arith) m c.number-seen.ensures).next),
+    let a = d.args in
+    let m : a.at + 4 < room = omega (arith, d.requires) in
+    let h = sym d.is_indexed.ensures ∙ not-false _ d.if-not-is_indexed.false-raw in (
+      seen-number {d = 0} _ (omega arith) (omega arith) m (omega arith) c.number_seen.ensures (c.read_fault.ensures ∙ ap (λ (i : ℕ). read_fault a.w i) c.index_at.ensures) ∙ sym (indexed _ _ _ _ h),
+      counted-behind _ _ (a.at + 4) (counts-index _ _ _ h) (counted_none _ _ _ (number-made {d = 0} _ (omega arith) (omega arith) m c.number_seen.ensures).next),
     )))

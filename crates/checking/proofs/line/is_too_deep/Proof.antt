@@ -6,8 +6,8 @@ use Rattle.checking.proofs.BracketCountLaws.{counted-whole}
 use Rattle.checking.proofs.line.is_too_deep.Statement.{statement}
 use Rattle.checking.proofs.line.is_too_deep.Tie as tie
 
-pub is-too-deep-spec : {M : Type 1} → statement M
-is-too-deep-spec =
+pub is_too_deep_spec : {M : Type 1} → statement M
+is_too_deep_spec =
     tie.close
     (tie.spec
     (λ c κs. search rules)
@@ -20,4 +20,4 @@ is-too-deep-spec =
     (λ c.
     let f = c.before.before in
     let n = f.before.before.before in
-    c.opens-too-many3.ensures ∙ counted-whole _ n.before.args.a _ n.next-of.ensures f.before.before.if1.false (omega (arith, f.before.depth-of.ensures, f.if2.false)) n.before.requires))
+    c.opens_too_many-2.ensures ∙ counted-whole _ n.args.a _ n.next_of-i.ensures f.if-i-eq0.false (omega (arith, f.depth_of.ensures, f.if-depth_of-gt-DEEPEST.false)) n.requires))

@@ -14,7 +14,7 @@ use Rattle.checking.proofs.line.line_at.Statement.{statement}
 use Rattle.checking.proofs.line.line_at.Tie as tie
 
 -- behind the first test an id stands at the line's start, which lies inside the code
-module _ (c : tie.Else1) where
+module _ (c : tie.Else-not-is_id) where
   named : let a = c.before.before.before.before.args in is_id (get_or a.set.now a.at 0) ≡ true
   named = tested is_id c.before.before.token-at.ensures c.before.is-id.ensures (not-false _ c.if1.false)
 
@@ -22,15 +22,15 @@ module _ (c : tie.Else1) where
   starts = let d = c.before.before in omega (arith, lies-inside d.before.before.args.set.now d.before.before.args.at d.token-at.ensures (no_end ID IDS d.token-at.result (omega arith) c.before.is-id.ensures (not-false _ c.if1.false)))
 
 -- behind the others = and a number
-equals : (c : tie.Else2) → let a = c.before.before.before.before.before.before.before.args in get_or a.set.now (a.at + 1) 0 ≡ EQUALS
-equals c = sym c.before.token-at2.ensures ∙ c.if2.false
+equals : (c : tie.Else-token_at-ne-EQUALS) → let a = c.args in get_or a.set.now (a.at + 1) 0 ≡ EQUALS
+equals c = sym c.token_at-2.ensures ∙ c.if-token_at-ne-EQUALS.false
 
-numbered : (c : tie.Else3) → let a = c.before.before.before.before.before.before.before.before.before.before.before.args in is_whole (get_or a.set.now (a.at + 2) 0) ≡ true
-numbered c = tested is_whole c.before.before.token-at3.ensures c.before.is-whole.ensures (not-false _ c.if3.false)
+numbered : (c : tie.Else-not-is_whole) → let a = c.args in is_whole (get_or a.set.now (a.at + 2) 0) ≡ true
+numbered c = tested is_whole c.token_at-n.ensures c.is_whole.ensures (not-false _ c.if-not-is_whole.false-raw)
 
-pub line-at-spec : {M : Type 1} → statement M
+pub line_at_spec : {M : Type 1} → statement M
 unfolding line_at
-line-at-spec =
+line_at_spec =
     tie.close
     (tie.spec
     (λ c κs. search rules)
@@ -38,13 +38,13 @@ line-at-spec =
     (λ c κs. search rules)
     (λ c.
     let i = c.before.before in
-    simp (line_at, tested is_id i.before.token-at.ensures i.is-id.ensures (not-true _ c.before.if1.true)) c.refused.ensures)
+    simp (line_at, tested is_id i.token_at.ensures i.is_id.ensures (not-true _ c.if-not-is_id.true-raw)) c.refused.ensures)
     (λ c. omega (arith, starts c.before))
     (λ c κs. search rules)
     (λ c κs. search rules)
     (λ c.
     let t = c.before.before in
-    simp (line_at, named t.before.before, ne_eqb _ _ (λ e. c.before.if2.true (t.token-at2.ensures ∙ e))) c.refused2.ensures)
+    simp (line_at, named t.before.before, ne_eqb _ _ (λ e. c.if-token_at-ne-EQUALS.true (t.token_at-2.ensures ∙ e))) c.refused-then-token_at-ne-EQUALS.ensures)
     (λ c. omega (arith, starts c.before.before.before.before))
     (λ c κs. search rules)
     (λ c κs. search rules)
@@ -52,14 +52,14 @@ line-at-spec =
     (λ c.
     let w = c.before.before in
     let f = w.before.before.before in
-    simp (line_at, named f.before.before.before, eq-eqb _ _ (equals f), tested is_whole w.before.token-at3.ensures w.is-whole.ensures (not-true _ c.before.if3.true)) c.refused3.ensures)
+    simp (line_at, named f.before.before.before, eq-eqb _ _ (equals f), tested is_whole w.token_at-n.ensures w.is_whole.ensures (not-true _ c.if-not-is_whole.true-raw)) c.refused-then-not-is_whole.ensures)
     (λ c κs. search rules)
     (λ c κs. search rules)
     (λ c κs.
     let w = c.before.before in
     let f = w.before.before.before.before in
     let i = f.before.before.before in
-    let a = i.before.before.before.before.args in
+    let a = i.args in
     (starts i, counts-head a.set.now a.at (named i) (equals f) (numbered w)))
     (λ c κs. search rules)
     (λ c.
@@ -69,4 +69,4 @@ line-at-spec =
     let f = t.before.before in
     let i = f.before.before.before in
     simp (line_at, named i, eq-eqb _ _ (equals f), numbered w)
-    (c.again.ensures ∙ g.rest.ensures ∙ simp (g.before.id-fault.ensures, g.before.before.whole_of.ensures, t.token-at3.ensures))))
+    (c.again.ensures ∙ g.rest.ensures ∙ simp (g.id_fault.ensures, g.whole_of.ensures, t.token_at-n.ensures))))

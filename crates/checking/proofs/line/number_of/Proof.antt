@@ -5,11 +5,11 @@ use Rattle.checking.specs.Fault.{number_of}
 use Rattle.checking.proofs.line.number_of.Statement.{statement}
 use Rattle.checking.proofs.line.number_of.Tie as tie
 
-pub number-of-spec : {M : Type 1} → statement M
+pub number_of_spec : {M : Type 1} → statement M
 unfolding number_of
-number-of-spec =
+number_of_spec =
     tie.close
     (tie.spec
     (λ c. search rules)
-    (λ c. simp (number_of, le-leb _ _ c.if1.true))
-    (λ c. simp (number_of, lt-leb _ _ c.if1.false)))
+    (λ c. simp (number_of, le-leb _ _ c.if-n-le255.true))
+    (λ c. simp (number_of, lt-leb _ _ c.if-n-le255.false)))

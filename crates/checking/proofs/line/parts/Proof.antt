@@ -15,7 +15,7 @@ use Rattle.checking.proofs.line.parts.Statement.{statement}
 use Rattle.checking.proofs.line.parts.Tie as tie
 
 -- what 5 to 10 and 14 tell of the line is told where its brackets are not too many
-module _ (c : tie.After-is-too-deep) where
+module _ (c : tie.After-is_too_deep) where
   told : Line
   told = let a = c.before.args in line_parts a.set.now a.at a.keyword a.condition a.actions (faulted a.a)
 
@@ -25,27 +25,27 @@ module _ (c : tie.After-is-too-deep) where
   not-deep : c.is-too-deep.result ≡ false → told ≡ judged c.before.args.set.now c.before.args.at told
   not-deep h = judged-not c.before.args.set.now c.before.args.at told c.is-too-deep.ensures h
 
-pub parts-spec : {M : Type 1} → statement M
+pub parts_spec : {M : Type 1} → statement M
 unfolding told
-parts-spec =
+parts_spec =
     tie.close
     (tie.spec
     (λ c κs. c.requires.1.0)
     (λ c κs. search rules)
-    (λ c. c.faulty.ensures ∙ deep c.before.before c.before.if1.true)
+    (λ c. c.faulty.ensures ∙ deep c.before.before c.if-is_too_deep.true)
     (λ c κs. search rules)
     (λ c κs. search rules)
     (λ c.
     let n = c.before.before in
     let d = n.before.before in
-    c.faulty2.ensures ∙ sym (parts-end _ _ _ _ _ d.before.args.a n.next-of.ensures c.before.if2.true) ∙ not-deep d n.before.if1.false)
+    c.faulty-then-end-eq0.ensures ∙ sym (parts-end _ _ _ _ _ d.args.a n.next_of-end.ensures c.if-end-eq0.true) ∙ not-deep d n.if-is_too_deep.false)
     (λ c κs. search rules)
     (λ c κs. search rules)
     (λ c.
     let f = c.before.before in
     let n = f.before.before in
     let d = n.before.before in
-    c.faulty3.ensures ∙ sym (parts-faulty _ _ _ _ _ d.before.args.a n.next-of.ensures f.before.if2.false f.fault-of.ensures c.before.if3.true) ∙ not-deep d n.before.if1.false)
+    c.faulty-then-fault-ne0.ensures ∙ sym (parts-faulty _ _ _ _ _ d.args.a n.next_of-end.ensures f.if-end-eq0.false f.fault_of-fault.ensures c.if-fault-ne0.true) ∙ not-deep d n.if-is_too_deep.false)
     (λ c. omega arith)
     (λ c κs. search rules)
     (λ c κs. search rules)
@@ -58,6 +58,6 @@ parts-spec =
     let f = w.before.before.before.before in
     let n = f.before.before in
     let d = n.before.before in
-    parts-good _ _ _ _ _ d.before.args.a n.next-of.ensures f.before.if2.false f.fault-of.ensures w.before.before.before.if3.false
-    (t.before.before.number_of_lem.ensures ∙ ap number_of (w.whole_of.ensures ∙ ap whole w.before.token-at.ensures)) (ap (λ (w : ℕ). eqb w IDS) t.token-at2.ensures) c.truth-of.ensures d.before.requires.1.1 ∙
-    not-deep d n.before.if1.false))
+    parts-good _ _ _ _ _ d.args.a n.next_of-end.ensures f.if-end-eq0.false f.fault_of-fault.ensures w.if-fault-ne0.false
+    (t.number_of.ensures ∙ ap number_of (w.whole_of.ensures ∙ ap whole w.token_at.ensures)) (ap (λ (w : ℕ). eqb w IDS) t.token_at-2.ensures) c.truth_of.ensures d.requires.1.1 ∙
+    not-deep d n.if-is_too_deep.false))

@@ -15,13 +15,13 @@ use Rattle.checking.proofs.sight.join.Tie as tie
 after : tie.Start → Sight → ℕ → Read Sight
 after c y q = read (record { truth = c.args.gives; fault = lowest c.args.wanted (sight_of c.args.a) y }) q
 
-pub join-spec : {M : Type 1} → statement M
+pub join_spec : {M : Type 1} → statement M
 unfolding after
-join-spec =
+join_spec =
     tie.close
     (tie.spec
     (λ c κs. search rules)
-    (λ c. let n = c.before in (passes _ n.next-of.ensures _ c.if1.true, joined-nothing _ _ (sym n.next-of.ensures ∙ c.if1.true)))
+    (λ c. let n = c.before in (passes _ n.next_of-i.ensures _ c.if-i-eq0.true, joined-nothing _ _ (sym n.next_of-i.ensures ∙ c.if-i-eq0.true)))
     (λ c κs. search rules)
     (λ c κs. search rules)
     (λ c κs. search rules)
@@ -29,13 +29,13 @@ join-spec =
     let d = c.before in
     let l = d.before.before in
     let n = l.before.before in
-    let k = made_again _ n.next-of.ensures l.before.if1.false true d.before.if2.true (omega arith) (omega arith) c.truth-seen.ensures l.lowest-of.ensures in
-    (enters _ n.next-of.ensures (after n.before) l.before.if1.false k.0, joined_made _ _ k.1 n.next-of.ensures d.deeper-of.ensures))
+    let k = made_again _ n.next_of-i.ensures l.if-i-eq0.false true d.if-gives.true (omega arith) (omega arith) c.truth_seen.ensures l.lowest_of-fault.ensures in
+    (enters _ n.next_of-i.ensures (after n.before) l.if-i-eq0.false k.0, joined_made _ _ k.1 n.next_of-i.ensures d.deeper_of.ensures))
     (λ c κs. search rules)
     (λ c κs. search rules)
     (λ c.
     let d = c.before in
     let l = d.before.before in
     let n = l.before.before in
-    let k = made_again _ n.next-of.ensures l.before.if1.false false d.before.if2.false (omega arith) (omega arith) c.number-seen.ensures l.lowest-of.ensures in
-    (enters _ n.next-of.ensures (after n.before) l.before.if1.false k.0, joined_made _ _ k.1 n.next-of.ensures d.deeper-of2.ensures)))
+    let k = made_again _ n.next_of-i.ensures l.if-i-eq0.false false d.if-gives.false (omega arith) (omega arith) c.number_seen.ensures l.lowest_of-fault.ensures in
+    (enters _ n.next_of-i.ensures (after n.before) l.if-i-eq0.false k.0, joined_made _ _ k.1 n.next_of-i.ensures d.deeper_of-2.ensures)))

@@ -14,24 +14,24 @@ use Rattle.couplers.specs.ChannelLaws.{sound-step, unsound-on}
 use Rattle.couplers.proofs.channel.are_channels.Statement.{statement}
 use Rattle.couplers.proofs.channel.are_channels.Tie as tie
 
-abbrev invariant-loop : tie.invariant-loop
+abbrev invariant-loop : tie.invariant-loop-good
 invariant-loop cs good₀ i₀ good i = (i ≤ channel_count) × (good ≡ are_channels cs i)
 
-abbrev decreases-loop : tie.decreases-loop
+abbrev decreases-loop : tie.decreases-loop-good
 decreases-loop cs good₀ i₀ good i = channel_count - i
 
 -- the loop goes on
-going : (c : tie.In-loop invariant-loop decreases-loop) → c.before.loop.i < channel_count
-going c = ltb-true c.before.loop.i channel_count (both c.before.loop.good _ c.loop-test.true).1
+going : (c : tie.In-loop-good invariant-loop decreases-loop) → c.loop-good.i < channel_count
+going c = ltb-true c.loop-good.i channel_count (both c.loop-good.good _ c.loop-good-test.true).1
 
 -- the loop is over
 over : (cs : List Channel) (b : Bool) (i : ℕ) → i ≤ channel_count → b ≡ are_channels cs i → (b && ltb i channel_count) ≡ false → b ≡ are_channels cs channel_count
 over cs true i l e h = let n : i ≡ channel_count = omega (arith, ltb-false i channel_count h) in rw n at e
 over cs false i l e h = let n : (channel_count - i) + i ≡ channel_count = omega arith in sym (rw n at (unsound-on cs i (channel_count - i) (sym e)))
 
-pub are-channels-spec : {M : Type 1} → statement M
+pub are_channels_spec : {M : Type 1} → statement M
 unfolding are_channels
-are-channels-spec =
+are_channels_spec =
     tie.close
     (tie.spec
     invariant-loop
@@ -45,6 +45,6 @@ are-channels-spec =
     (λ c.
     let l = going c.before.before in
     let b = c.before.before.before in
-    let t = (both b.loop.good _ c.before.before.loop-test.true).0 in
-    (omega arith, c.is-channel.ensures ∙ sound-step b.before.args.t1 b.loop.i true (sym t ∙ b.loop.invariant.1)))
-    (λ c. let b = c.before in over b.before.args.t1 b.loop.good b.loop.i b.loop.invariant.0 b.loop.invariant.1 c.loop-test.false))
+    let t = (both b.loop-good.good _ c.loop-good-test.true).0 in
+    (omega arith, c.is_channel-good.ensures ∙ sound-step b.args.t1 b.loop-good.i true (sym t ∙ b.loop-good.invariant.1)))
+    (λ c. let b = c.before in over b.args.t1 b.loop-good.good b.loop-good.i b.loop-good.invariant.0 b.loop-good.invariant.1 c.loop-good-test.false))

@@ -5,6 +5,6 @@ use Rattle.couplers.specs.Channel.{fresh_channels}
 use Rattle.couplers.proofs.channel.fresh_channels.Statement.{statement}
 use Rattle.couplers.proofs.channel.fresh_channels.Tie as tie
 
-pub fresh-channels-spec : {M : Type 1} → statement M
+pub fresh_channels_spec : {M : Type 1} → statement M
 unfolding fresh_channels of_bits
-fresh-channels-spec = tie.close (tie.spec (λ c. refl))
+fresh_channels_spec = tie.close (tie.spec (λ c. refl))

@@ -6,12 +6,12 @@ use Rattle.couplers.specs.Channel.{is_channel}
 use Rattle.couplers.proofs.channel.is_channel.Statement.{statement}
 use Rattle.couplers.proofs.channel.is_channel.Tie as tie
 
-pub is-channel-spec : {M : Type 1} → statement M
+pub is_channel_spec : {M : Type 1} → statement M
 unfolding is_channel
-is-channel-spec =
+is_channel_spec =
     tie.close
     (tie.spec
-    (λ c. rw (not-true c.before.args.c.known c.if1.true))
+    (λ c. rw (not-true c.args.c.known c.if-not-known.true-raw))
     (λ c κs. search rules)
-    (λ c. rw (not-false c.before.before.before.args.c.known c.before.before.if1.false, sym c.before.converts.ensures ∙ not-true _ c.if2.true))
-    (λ c. rw (not-false c.before.before.before.args.c.known c.before.before.if1.false, sym c.before.converts.ensures ∙ not-false _ c.if2.false)))
+    (λ c. rw (not-false c.args.c.known c.if-not-known.false-raw, sym c.converts.ensures ∙ not-true _ c.if-not-converts.true-raw))
+    (λ c. rw (not-false c.args.c.known c.if-not-known.false-raw, sym c.converts.ensures ∙ not-false _ c.if-not-converts.false-raw)))

@@ -5,8 +5,8 @@ use Rattle.couplers.specs.Channel.{sampled}
 use Rattle.couplers.proofs.channel.sample.Statement.{statement}
 use Rattle.couplers.proofs.channel.sample.Tie as tie
 
-pub sample-spec : {M : Type 1} → statement M
-sample-spec =
+pub sample_spec : {M : Type 1} → statement M
+sample_spec =
     tie.close
     (tie.spec
     (λ c. search rules)
@@ -15,6 +15,6 @@ sample-spec =
     (λ c κs. search rules)
     (λ c. search rules)
     (λ c κs. search rules)
-    (λ c. c.sample-number.ensures ∙ ap (sampled c.before.before.before.before.args.c) (sym c.before.before.r.given.1))
-    (λ c. c.sample-fault.ensures ∙ ap (sampled c.before.before.before.args.c) (sym c.before.enum_told.given.1))
-    (λ c. c.sample-fault2.ensures ∙ ap (sampled c.before.before.before.args.c) (sym c.before.enum-told2.given.1)))
+    (λ c. c.sample_number.ensures ∙ ap (sampled c.args.c) (sym c.in-Volts.is))
+    (λ c. c.sample_fault.ensures ∙ ap (sampled c.args.c) (sym c.in-Break.is))
+    (λ c. c.sample_fault-in-Short.ensures ∙ ap (sampled c.args.c) (sym c.in-Short.is)))

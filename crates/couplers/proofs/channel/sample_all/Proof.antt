@@ -15,16 +15,16 @@ use Rattle.couplers.specs.ChannelLaws.{good-step, good-stops, kept_step, values-
 use Rattle.couplers.proofs.channel.sample_all.Statement.{statement}
 use Rattle.couplers.proofs.channel.sample_all.Tie as tie
 
-abbrev invariant-loop : tie.invariant-loop
+abbrev invariant-loop : tie.invariant-loop-i
 invariant-loop cs rs kept₀ values₀ i₀ kept values i =
     (i ≤ channel_count) × (all_good cs rs i ≡ true) × (kept ≡ channels_sampled cs rs i) × (values ≡ values_sampled cs rs i)
 
-abbrev decreases-loop : tie.decreases-loop
+abbrev decreases-loop : tie.decreases-loop-i
 decreases-loop cs rs kept₀ values₀ i₀ kept values i = channel_count - i
 
-pub sample-all-spec : {M : Type 1} → statement M
+pub sample_all_spec : {M : Type 1} → statement M
 unfolding sampled_all all_good values_sampled channels_sampled
-sample-all-spec =
+sample_all_spec =
     tie.close
     (tie.spec
     invariant-loop
@@ -39,7 +39,7 @@ sample-all-spec =
     let f = c.before.before in
     let b = f.before.before.before in
     let s = b.before in
-    rw (good-stops s.args.t1 s.args.t2 b.loop.i channel_count (omega arith) b.loop.invariant.1 (let z : sampled_at s.args.t1 s.args.t2 b.loop.i ≡ c.before.sample.result = sym c.before.sample.ensures in ap (λ w. w.good) z ∙ not-true _ c.if1.true)))
+    rw (good-stops s.args.t1 s.args.t2 b.loop-i.i channel_count (omega arith) b.loop-i.invariant.1 (let z : sampled_at s.args.t1 s.args.t2 b.loop-i.i ≡ c.sample-s.result = sym c.sample-s.ensures in ap (λ w. w.good) z ∙ not-true _ c.if-not-good.true-raw)))
     (λ c. search rules)
     (λ c. omega arith)
     (λ c. search rules)
@@ -50,10 +50,10 @@ sample-all-spec =
     let g = c.before.before in
     let b = g.before.before.before.before.before in
     let s = b.before in
-    let z : g.before.sample.result ≡ sampled_at s.args.t1 s.args.t2 b.loop.i = g.before.sample.ensures in (
+    let z : g.sample-s.result ≡ sampled_at s.args.t1 s.args.t2 b.loop-i.i = g.sample-s.ensures in (
       omega arith,
-      good-step s.args.t1 s.args.t2 b.loop.i b.loop.invariant.1 (sym (ap (λ w. w.good) z) ∙ not-false _ g.if1.false),
-      kept_step s.args.t1 s.args.t2 b.loop.auto b.loop.i _ (ap (λ w. w.channel) z) b.loop.invariant.2,
-      values-step s.args.t1 s.args.t2 b.loop.values b.loop.i _ (to_z-of_z w32 _ (record { sfits = c.struct_told.given.1.0.1 }) ∙ ap (λ w. w.value) z) b.loop.invariant.3,
+      good-step s.args.t1 s.args.t2 b.loop-i.i b.loop-i.invariant.1 (sym (ap (λ w. w.good) z) ∙ not-false _ g.if-not-good.false-raw),
+      kept_step s.args.t1 s.args.t2 b.loop-i.auto b.loop-i.i _ (ap (λ w. w.channel) z) b.loop-i.invariant.2,
+      values-step s.args.t1 s.args.t2 b.loop-i.values b.loop-i.i _ (to_z-of_z w32 _ (record { sfits = c.struct_told-1.given.1.0.1 }) ∙ ap (λ w. w.value) z) b.loop-i.invariant.3,
     ))
-    (λ c. let b = c.before in let e : b.loop.i ≡ channel_count = omega arith in let i = b.loop.invariant in rw (rw e at i.1, rw e at i.2, rw e at i.3)))
+    (λ c. let b = c.before in let e : b.loop-i.i ≡ channel_count = omega arith in let i = b.loop-i.invariant in rw (rw e at i.1, rw e at i.2, rw e at i.3)))

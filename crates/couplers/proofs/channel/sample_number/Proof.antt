@@ -7,8 +7,8 @@ use Rattle.couplers.specs.Channel.{sampled_as}
 use Rattle.couplers.proofs.channel.sample_number.Statement.{statement}
 use Rattle.couplers.proofs.channel.sample_number.Tie as tie
 
-pub sample-number-spec : {M : Type 1} → statement M
-sample-number-spec =
+pub sample_number_spec : {M : Type 1} → statement M
+sample_number_spec =
     tie.close
     (tie.spec
     (λ c κs. search rules)
@@ -16,6 +16,6 @@ sample-number-spec =
     (λ c. search rules)
     (λ c κs. search rules)
     (λ c.
-    let f = c.before.before.before in
-    rw (to_z-of_z w32 _ (record { sfits = c.known-told.given.0.1 })) (ap (sampled_as f.before.args.c f.before.args.x) (sym c.before.v.given.1 ∙ f.convert.ensures)))
-    (λ c. let f = c.before.before.before in c.sample-fault.ensures ∙ ap (sampled_as f.before.args.c f.before.args.x) (sym c.before.enum_told.given.1 ∙ f.convert.ensures)))
+    let f = c.before in
+    rw (to_z-of_z w32 _ (record { sfits = c.in-Thousandths.known_told-1-own.given.0.1 })) (ap (sampled_as f.args.c f.args.x) (sym c.in-Thousandths.is ∙ f.convert.ensures)))
+    (λ c. let f = c.before.before in c.sample_fault.ensures ∙ ap (sampled_as f.args.c f.args.x) (sym c.in-Fault.is ∙ f.convert.ensures)))

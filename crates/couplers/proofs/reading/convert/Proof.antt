@@ -51,28 +51,28 @@ shifted x h l =
 nearest-requires : tie.Need-nearest-requires
 nearest-requires c κs =
     let s = c.before.before.before in
-    let (e, p, g) = shifted (field s) c.if3.false (omega (arith, c.before.if2.false)) in
+    let (e, p, g) = shifted (field s) c.if-field-lt-LEAST.false (omega (arith, c.if-field-ge-TOO_GREAT.false)) in
     rw e (p, (omega arith, omega arith))
 
-returns-4 : tie.Need-returns-4
+returns-4 : tie.Need-returns
 returns-4 c =
     let s = c.before.before.before.before.before in
     let b = c.before.before in
-    let l : field s ≤ 146 = omega (arith, b.before.if2.false) in
-    let (e, p, g) = shifted (field s) b.if3.false l in
-    c.signed-thousandths.ensures
-    ∙ ap (signed_thousandths (leb 2147483648 (bits s))) (c.before.nearest.ensures ∙ ap (nearest_even ((8388608 + digits s) * 1000)) e)
-    ∙ sym (between (leb 2147483648 (bits s)) (field s) (digits s) b.if3.false l)
+    let l : field s ≤ 146 = omega (arith, b.if-field-ge-TOO_GREAT.false) in
+    let (e, p, g) = shifted (field s) b.if-field-lt-LEAST.false l in
+    c.signed_thousandths.ensures
+    ∙ ap (signed_thousandths (leb 2147483648 (bits s))) (c.nearest.ensures ∙ ap (nearest_even ((8388608 + digits s) * 1000)) e)
+    ∙ sym (between (leb 2147483648 (bits s)) (field s) (digits s) b.if-field-lt-LEAST.false l)
     ∙ whole s
 
-pub convert-spec : {M : Type 1} → statement M
-convert-spec =
+pub convert_spec : {M : Type 1} → statement M
+convert_spec =
     tie.close
     (tie.spec
-    (λ c. nan-converted c.before.args.x c.if1.true)
-    (λ c. no_nan c.before.args.x c.if1.false)
-    (λ c. let s = c.before.before in sym (too-great (leb 2147483648 (bits s)) (field s) (digits s) (omega (arith, c.if2.true))) ∙ whole s)
-    (λ c. let s = c.before.before.before in sym (too_small (leb 2147483648 (bits s)) (field s) (digits s) c.if3.true (omega arith)) ∙ whole s)
+    (λ c. nan-converted c.args.x c.if-x.true)
+    (λ c. no_nan c.args.x c.if-x.false)
+    (λ c. let s = c.before.before in sym (too-great (leb 2147483648 (bits s)) (field s) (digits s) (omega (arith, c.if-field-ge-TOO_GREAT.true))) ∙ whole s)
+    (λ c. let s = c.before.before.before in sym (too_small (leb 2147483648 (bits s)) (field s) (digits s) c.if-field-lt-LEAST.true (omega arith)) ∙ whole s)
     (λ c. search rules)
     (λ c. search rules)
     (λ c. search rules)

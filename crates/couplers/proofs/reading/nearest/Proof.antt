@@ -8,16 +8,16 @@ use Rattle.couplers.specs.Conversion.{nearest_even}
 use Rattle.couplers.proofs.reading.nearest.Statement.{statement}
 use Rattle.couplers.proofs.reading.nearest.Tie as tie
 
-pub nearest-spec : {M : Type 1} → statement M
+pub nearest_spec : {M : Type 1} → statement M
 unfolding nearest_even
-nearest-spec =
+nearest_spec =
     tie.close
     (tie.spec
     (λ c. search rules)
     (λ c. search rules)
     (λ c. let a = c.args in record { fits = omega (arith, mod-lt a.n {m = a.d} (omega arith)) })
-    (λ c. rw (lt-ltb _ _ c.if1.true))
-    (λ c. let a = c.before.before.args in record { fits = omega (arith, div-le_self a.n a.d) })
-    (λ c. rw (le-ltb _ _ c.before.if1.false, lt-ltb _ _ c.if2.true))
-    (λ c. let a = c.before.before.args in record { fits = omega (arith, div-le_self a.n a.d) })
-    (λ c. rw (le-ltb _ _ c.before.if1.false, le-ltb _ _ c.if2.false)))
+    (λ c. rw (lt-ltb _ _ c.if-rest-d.true))
+    (λ c. let a = c.args in record { fits = omega (arith, div-le_self a.n a.d) })
+    (λ c. rw (le-ltb _ _ c.if-rest-d.false, lt-ltb _ _ c.if-d-rest.true))
+    (λ c. let a = c.args in record { fits = omega (arith, div-le_self a.n a.d) })
+    (λ c. rw (le-ltb _ _ c.if-rest-d.false, le-ltb _ _ c.if-d-rest.false)))

@@ -9,11 +9,11 @@ use Rattle.couplers.specs.Conversion.{reading_of}
 use Rattle.couplers.proofs.reading.reading_of.Statement.{statement}
 use Rattle.couplers.proofs.reading.reading_of.Tie as tie
 
-pub reading-of-spec : {M : Type 1} → statement M
+pub reading_of_spec : {M : Type 1} → statement M
 unfolding reading_of
-reading-of-spec =
+reading_of_spec =
     tie.close
     (tie.spec
-    (λ c. rw (nan_bits_above binary32 c.before.args.bits, lt-ltb _ _ c.if1.true))
-    (λ c. subst (λ (b : Bool). T (not b)) (sym (nan_bits_above binary32 c.before.args.bits ∙ le-ltb _ _ c.if1.false)) tt)
-    (λ c. rw (nan_bits_above binary32 c.before.args.bits, le-ltb _ _ c.if1.false)))
+    (λ c. rw (nan_bits_above binary32 c.args.bits, lt-ltb _ _ c.if-bits-gt-INFINITY.true))
+    (λ c. subst (λ (b : Bool). T (not b)) (sym (nan_bits_above binary32 c.args.bits ∙ le-ltb _ _ c.if-bits-gt-INFINITY.false)) tt)
+    (λ c. rw (nan_bits_above binary32 c.args.bits, le-ltb _ _ c.if-bits-gt-INFINITY.false)))

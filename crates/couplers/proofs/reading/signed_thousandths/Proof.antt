@@ -8,12 +8,12 @@ use Rattle.couplers.specs.ConversionLaws.{signed-by-value}
 use Rattle.couplers.proofs.reading.signed_thousandths.Statement.{statement}
 use Rattle.couplers.proofs.reading.signed_thousandths.Tie as tie
 
-pub signed-thousandths-spec : {M : Type 1} → statement M
-signed-thousandths-spec =
+pub signed_thousandths_spec : {M : Type 1} → statement M
+signed_thousandths_spec =
     tie.close
     (tie.spec
     (λ c κs. search rules)
     (λ c. search rules)
     (λ c. search rules)
-    (λ c. ap Thousandths (to_z-of_z w32 _ (record { sfits = c.known-told.given.0.1 })) ∙ sym (signed-by-value _ _ (sym c.before.before.before.signed.ensures ∙ c.before.v.given.1)))
-    (λ c. sym (signed-by-value _ _ (sym c.before.before.signed.ensures ∙ c.enum_told.given.1))))
+    (λ c. ap Thousandths (to_z-of_z w32 _ (record { sfits = c.in-Value.known_told-1-own.given.0.1 })) ∙ sym (signed-by-value _ _ (sym c.signed.ensures ∙ c.in-Value.is)))
+    (λ c. sym (signed-by-value _ _ (sym c.signed.ensures ∙ c.in-Alarm.is))))

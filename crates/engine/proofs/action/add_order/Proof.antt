@@ -11,8 +11,8 @@ use Rattle.engine.proofs.ActionLaws.{one_more_lem}
 use Rattle.engine.proofs.action.add_order.Statement.{statement}
 use Rattle.engine.proofs.action.add_order.Tie as tie
 
-pub add-order-spec : {M : Type 1} → statement M
-add-order-spec =
+pub add_order_spec : {M : Type 1} → statement M
+add_order_spec =
     tie.close
     (tie.spec
     (λ c. search rules)
@@ -21,7 +21,7 @@ add-order-spec =
     (λ c κs. search rules)
     (λ c.
     let p = c.before.before in
-    let a = p.before.before.before.args in
+    let a = p.args in
     let n = a.progress.count in
     let l : order_size * n + order_size ≤ length a.out.now = search rules in
-    (λ vars locked memory. rw c.did-all.ensures (refl, (refl, with-orders (world_of vars locked memory a.out.now a.progress) (ap (take (order_size * (n + 1))) p.put.ensures ∙ one_more_lem a.out.now n a.o l))), rw c.did-all.ensures (omega arith, refl))))
+    (λ vars locked memory. rw c.did_all.ensures (refl, (refl, with-orders (world_of vars locked memory a.out.now a.progress) (ap (take (order_size * (n + 1))) p.put.ensures ∙ one_more_lem a.out.now n a.o l))), rw c.did_all.ensures (omega arith, refl))))

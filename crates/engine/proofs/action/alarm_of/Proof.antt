@@ -8,12 +8,12 @@ use Rattle.engine.proofs.ActionLaws.{byte}
 use Rattle.engine.proofs.action.alarm_of.Statement.{statement}
 use Rattle.engine.proofs.action.alarm_of.Tie as tie
 
-pub alarm-of-spec : {M : Type 1} → statement M
+pub alarm_of_spec : {M : Type 1} → statement M
 unfolding less_than alarm_of
-alarm-of-spec =
+alarm_of_spec =
     tie.close
     (tie.spec
-    (λ c. rw (rw (back w32 c.before.ranges.v) at c.if1.true))
-    (λ c. let b = back w32 c.before.before.ranges.v in rw (rw b at c.before.if1.false, rw b at c.if2.true))
-    (λ c. byte (to_z w32 (of_z w32 c.before.before.args.v)) c.before.if1.false c.if2.false)
-    (λ c. let b = back w32 c.before.before.ranges.v in rw (rw b at c.before.if1.false, rw b at c.if2.false, b)))
+    (λ c. rw (rw (back w32 c.ranges.v) at c.if-v-lt1.true))
+    (λ c. let b = back w32 c.ranges.v in rw (rw b at c.if-v-lt1.false, rw b at c.if-v-gt255.true))
+    (λ c. byte (to_z w32 (of_z w32 c.args.v)) c.if-v-lt1.false c.if-v-gt255.false)
+    (λ c. let b = back w32 c.ranges.v in rw (rw b at c.if-v-lt1.false, rw b at c.if-v-gt255.false, b)))

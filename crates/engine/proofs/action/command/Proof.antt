@@ -16,18 +16,18 @@ use Rattle.engine.proofs.action.command.Statement.{statement}
 use Rattle.engine.proofs.action.command.Tie as tie
 
 -- the number fits
-small : (c : tie.After-whole-of) → c.whole_of.result < 2147483648
-small c = omega (arith, c.whole_of.ensures)
+small : (c : tie.After-whole_of-n) → c.whole_of-n.result < 2147483648
+small c = omega (arith, c.whole_of-n.ensures)
 
-number : (c : tie.After-whole-of) → let a = c.before.before.before.args in c.whole_of.result ≡ whole (get_or a.set.now (a.p + 2) 0)
-number c = c.whole_of.ensures ∙ ap whole c.before.token-at.ensures
+number : (c : tie.After-whole_of-n) → let a = c.args in c.whole_of-n.result ≡ whole (get_or a.set.now (a.p + 2) 0)
+number c = c.whole_of-n.ensures ∙ ap whole c.token_at.ensures
 
-value : (c : tie.After-whole-of) → let a = c.before.before.before.args in to_z w32 c.whole_of.result ≡ pos (whole (get_or a.set.now (a.p + 2) 0))
+value : (c : tie.After-whole_of-n) → let a = c.args in to_z w32 c.whole_of-n.result ≡ pos (whole (get_or a.set.now (a.p + 2) 0))
 value c = to_z_pos w32 _ (small c) ∙ ap pos (number c)
 
-pub command-spec : {M : Type 1} → statement M
+pub command_spec : {M : Type 1} → statement M
 unfolding command_of
-command-spec =
+command_spec =
     tie.close
     (tie.spec
     (λ c. search rules)
@@ -38,23 +38,23 @@ command-spec =
     (λ c κs. search rules)
     (λ c.
     let s = c.before.before in
-    (λ vars memory. rw s.if1.true (rw (value s.before) at (c.add-order.ensures.0 vars s.before.before.before.before.args.locked.now memory)), c.add-order.ensures.1))
+    (λ vars memory. rw s.if-w-eq-M.true (rw (value s.before) at (c.add_order.ensures.0 vars s.args.locked.now memory)), c.add_order.ensures.1))
     (λ c. omega (arith, small c.before.before.before))
     (λ c. search rules)
     (λ c κs. search rules)
     (λ c.
     let s = c.before.before in
-    (λ vars memory. rw s.if2.true (rw (value s.before.before) at (c.add-order2.ensures.0 vars s.before.before.before.before.before.args.locked.now memory)), c.add-order2.ensures.1))
+    (λ vars memory. rw s.if-w-eq-SETAL.true (rw (value s.before.before) at (c.add_order-then-w-eq-SETAL.ensures.0 vars s.args.locked.now memory)), c.add_order-then-w-eq-SETAL.ensures.1))
     (λ c κs. search rules)
     (λ c κs. search rules)
     (λ c.
     let i = c.before.before in
     let s = i.before in
-    (λ vars memory. simp (command_of, ne_eqb _ _ s.before.if1.false, ne_eqb _ _ s.if2.false, sym i.is_call.ensures ∙ not-true _ c.before.if3.true, c.not_done.ensures) (refl, refl), same-progress 1 c.not_done.ensures))
+    (λ vars memory. simp (command_of, ne_eqb _ _ s.if-w-eq-M.false, ne_eqb _ _ s.if-w-eq-SETAL.false, sym i.is_call.ensures ∙ not-true _ c.if-not-is_call.true-raw, c.not_done.ensures) (refl, refl), same-progress 1 c.not_done.ensures))
     (λ c κs. search rules)
     (λ c. search rules)
     (λ c κs. search rules)
     (λ c.
     let e = c.before.before.before in
     let s = e.before.before in
-    (λ vars memory. simp (command_of, ne_eqb _ _ s.before.if1.false, ne_eqb _ _ s.if2.false, sym e.before.is_call.ensures ∙ not-false _ e.if3.false) (rw (c.before.rank-of.ensures, number s.before.before) at (c.set-lock.ensures.0 vars memory s.before.before.before.before.before.args.out.now)), (omega arith, c.set-lock.ensures.1.1))))
+    (λ vars memory. simp (command_of, ne_eqb _ _ s.if-w-eq-M.false, ne_eqb _ _ s.if-w-eq-SETAL.false, sym e.is_call.ensures ∙ not-false _ e.if-not-is_call.false-raw) (rw (c.rank_of.ensures, number s.before.before) at (c.set_lock.ensures.0 vars memory s.args.out.now)), (omega arith, c.set_lock.ensures.1.1))))

@@ -8,13 +8,13 @@ use Rattle.engine.specs.Set.{curve_line}
 use Rattle.engine.proofs.action.curve_at.Statement.{statement}
 use Rattle.engine.proofs.action.curve_at.Tie as tie
 
-pub curve-at-spec : {M : Type 1} → statement M
-curve-at-spec =
+pub curve_at_spec : {M : Type 1} → statement M
+curve_at_spec =
     tie.close
     (tie.spec
     (λ c κs. search rules)
     (λ c κs. search rules)
     (λ c.
     let l = c.before in
-    let a = l.before.args in
-    rw l.curve-line.ensures at c.value-at.ensures ∙ ap (curve_of (curve_line a.set.now a.n).curve) (back w32 l.before.ranges.x)))
+    let a = l.args in
+    rw l.curve_line-line.ensures at c.value_at.ensures ∙ ap (curve_of (curve_line a.set.now a.n).curve) (back w32 l.ranges.x)))

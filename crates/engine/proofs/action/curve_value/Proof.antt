@@ -14,16 +14,16 @@ use Rattle.engine.proofs.action.curve_value.Statement.{statement}
 use Rattle.engine.proofs.action.curve_value.Tie as tie
 
 -- the curve that is named
-abbrev named : tie.After-variable-at → Curve
-named c = let a = c.before.args in (curve_line a.set.now (whole (token a.set.now (a.p + 2)))).curve
+abbrev named : tie.After-variable_at → Curve
+named c = let a = c.args in (curve_line a.set.now (whole (token a.set.now (a.p + 2)))).curve
 
 -- the definition, over what the variable reads
-reads : (c : tie.After-variable-at) {w : Worked} → c.variable-at.result ≡ w → let a = c.before.args in curve_where (named c) w ≡ curve_value a.set.now a.r.now a.cells.now a.p
+reads : (c : tie.After-variable_at) {w : Worked} → c.variable_at.result ≡ w → let a = c.args in curve_where (named c) w ≡ curve_value a.set.now a.r.now a.cells.now a.p
 unfolding curve_value
-reads c e = ap (curve_where (named c)) (sym e ∙ c.variable-at.ensures)
+reads c e = ap (curve_where (named c)) (sym e ∙ c.variable_at.ensures)
 
-pub curve-value-spec : {M : Type 1} → statement M
-curve-value-spec =
+pub curve_value_spec : {M : Type 1} → statement M
+curve_value_spec =
     tie.close
     (tie.spec
     (λ c. search rules)
@@ -37,5 +37,5 @@ curve-value-spec =
     (λ c.
     let t = c.before.before in
     let x = t.before.before.before in
-    rw (c.before.whole_of.ensures, t.token-at.ensures, back w32 (record { sfits = t.before.before.known-told.given.0.1 })) at c.curve-at.ensures ∙ reads x.before.before x.x.given.1)
-    (λ c. reads c.before.before.before c.before.a.given.1))
+    rw (c.whole_of.ensures, t.token_at.ensures, back w32 (record { sfits = t.in-Value.known_told-1-own.given.0.1 })) at c.curve_at.ensures ∙ reads x.before x.in-Value.is)
+    (λ c. reads c.before c.in-Alarm.is))

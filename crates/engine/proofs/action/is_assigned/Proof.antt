@@ -7,10 +7,10 @@ use Rattle.tokens.specs.Token.{SYNFCT}
 use Rattle.engine.proofs.action.is_assigned.Statement.{statement}
 use Rattle.engine.proofs.action.is_assigned.Tie as tie
 
-pub is-assigned-spec : {M : Type 1} → statement M
-is-assigned-spec =
+pub is_assigned_spec : {M : Type 1} → statement M
+is_assigned_spec =
     tie.close
     (tie.spec
     (λ c κs. search rules)
-    (λ c. rw (sym c.before.is-variable.ensures ∙ c.if1.true))
-    (λ c. rw (sym c.before.is-variable.ensures ∙ c.if1.false)))
+    (λ c. rw (sym c.is_variable.ensures ∙ c.if-is_variable.true))
+    (λ c. rw (sym c.is_variable.ensures ∙ c.if-is_variable.false)))

@@ -19,16 +19,16 @@ use Rattle.engine.proofs.ActionLaws.{removal-fifo}
 use Rattle.engine.proofs.action.take.Statement.{statement}
 use Rattle.engine.proofs.action.take.Tie as tie
 
-removes : (c : tie.Else1) → let a = c.before.before.args in is_removal a.set.now a.p ≡ true
-removes c = sym c.before.is-removal.ensures ∙ not-false _ c.if1.false
+removes : (c : tie.Else-not-is_removal) → let a = c.args in is_removal a.set.now a.p ≡ true
+removes c = sym c.is_removal.ensures ∙ not-false _ c.if-not-is_removal.false-raw
 
 -- the removal
-abbrev removal : tie.After-take-oldest → Answer Changed
-removal c = let a = c.before.before.before.before.before.before.before.args in change_fifo a.r.now a.cells.now 1 (get_or a.set.now a.p 0) (pos 0)
+abbrev removal : tie.After-take_oldest → Answer Changed
+removal c = let a = c.args in change_fifo a.r.now a.cells.now 1 (get_or a.set.now a.p 0) (pos 0)
 
 -- what it came to
-changes : (c : tie.After-take-oldest) → IsChanged c.take-oldest.result c.take-oldest.new.0 c.take-oldest.new.1.0 (removal c)
-changes c = rw c.before.token-at.ensures at c.take-oldest.ensures
+changes : (c : tie.After-take_oldest) → IsChanged c.take_oldest.result c.take_oldest.new.0 c.take_oldest.new.1.0 (removal c)
+changes c = rw c.token_at.ensures at c.take_oldest.ensures
 
 pub take_spec : {M : Type 1} → statement M
 unfolding taken_at
@@ -39,20 +39,20 @@ take_spec =
     (λ c κs. search rules)
     (λ c.
     let s = c.before.before.before in
-    let a = s.before.before.args in
-    λ runs. simp (taken_at, sym s.before.is-removal.ensures ∙ not-true _ s.if1.true)
+    let a = s.args in
+    λ runs. simp (taken_at, sym s.is_removal.ensures ∙ not-true _ s.if-not-is_removal.true-raw)
     (worked-taken c.work.result (vars_of a.r.now a.cells.now runs) (from_value_or_alarm (right_value a.set.now a.r.now a.cells.now a.p)) c.work.ensures))
     (λ c κs. search rules)
-    (λ c κs. rw c.token-at.ensures (removal-fifo _ _ (removes c.before.before.before.before)))
+    (λ c κs. rw c.token_at.ensures (removal-fifo _ _ (removes c.before.before.before.before)))
     (λ c. search rules)
     (λ c. search rules)
     (λ c. search rules)
     (λ c κs. search rules)
     (λ c.
-    let f = c.before.before.before in
-    λ runs. simp (taken_at, removes f.before.before.before.before.before, changed-good f.take-oldest.result f.take-oldest.new.0 f.take-oldest.new.1.0 (removal f) (changes f) c.before.v.given.1)
-    (refl, (back w32 (record { sfits = c.known-told.given.0.1 }), (refl, refl))))
+    let f = c.before in
+    λ runs. simp (taken_at, removes f.before.before.before.before.before, changed-good f.take_oldest.result f.take_oldest.new.0 f.take_oldest.new.1.0 (removal f) (changes f) c.in-Value.is)
+    (refl, (back w32 (record { sfits = c.in-Value.known_told-1-own.given.0.1 }), (refl, refl))))
     (λ c.
-    let f = c.before.before.before.before in
-    λ runs. simp (taken_at, removes f.before.before.before.before.before, changed-stop f.take-oldest.result f.take-oldest.new.0 f.take-oldest.new.1.0 (removal f) (changes f) c.before.before.a.given.1, c.not_taken.ensures)
+    let f = c.before.before in
+    λ runs. simp (taken_at, removes f.before.before.before.before.before, changed-stop f.take_oldest.result f.take_oldest.new.0 f.take_oldest.new.1.0 (removal f) (changes f) c.in-Alarm.is, c.not_taken.ensures)
     (refl, refl)))

@@ -9,8 +9,8 @@ use Rattle.engine.proofs.ActionAnswerLaws.{value-good, value-stop}
 use Rattle.engine.proofs.action.work.Statement.{statement}
 use Rattle.engine.proofs.action.work.Tie as tie
 
-pub work-spec : {M : Type 1} → statement M
-work-spec =
+pub work_spec : {M : Type 1} → statement M
+work_spec =
     tie.close
     (tie.spec
     (λ c κs. search rules)
@@ -18,9 +18,9 @@ work-spec =
     (λ c κs. search rules)
     (λ c.
     let s = c.before.before in
-    let g = s.before.before.right_side in
-    rw (← g.ensures, value-stop g.result (not-true _ s.before.if1.true), c.not_taken.ensures)
-    (refl, c.before.alarm-of.ensures ∙ ap alarm_of (back w32 (record { sfits = s.struct_told.given.1.0.1 }))))
+    let g = s.right_side-g in
+    rw (← g.ensures, value-stop g.result (not-true _ s.if-not-good.true-raw), c.not_taken.ensures)
+    (refl, c.alarm_of.ensures ∙ ap alarm_of (back w32 (record { sfits = s.struct_told-1.given.1.0.1 }))))
     (λ c.
-    let g = c.before.before.right_side in
-    rw (← g.ensures, value-good g.result (not-false _ c.before.if1.false)) (refl, (back w32 (record { sfits = c.struct-told2.given.1.0.1 }), refl))))
+    let g = c.right_side-g in
+    rw (← g.ensures, value-good g.result (not-false _ c.if-not-good.false-raw)) (refl, (back w32 (record { sfits = c.struct_told-2-1.given.1.0.1 }), refl))))

@@ -19,40 +19,40 @@ use Rattle.engine.proofs.ActionsLaws.{came, all_come, acts-stop, acts-end, acts-
 use Rattle.engine.proofs.actions.actions.Statement.{statement}
 use Rattle.engine.proofs.actions.actions.Tie as tie
 
-abbrev invariant-loop : tie.invariant-loop
+abbrev invariant-loop : tie.invariant-loop-left
 invariant-loop tokens lines cancelled r₀ cells₀ runs₀ locked₀ out₀ number p f₀ i₀ left₀ r cells runs locked out f i left =
     ((m : List Bool) → came (actions_of tokens (lines_in lines).numbers cancelled number left (world_of (vars_of r cells runs) locked m out f) i) ≡ came (actions_of tokens (lines_in lines).numbers cancelled number max_actions (world_of (vars_of r₀ cells₀ runs₀) locked₀ m out₀ f₀) p))
     × (f.count + left ≤ f₀.count + max_actions) × (f.acted ≡ f₀.acted)
 
-abbrev decreases-loop : tie.decreases-loop
+abbrev decreases-loop : tie.decreases-loop-left
 decreases-loop tokens lines cancelled r₀ cells₀ runs₀ locked₀ out₀ number p f₀ i₀ left₀ r cells runs locked out f i left = left
 
 -- the world before a turn, where m is the memory, and behind its action
-abbrev world : tie.At-loop invariant-loop decreases-loop → List Bool → World
-world c m = let l = c.loop in world_of (vars_of l.r l.cells l.runs) l.locked m l.out l.f
+abbrev world : tie.At-loop-left invariant-loop decreases-loop → List Bool → World
+world c m = let l = c.loop-left in world_of (vars_of l.r l.cells l.runs) l.locked m l.out l.f
 
-abbrev behind : tie.After-action invariant-loop decreases-loop → List Bool → World
-behind c m = let l = c.action.new.1.1.1 in world_of (vars_of l.0 l.1.0 l.1.1.0) l.1.1.1.0 m l.1.1.1.1.0 c.action.result.progress
+abbrev behind : tie.After-action-d invariant-loop decreases-loop → List Bool → World
+behind c m = let l = c.action-d.new.1.1.1 in world_of (vars_of l.0 l.1.0 l.1.1.0) l.1.1.1.0 m l.1.1.1.1.0 c.action-d.result.progress
 
 -- what is left to do, all of it, and the action of a turn
-abbrev rest : tie.At-loop invariant-loop decreases-loop → List Bool → Answer Did
-rest c m = let a = c.before.args in actions_of a.set.now (lines_in a.lines.now).numbers a.cancelled.now a.number c.loop.left (world c m) c.loop.i
+abbrev rest : tie.At-loop-left invariant-loop decreases-loop → List Bool → Answer Did
+rest c m = let a = c.args in actions_of a.set.now (lines_in a.lines.now).numbers a.cancelled.now a.number c.loop-left.left (world c m) c.loop-left.i
 
-abbrev all : tie.At-loop invariant-loop decreases-loop → List Bool → Answer Did
-all c m = let a = c.before.args in actions_of a.set.now (lines_in a.lines.now).numbers a.cancelled.now a.number max_actions (world_of (vars_of a.r.now a.cells.now a.runs.now) a.locked.now m a.out.now a.progress) a.p
+abbrev all : tie.At-loop-left invariant-loop decreases-loop → List Bool → Answer Did
+all c m = let a = c.args in actions_of a.set.now (lines_in a.lines.now).numbers a.cancelled.now a.number max_actions (world_of (vars_of a.r.now a.cells.now a.runs.now) a.locked.now m a.out.now a.progress) a.p
 
-abbrev one : tie.At-loop invariant-loop decreases-loop → List Bool → Answer Did
-one c m = let a = c.before.args in action_of a.set.now (lines_in a.lines.now).numbers a.cancelled.now a.number (world c m) c.loop.i
+abbrev one : tie.At-loop-left invariant-loop decreases-loop → List Bool → Answer Did
+one c m = let a = c.args in action_of a.set.now (lines_in a.lines.now).numbers a.cancelled.now a.number (world c m) c.loop-left.i
 
-ends : (c : tie.At-loop invariant-loop decreases-loop) (m : List Bool) (x : Done) (w : World) → IsDone x w (rest c m) → IsDone x w (all c m)
-ends c m x w h = all_come x w (rest c m) (all c m) (c.loop.invariant.0 m) h
+ends : (c : tie.At-loop-left invariant-loop decreases-loop) (m : List Bool) (x : Done) (w : World) → IsDone x w (rest c m) → IsDone x w (all c m)
+ends c m x w h = all_come x w (rest c m) (all c m) (c.loop-left.invariant.0 m) h
 
 -- what a good action did
-acted : (c : tie.Else1 invariant-loop decreases-loop) (m : List Bool) → (ns : List Note) × (one c.before.before.before.before.before.before.before.before m ≡ good (record { world = behind c.before m; next = c.before.action.result.next; notes = ns }))
-acted c m = done-good c.before.action.result (behind c.before m) (one c.before.before.before.before.before.before.before.before m) (c.before.action.ensures.0 m) (not-false _ c.if1.false)
+acted : (c : tie.Else-not-good invariant-loop decreases-loop) (m : List Bool) → (ns : List Note) × (one c.before.before.before.before.before.before.before.before m ≡ good (record { world = behind c.before m; next = c.action-d.result.next; notes = ns }))
+acted c m = done-good c.action-d.result (behind c.before m) (one c.before.before.before.before.before.before.before.before m) (c.action-d.ensures.0 m) (not-false _ c.if-not-good.false-raw)
 
-pub actions-spec : {M : Type 1} → statement M
-actions-spec =
+pub actions_spec : {M : Type 1} → statement M
+actions_spec =
     tie.close
     (tie.spec
     invariant-loop
@@ -60,29 +60,29 @@ actions-spec =
     (λ c. (λ m. refl, omega arith, refl))
     (λ c κs. search rules)
     (λ c.
-    let d = c.before.action in
+    let d = c.action-d in
     let t = c.before.before.before.before.before.before.before in
-    let f = not-true _ c.if1.true in (
+    let f = not-true _ c.if-not-good.true-raw in (
       λ m. ends t.before m d.result (behind c.before m)
-          (rw (acts-stop _ _ _ _ _ _ (done-stop d.result (behind c.before m) (one t.before m) (d.ensures.0 m) f) t.before.loop.left t.loop-test.true) (f, refl)),
-      (omega arith, d.ensures.1.1 ∙ t.before.loop.invariant.2),
+          (rw (acts-stop _ _ _ _ _ _ (done-stop d.result (behind c.before m) (one t.before m) (d.ensures.0 m) f) t.loop-left.left t.loop-left-test.true) (f, refl)),
+      (omega arith, d.ensures.1.1 ∙ t.loop-left.invariant.2),
     ))
     (λ c κs. search rules)
     (λ c.
     let s = c.before.before.before in
-    let d = s.before.action in
+    let d = s.action-d in
     let t = s.before.before.before.before.before.before.before in (
       λ m. ends t.before m d.result (behind s.before m)
-          (rw (acts-end _ _ _ _ _ _ _ (acted s m).1 t.before.loop.left t.loop-test.true (sym c.before.token-at.ensures ∙ c.if2.true)) (not-false _ s.if1.false, (refl, refl))),
-      (omega arith, d.ensures.1.1 ∙ t.before.loop.invariant.2),
+          (rw (acts-end _ _ _ _ _ _ _ (acted s m).1 t.loop-left.left t.loop-left-test.true (sym c.token_at.ensures ∙ c.if-token_at-eq-END.true)) (not-false _ s.if-not-good.false-raw, (refl, refl))),
+      (omega arith, d.ensures.1.1 ∙ t.loop-left.invariant.2),
     ))
     (λ c. search rules)
     (λ c. search rules)
     (λ c.
     let s = c.before.before.before.before in
     let t = s.before.before.before.before.before.before.before in
-    (λ m. acts-on _ _ _ _ _ _ _ (acted s m).1 t.before.loop.left t.loop-test.true (λ z. c.before.if2.false (c.before.before.token-at.ensures ∙ z)) ∙ t.before.loop.invariant.0 m, omega arith, s.before.action.ensures.1.1 ∙ t.before.loop.invariant.2))
+    (λ m. acts-on _ _ _ _ _ _ _ (acted s m).1 t.loop-left.left t.loop-left-test.true (λ z. c.if-token_at-eq-END.false (c.token_at.ensures ∙ z)) ∙ t.loop-left.invariant.0 m, omega arith, s.action-d.ensures.1.1 ∙ t.loop-left.invariant.2))
     (λ c κs. search rules)
     (λ c.
     let b = c.before.before in
-    (λ m. ends b m c.not_done.result (world_of (vars_of b.loop.r b.loop.cells b.loop.runs) b.loop.locked m b.loop.out c.not_done.result.progress) (rw (acts-none _ _ _ _ _ _ b.loop.left c.before.loop-test.false, c.not_done.ensures) (refl, refl)), rw c.not_done.ensures (omega arith, b.loop.invariant.2))))
+    (λ m. ends b m c.not_done.result (world_of (vars_of b.loop-left.r b.loop-left.cells b.loop-left.runs) b.loop-left.locked m b.loop-left.out c.not_done.result.progress) (rw (acts-none _ _ _ _ _ _ b.loop-left.left c.loop-left-test.false, c.not_done.ensures) (refl, refl)), rw c.not_done.ensures (omega arith, b.loop-left.invariant.2))))

@@ -8,12 +8,12 @@ use Rattle.engine.proofs.CallLaws.{called-refused, called-done}
 use Rattle.engine.proofs.calls.cancel.Statement.{statement}
 use Rattle.engine.proofs.calls.cancel.Tie as tie
 
-pub cancel-spec : {M : Type 1} → statement M
+pub cancel_spec : {M : Type 1} → statement M
 unfolding cancel_call
-cancel-spec =
+cancel_spec =
     tie.close
     (tie.spec
     (λ c κs. search rules)
-    (λ c. called-refused _ _ _ c.before.find.ensures _ c.if1.true)
-    (λ c κs. rw c.before.find.ensures (found_below _ _ _))
-    (λ c. let i = c.before in rw c.with-cancelled.ensures (called-done i.before.before.args.state _ _ i.before.find.ensures (λ k. with_cancelled i.before.before.args.state k) i.if1.false)))
+    (λ c. called-refused _ _ _ c.find-f.ensures _ c.if-code-ne0.true)
+    (λ c κs. rw c.find-f.ensures (found_below _ _ _))
+    (λ c. let i = c.before in rw c.with_cancelled-next.ensures (called-done i.args.state _ _ i.find-f.ensures (λ k. with_cancelled i.args.state k) i.if-code-ne0.false)))

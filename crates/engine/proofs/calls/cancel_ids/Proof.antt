@@ -10,14 +10,14 @@ use Rattle.engine.proofs.CallLaws.{reset-none, reset-id, reset-ids}
 use Rattle.engine.proofs.calls.cancel_ids.Statement.{statement}
 use Rattle.engine.proofs.calls.cancel_ids.Tie as tie
 
-abbrev invariant-loop : tie.invariant-loop
+abbrev invariant-loop : tie.invariant-loop-k
 invariant-loop now-cancelled₀ count items k₀ now-cancelled k = (now-cancelled ≡ reset_cancelled items now-cancelled₀ k) × (k ≤ count)
 
-abbrev decreases-loop : tie.decreases-loop
+abbrev decreases-loop : tie.decreases-loop-k
 decreases-loop now-cancelled₀ count items k₀ now-cancelled k = count - k
 
-pub cancel-ids-spec : {M : Type 1} → statement M
-cancel-ids-spec =
+pub cancel_ids_spec : {M : Type 1} → statement M
+cancel_ids_spec =
     tie.close
     (tie.spec
     invariant-loop
@@ -29,6 +29,6 @@ cancel-ids-spec =
     (λ c. omega arith)
     (λ c. omega arith)
     (λ c.
-    let i = c.before.before.before.loop.invariant.0 in
-    (⊎_elim (λ w. w.1 ∙ reset-id _ _ _ _ i (not-true _ w.0.taken)) (λ w. w.1 ∙ reset-ids _ _ _ _ i (not-false _ w.0.left)) c.if1.branch, omega arith))
-    (λ c. let e : c.before.loop.k ≡ c.before.before.before.args.lines.count = omega arith in rw e at c.before.loop.invariant.0))
+    let i = c.loop-k.invariant.0 in
+    (⊎_elim (λ w. w.1 ∙ reset-id _ _ _ _ i (not-true _ w.0.taken)) (λ w. w.1 ∙ reset-ids _ _ _ _ i (not-false _ w.0.left)) c.if-not-ids.branch, omega arith))
+    (λ c. let e : c.loop-k.k ≡ c.args.lines.count = omega arith in rw e at c.loop-k.invariant.0))

@@ -5,12 +5,12 @@ use Rattle.engine.proofs.CallLaws.{line-ids, line-cancelled, line-ended}
 use Rattle.engine.proofs.calls.end_line.Statement.{statement}
 use Rattle.engine.proofs.calls.end_line.Tie as tie
 
-pub end-line-spec : {M : Type 1} → statement M
-end-line-spec =
+pub end_line_spec : {M : Type 1} → statement M
+end_line_spec =
     tie.close
     (tie.spec
-    (λ c. line-ids _ _ _ c.if1.true)
+    (λ c. line-ids _ _ _ c.if-ids.true)
     (λ c. search rules)
-    (λ c. line-cancelled _ _ _ c.before.before.if1.false c.if2.true)
+    (λ c. line-cancelled _ _ _ c.if-ids.false c.if-state-k.true)
     (λ c κs. search rules)
-    (λ c. c.with-cancelled.ensures ∙ line-ended _ _ _ c.before.before.before.if1.false c.before.if2.false))
+    (λ c. c.with_cancelled.ensures ∙ line-ended _ _ _ c.if-ids.false c.if-state-k.false))

@@ -8,14 +8,14 @@ use Rattle.engine.proofs.CallLaws.{end_none, end-turn}
 use Rattle.engine.proofs.calls.end_lines.Statement.{statement}
 use Rattle.engine.proofs.calls.end_lines.Tie as tie
 
-abbrev invariant-loop : tie.invariant-loop
+abbrev invariant-loop : tie.invariant-loop-k
 invariant-loop next₀ count items k₀ next k = (next ≡ program_ended items next₀ k) × (k ≤ count)
 
-abbrev decreases-loop : tie.decreases-loop
+abbrev decreases-loop : tie.decreases-loop-k
 decreases-loop next₀ count items k₀ next k = count - k
 
-pub end-lines-spec : {M : Type 1} → statement M
-end-lines-spec =
+pub end_lines_spec : {M : Type 1} → statement M
+end_lines_spec =
     tie.close
     (tie.spec
     invariant-loop
@@ -26,5 +26,5 @@ end-lines-spec =
     (λ c κs. omega arith)
     (λ c. omega arith)
     (λ c. omega arith)
-    (λ c. let b = c.before.before.before in (end-turn _ _ _ b.loop.invariant.0 c.end_line.ensures, omega arith))
-    (λ c. let e : c.before.loop.k ≡ c.before.before.before.args.lines.count = omega arith in rw e at c.before.loop.invariant.0))
+    (λ c. let b = c.before.before.before in (end-turn _ _ _ b.loop-k.invariant.0 c.end_line-next.ensures, omega arith))
+    (λ c. let e : c.loop-k.k ≡ c.args.lines.count = omega arith in rw e at c.loop-k.invariant.0))

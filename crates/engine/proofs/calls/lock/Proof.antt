@@ -4,6 +4,6 @@ use Rattle.engine.specs.Calls.{lock_call}
 use Rattle.engine.proofs.calls.lock.Statement.{statement}
 use Rattle.engine.proofs.calls.lock.Tie as tie
 
-pub lock-spec : {M : Type 1} → statement M
+pub lock_spec : {M : Type 1} → statement M
 unfolding lock_call
-lock-spec = tie.close (tie.spec (λ c κs. search rules) (λ c. c.set-lock.ensures))
+lock_spec = tie.close (tie.spec (λ c κs. search rules) (λ c. c.set_lock.ensures))

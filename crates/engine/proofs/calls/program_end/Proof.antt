@@ -8,16 +8,16 @@ use Rattle.engine.proofs.CallLaws.{end-unsound, end-sound}
 use Rattle.engine.proofs.calls.program_end.Statement.{statement}
 use Rattle.engine.proofs.calls.program_end.Tie as tie
 
-pub program-end-spec : {M : Type 1} → statement M
-program-end-spec =
+pub program_end_spec : {M : Type 1} → statement M
+program_end_spec =
     tie.close
     (tie.spec
     (λ c κs. search rules)
-    (λ c. sym (end-unsound _ _ (unsound-set _ _ _ c.before.sound-lines.ensures (not-true _ c.if1.true))))
+    (λ c. sym (end-unsound _ _ (unsound-set _ _ _ c.sound_lines-lines.ensures (not-true _ c.if-not-sound.true-raw))))
     (λ c κs. search rules)
-    (λ c. let a = c.before.before in sym (end-unsound _ _ (sound-as _ _ _ a.before.sound-lines.ensures (not-false _ a.if1.false) _ c.before.is-state-sound.ensures ∙ not-true _ c.if2.true)))
-    (λ c κs. rw c.before.before.before.sound-lines.ensures (sound-count _))
+    (λ c. let a = c.before.before in sym (end-unsound _ _ (sound-as _ _ _ a.sound_lines-lines.ensures (not-false _ a.if-not-sound.false-raw) _ c.is_state_sound.ensures ∙ not-true _ c.if-not-is_state_sound.true-raw)))
+    (λ c κs. rw c.sound_lines-lines.ensures (sound-count _))
     (λ c.
     let i = c.before in
     let a = i.before.before in
-    sym (end-sound _ _ (sound-as _ _ _ a.before.sound-lines.ensures (not-false _ a.if1.false) _ i.before.is-state-sound.ensures ∙ not-false _ i.if2.false) a.before.sound-lines.ensures c.end-lines.ensures)))
+    sym (end-sound _ _ (sound-as _ _ _ a.sound_lines-lines.ensures (not-false _ a.if-not-sound.false-raw) _ i.is_state_sound.ensures ∙ not-false _ i.if-not-is_state_sound.false-raw) a.sound_lines-lines.ensures c.end_lines-next.ensures)))

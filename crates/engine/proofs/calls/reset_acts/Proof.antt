@@ -11,14 +11,14 @@ use Rattle.engine.proofs.CallLaws.{recount-none, recount-live, recount-cancelled
 use Rattle.engine.proofs.calls.reset_acts.Statement.{statement}
 use Rattle.engine.proofs.calls.reset_acts.Tie as tie
 
-abbrev invariant-loop : tie.invariant-loop
+abbrev invariant-loop : tie.invariant-loop-k
 invariant-loop cancelled next₀ k₀ next k = (next ≡ reset_acts cancelled next₀ k) × (k ≤ max_lines)
 
-abbrev decreases-loop : tie.decreases-loop
+abbrev decreases-loop : tie.decreases-loop-k
 decreases-loop cancelled next₀ k₀ next k = max_lines - k
 
-pub reset-acts-spec : {M : Type 1} → statement M
-reset-acts-spec =
+pub reset_acts_spec : {M : Type 1} → statement M
+reset_acts_spec =
     tie.close
     (tie.spec
     invariant-loop
@@ -30,6 +30,6 @@ reset-acts-spec =
     (λ c. omega arith)
     (λ c. omega arith)
     (λ c.
-    let i = c.before.before.before.loop.invariant.0 in
-    (⊎_elim (λ w. w.1 ∙ recount-live _ _ _ _ i (not-true _ w.0.taken)) (λ w. w.1 ∙ recount-cancelled _ _ _ _ i (not-false _ w.0.left)) c.if1.branch, omega arith))
-    (λ c. let e : c.before.loop.k ≡ max_lines = omega arith in rw e at c.before.loop.invariant.0))
+    let i = c.loop-k.invariant.0 in
+    (⊎_elim (λ w. w.1 ∙ recount-live _ _ _ _ i (not-true _ w.0.taken)) (λ w. w.1 ∙ recount-cancelled _ _ _ _ i (not-false _ w.0.left)) c.if-not-cancelled-k.branch, omega arith))
+    (λ c. let e : c.loop-k.k ≡ max_lines = omega arith in rw e at c.loop-k.invariant.0))

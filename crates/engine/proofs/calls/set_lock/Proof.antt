@@ -9,15 +9,15 @@ use Rattle.engine.proofs.CallLaws.{called-refused, called-done}
 use Rattle.engine.proofs.calls.set_lock.Statement.{statement}
 use Rattle.engine.proofs.calls.set_lock.Tie as tie
 
-below : (c : tie.After-find) → c.find.result.rank < max_lines
-below c = rw c.find.ensures (found_below _ _ _)
+below : (c : tie.After-find-f) → c.find-f.result.rank < max_lines
+below c = rw c.find-f.ensures (found_below _ _ _)
 
-pub set-lock-spec : {M : Type 1} → statement M
+pub set_lock_spec : {M : Type 1} → statement M
 unfolding locked_call
-set-lock-spec =
+set_lock_spec =
     tie.close
     (tie.spec
     (λ c κs. search rules)
-    (λ c. called-refused _ _ _ c.before.find.ensures _ c.if1.true)
+    (λ c. called-refused _ _ _ c.find-f.ensures _ c.if-code-ne0.true)
     (λ c. omega (arith, below c.before))
-    (λ c. called-done c.before.before.args.state _ _ c.before.find.ensures (λ k. with_locked c.before.before.args.state k c.before.before.args.on) c.if1.false))
+    (λ c. called-done c.args.state _ _ c.find-f.ensures (λ k. with_locked c.args.state k c.args.on) c.if-code-ne0.false))

@@ -6,4 +6,4 @@ use Rattle.engine.proofs.calls.unlock.Tie as tie
 
 pub unlock_spec : {M : Type 1} → statement M
 unfolding unlock_call
-unlock_spec = tie.close (tie.spec (λ c κs. search rules) (λ c. c.set-lock.ensures))
+unlock_spec = tie.close (tie.spec (λ c κs. search rules) (λ c. c.set_lock.ensures))

@@ -4,8 +4,8 @@ use mathlib.Core.Path.{refl}
 use Rattle.engine.proofs.calls.with_cancelled.Statement.{statement}
 use Rattle.engine.proofs.calls.with_cancelled.Tie as tie
 
-pub with-cancelled-spec : {M : Type 1} → statement M
-with-cancelled-spec =
+pub with_cancelled_spec : {M : Type 1} → statement M
+with_cancelled_spec =
     tie.close
     (tie.spec
     (λ c. search rules)

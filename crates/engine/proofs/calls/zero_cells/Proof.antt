@@ -9,14 +9,14 @@ use Rattle.engine.proofs.CallLaws.{zero_to, zero-none, zero_turn, zero-all}
 use Rattle.engine.proofs.calls.zero_cells.Statement.{statement}
 use Rattle.engine.proofs.calls.zero_cells.Tie as tie
 
-abbrev invariant-loop : tie.invariant-loop
+abbrev invariant-loop : tie.invariant-loop-i
 invariant-loop cells₀ i₀ cells i = (cells ≡ zero_to marker_at cells₀ i) × (length cells ≡ length cells₀) × (marker_at ≤ i) × (i ≤ count_at)
 
-abbrev decreases-loop : tie.decreases-loop
+abbrev decreases-loop : tie.decreases-loop-i
 decreases-loop cells₀ i₀ cells i = count_at - i
 
-pub zero-cells-spec : {M : Type 1} → statement M
-zero-cells-spec =
+pub zero_cells_spec : {M : Type 1} → statement M
+zero_cells_spec =
     tie.close
     (tie.spec
     invariant-loop
@@ -26,6 +26,6 @@ zero-cells-spec =
     (λ c. omega arith)
     (λ c. omega arith)
     (λ c. omega arith)
-    (λ c. (zero_turn marker_at _ _ _ c.before.loop.invariant.0 (omega arith) (omega arith), simp length-set c.before.loop.invariant.1, omega arith, omega arith))
-    (λ c. c.before.loop.invariant.1)
-    (λ c. let e : c.before.loop.i ≡ count_at = omega arith in rw e at c.before.loop.invariant.0 ∙ zero-all _))
+    (λ c. (zero_turn marker_at _ _ _ c.loop-i.invariant.0 (omega arith) (omega arith), simp length-set c.loop-i.invariant.1, omega arith, omega arith))
+    (λ c. c.loop-i.invariant.1)
+    (λ c. let e : c.loop-i.i ≡ count_at = omega arith in rw e at c.loop-i.invariant.0 ∙ zero-all _))

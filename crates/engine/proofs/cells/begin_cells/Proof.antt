@@ -11,9 +11,9 @@ use Rattle.engine.proofs.CellLaws.{begun, replaced, all-behind}
 use Rattle.engine.proofs.cells.begin_cells.Statement.{statement}
 use Rattle.engine.proofs.cells.begin_cells.Tie as tie
 
-pub begin-cells-spec : {M : Type 1} → statement M
+pub begin_cells_spec : {M : Type 1} → statement M
 unfolding beat_cells
-begin-cells-spec =
+begin_cells_spec =
     tie.close
     (tie.spec
     (λ c. search rules)
@@ -31,8 +31,8 @@ begin-cells-spec =
     let g = x.before.before.before in
     let s = g.before.before in
     let a = s.args in
-    let d = a.cells.now in
-    let w = take 30 d ++ (g.grow-timers.new.0 ++ drop 92 (drop 30 d)) in
-    let e = replaced d g.grow-timers.new.0 w s.requires.0 refl ∙ g.grow-timers.ensures ∙ ap (λ (l : List ℤ). grown_cells a.runs.now l 8) (all-behind d s.requires.0) in
-    begun (input_cells a.word 16) a.values.now a.lent.now (grown_cells a.runs.now (drop 30 d) 8) w x.put-inputs.new.0 y.copy_at.new.0 z.copy-at2.new.0 (length-inputs a.word 16) s.requires.1.0 s.requires.1.1 e
-    x.put-inputs.ensures y.copy_at.ensures z.copy-at2.ensures))
+    let d = a.cells-1.now in
+    let w = take 30 d ++ (g.grow_timers.new.0 ++ drop 92 (drop 30 d)) in
+    let e = replaced d g.grow_timers.new.0 w s.requires.0 refl ∙ g.grow_timers.ensures ∙ ap (λ (l : List ℤ). grown_cells a.runs.now l 8) (all-behind d s.requires.0) in
+    begun (input_cells a.word 16) a.values.now a.lent.now (grown_cells a.runs.now (drop 30 d) 8) w x.put_inputs.new.0 y.copy_at.new.0 z.copy_at-2.new.0 (length-inputs a.word 16) s.requires.1.0 s.requires.1.1 e
+    x.put_inputs.ensures y.copy_at.ensures z.copy_at-2.ensures))

@@ -11,14 +11,14 @@ use Rattle.engine.proofs.CellLaws.{copy-turn, copied}
 use Rattle.engine.proofs.cells.copy_at.Statement.{statement}
 use Rattle.engine.proofs.cells.copy_at.Tie as tie
 
-abbrev invariant-loop : tie.invariant-loop
+abbrev invariant-loop : tie.invariant-loop-i
 invariant-loop to₀ at from i₀ to i = (to ≡ paste to₀ at from i) × (length to ≡ length to₀) × (i ≤ length from)
 
-abbrev decreases-loop : tie.decreases-loop
+abbrev decreases-loop : tie.decreases-loop-i
 decreases-loop to₀ at from i₀ to i = length from - i
 
-pub copy-at-spec : {M : Type 1} → statement M
-copy-at-spec =
+pub copy_at_spec : {M : Type 1} → statement M
+copy_at_spec =
     tie.close
     (tie.spec
     invariant-loop
@@ -32,9 +32,9 @@ copy-at-spec =
     (λ c. omega arith)
     (λ c. omega arith)
     (λ c. (
-      copy-turn c.before.before.before.args.to.now c.before.before.before.args.at c.before.before.before.args.from.now c.before.before.loop.i _ _ c.before.before.loop.invariant.0 (back w32 (record { sfits = c.v.given })) (omega arith) (omega arith),
-      simp length-set c.before.before.loop.invariant.1,
+      copy-turn c.args.to.now c.args.at c.args.from.now c.loop-i.i _ _ c.loop-i.invariant.0 (back w32 (record { sfits = c.v-1.given })) (omega arith) (omega arith),
+      simp length-set c.loop-i.invariant.1,
       omega arith,
     ))
-    (λ c. c.before.loop.invariant.1)
-    (λ c. copied c.before.before.args.to.now c.before.before.args.at c.before.before.args.from.now c.before.loop.i _ c.before.loop.invariant.0 (omega arith)))
+    (λ c. c.loop-i.invariant.1)
+    (λ c. copied c.args.to.now c.args.at c.args.from.now c.loop-i.i _ c.loop-i.invariant.0 (omega arith)))

@@ -8,8 +8,8 @@ use Rattle.engine.proofs.CellLaws.{kept}
 use Rattle.engine.proofs.cells.kept_cells.Statement.{statement}
 use Rattle.engine.proofs.cells.kept_cells.Tie as tie
 
-pub kept-cells-spec : {M : Type 1} → statement M
-kept-cells-spec =
+pub kept_cells_spec : {M : Type 1} → statement M
+kept_cells_spec =
     tie.close
     (tie.spec
     (λ c. search rules)
@@ -17,4 +17,4 @@ kept-cells-spec =
     (λ c. search rules)
     (λ c. search rules)
     (λ c κs. search rules)
-    (λ c. c.before.copy_at.ensures ∙ kept input_count state_cells c.before.before.before.before.before.args.cells.now (replicate state_cells (pos 0)) c.before.before.before.before.all.given.0 refl))
+    (λ c. c.copy_at.ensures ∙ kept input_count state_cells c.args.cells.now (replicate state_cells (pos 0)) c.all-1.given.0 refl))

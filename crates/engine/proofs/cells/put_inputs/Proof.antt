@@ -14,14 +14,14 @@ use Rattle.engine.proofs.CellLaws.{input_none, input-rest, input-turn}
 use Rattle.engine.proofs.cells.put_inputs.Statement.{statement}
 use Rattle.engine.proofs.cells.put_inputs.Tie as tie
 
-abbrev invariant-loop : tie.invariant-loop
+abbrev invariant-loop : tie.invariant-loop-i
 invariant-loop cells₀ word rest₀ i₀ cells rest i = (cells ≡ input_cells word i ++ drop i cells₀) × (length cells ≡ length cells₀) × (rest ≡ word / 2 ^ i) × (i ≤ bit_count)
 
-abbrev decreases-loop : tie.decreases-loop
+abbrev decreases-loop : tie.decreases-loop-i
 decreases-loop cells₀ word rest₀ i₀ cells rest i = bit_count - i
 
-pub put-inputs-spec : {M : Type 1} → statement M
-put-inputs-spec =
+pub put_inputs_spec : {M : Type 1} → statement M
+put_inputs_spec =
     tie.close
     (tie.spec
     invariant-loop
@@ -34,10 +34,10 @@ put-inputs-spec =
     (λ c. omega arith)
     (λ c.
     let b = c.before.before in (
-      input-turn b.before.args.word b.loop.i b.loop.rest b.loop.invariant.2 b.before.args.cells.now b.loop.cells _ b.loop.invariant.0 (omega arith) (back w32 (record { sfits = c.input-cell.type-inv }) ∙ c.input-cell.ensures),
-      simp length-set b.loop.invariant.1,
-      input-rest b.before.args.word b.loop.i b.loop.rest b.loop.invariant.2,
+      input-turn b.args.word b.loop-i.i b.loop-i.rest b.loop-i.invariant.2 b.args.cells.now b.loop-i.cells _ b.loop-i.invariant.0 (omega arith) (back w32 (record { sfits = c.input_cell-v.type_inv }) ∙ c.input_cell-v.ensures),
+      simp length-set b.loop-i.invariant.1,
+      input-rest b.args.word b.loop-i.i b.loop-i.rest b.loop-i.invariant.2,
       omega arith,
     ))
-    (λ c. c.before.loop.invariant.1)
-    (λ c. let e : c.before.loop.i ≡ bit_count = omega arith in rw e at c.before.loop.invariant.0))
+    (λ c. c.loop-i.invariant.1)
+    (λ c. let e : c.loop-i.i ≡ bit_count = omega arith in rw e at c.loop-i.invariant.0))

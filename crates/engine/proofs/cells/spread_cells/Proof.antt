@@ -8,11 +8,11 @@ use Rattle.engine.proofs.CellLaws.{spread}
 use Rattle.engine.proofs.cells.spread_cells.Statement.{statement}
 use Rattle.engine.proofs.cells.spread_cells.Tie as tie
 
-pub spread-cells-spec : {M : Type 1} → statement M
+pub spread_cells_spec : {M : Type 1} → statement M
 unfolding spread_cells
-spread-cells-spec =
+spread_cells_spec =
     tie.close
     (tie.spec
     (λ c. search rules)
     (λ c κs. search rules)
-    (λ c. spread (replicate 122 (pos 0)) c.before.before.before.before.args.from.now _ refl (search rules) c.before.copy_at.ensures))
+    (λ c. spread (replicate 122 (pos 0)) c.args.from.now _ refl (search rules) c.copy_at.ensures))

@@ -4,12 +4,12 @@ use Rattle.engine.specs.Keyword.{remembers}
 use Rattle.engine.proofs.keyword.remembers_now.Statement.{statement}
 use Rattle.engine.proofs.keyword.remembers_now.Tie as tie
 
-pub remembers-now-spec : {M : Type 1} → statement M
+pub remembers_now_spec : {M : Type 1} → statement M
 unfolding remembers
-remembers-now-spec =
+remembers_now_spec =
     tie.close
     (tie.spec
-    (λ c. rw c.if1.true)
-    (λ c. rw c.if2.true)
-    (λ c. rw c.if3.true)
-    (λ c. simp (ne_eqb _ _ c.before.before.if1.false, ne_eqb _ _ c.before.if2.false, ne_eqb _ _ c.if3.false)))
+    (λ c. rw c.if-keyword-eq-WHEN.true)
+    (λ c. rw c.if-keyword-eq-FROM.true)
+    (λ c. rw c.if-keyword-eq-EVERY.true)
+    (λ c. simp (ne_eqb _ _ c.if-keyword-eq-WHEN.false, ne_eqb _ _ c.if-keyword-eq-FROM.false, ne_eqb _ _ c.if-keyword-eq-EVERY.false)))

@@ -4,12 +4,12 @@ use Rattle.engine.specs.Keyword.{tries}
 use Rattle.engine.proofs.keyword.tries_now.Statement.{statement}
 use Rattle.engine.proofs.keyword.tries_now.Tie as tie
 
-pub tries-now-spec : {M : Type 1} → statement M
+pub tries_now_spec : {M : Type 1} → statement M
 unfolding tries
-tries-now-spec =
+tries_now_spec =
     tie.close
     (tie.spec
-    (λ c. rw c.if1.true)
-    (λ c. rw c.if2.true)
-    (λ c. rw c.if3.true)
-    (λ c. rw (ne_eqb _ _ c.before.before.if1.false, ne_eqb _ _ c.before.if2.false, ne_eqb _ _ c.if3.false)))
+    (λ c. rw c.if-keyword-eq-WHEN.true)
+    (λ c. rw c.if-keyword-eq-FROM.true)
+    (λ c. rw c.if-keyword-eq-WHENEVER.true)
+    (λ c. rw (ne_eqb _ _ c.if-keyword-eq-WHEN.false, ne_eqb _ _ c.if-keyword-eq-FROM.false, ne_eqb _ _ c.if-keyword-eq-WHENEVER.false)))

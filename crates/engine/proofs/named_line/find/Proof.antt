@@ -13,28 +13,28 @@ use Rattle.engine.proofs.NamedLineLaws.{found-unsound, found_none, found-cancell
 use Rattle.engine.proofs.named_line.find.Statement.{statement}
 use Rattle.engine.proofs.named_line.find.Tie as tie
 
-sound : (c : tie.Else2) → is_sound c.before.before.before.before.args.set.now c.before.before.before.before.args.state ≡ true
-sound c = sound-as _ _ _ c.before.before.before.sound-lines.ensures (not-false _ c.before.before.if1.false) _ c.before.is-state-sound.ensures ∙ not-false _ c.if2.false
+sound : (c : tie.Else-not-is_state_sound) → is_sound c.args.set.now c.args.state ≡ true
+sound c = sound-as _ _ _ c.sound_lines-lines.ensures (not-false _ c.if-not-sound.false-raw) _ c.is_state_sound.ensures ∙ not-false _ c.if-not-is_state_sound.false-raw
 
-few : (c : tie.After-sound-lines) → c.sound-lines.result.count ≤ max_lines
-few c = rw c.sound-lines.ensures (sound-count _)
+few : (c : tie.After-sound_lines-lines) → c.sound_lines-lines.result.count ≤ max_lines
+few c = rw c.sound_lines-lines.ensures (sound-count _)
 
 pub find_spec : {M : Type 1} → statement M
 find_spec =
     tie.close
     (tie.spec
     (λ c κs. search rules)
-    (λ c. sym (found-unsound _ _ _ (unsound-set _ _ _ c.before.sound-lines.ensures (not-true _ c.if1.true))))
+    (λ c. sym (found-unsound _ _ _ (unsound-set _ _ _ c.sound_lines-lines.ensures (not-true _ c.if-not-sound.true-raw))))
     (λ c κs. search rules)
-    (λ c. sym (found-unsound _ _ _ (sound-as _ _ _ c.before.before.before.sound-lines.ensures (not-false _ c.before.before.if1.false) _ c.before.is-state-sound.ensures ∙ not-true _ c.if2.true)))
+    (λ c. sym (found-unsound _ _ _ (sound-as _ _ _ c.sound_lines-lines.ensures (not-false _ c.if-not-sound.false-raw) _ c.is_state_sound.ensures ∙ not-true _ c.if-not-is_state_sound.true-raw)))
     (λ c κs. search rules)
     (λ c.
     let b = c.before.before.before.before in
-    sym (found_none _ _ _ (sound b) _ b.before.before.before.sound-lines.ensures _ c.before.rank-in.ensures c.if3.true))
+    sym (found_none _ _ _ (sound b) _ b.sound_lines-lines.ensures _ c.rank_in-k.ensures c.if-count-k.true))
     (λ c. omega (arith, few c.before.before.before.before.before.before.before.before))
     (λ c.
     let b = c.before.before.before.before.before.before in
-    sym (found-cancelled _ _ _ (sound b) _ b.before.before.before.sound-lines.ensures _ c.before.before.before.rank-in.ensures c.before.before.if3.false c.if4.true))
+    sym (found-cancelled _ _ _ (sound b) _ b.sound_lines-lines.ensures _ c.rank_in-k.ensures c.if-count-k.false c.if-cancelled-k.true))
     (λ c.
     let b = c.before.before.before.before.before.before in
-    sym (found-rank _ _ _ (sound b) _ b.before.before.before.sound-lines.ensures _ c.before.before.before.rank-in.ensures c.before.before.if3.false c.if4.false)))
+    sym (found-rank _ _ _ (sound b) _ b.sound_lines-lines.ensures _ c.rank_in-k.ensures c.if-count-k.false c.if-cancelled-k.false)))

@@ -15,25 +15,25 @@ use Rattle.engine.proofs.BeatLaws.{undoes, answers, leaves, counts-done, counts-
 use Rattle.engine.proofs.one_beat.all_turns.Statement.{statement}
 use Rattle.engine.proofs.one_beat.all_turns.Tie as tie
 
-abbrev start : tie.After-turns → tie.Start
+abbrev start : tie.After-turns-d → tie.Start
 start c = c.before.before.before.before.before.before.before.before.before.before.before.before.before.before.before.before
 
 -- what is held before
-abbrev before : tie.After-turns → Held
-before c = let a = (start c).args in held_in a.r.now a.cells.now a.runs.now a.before a.locked.now a.memory.now a.acts.now a.orders.now
+abbrev before : tie.After-turns-d → Held
+before c = let a = (start c).args in held_in a.r.now a.cells.now a.runs.now a.before a.locked.now a.memory.now a.acts.now a.orders-1.now
 
 -- all turns, the world that they left, and that they came to it
-abbrev all : tie.After-turns → Answer Turned
+abbrev all : tie.After-turns-d → Answer Turned
 all c = let a = (start c).args in turns_held a.set.now (lines_in a.lines.now) a.cancelled.now (before c) a.automatic a.inputs a.values.now a.lent.now
 
-abbrev world : tie.After-turns → World
-world c = let o = c.turns.new.1.1.1.1 in world_of (vars_of o.0 o.1.0 o.1.1.0) o.1.1.1.0 o.1.1.1.1.0 o.1.1.1.1.1.0 c.turns.result.progress
+abbrev world : tie.After-turns-d → World
+world c = let o = c.turns-d.new.1.1.1.1 in world_of (vars_of o.0 o.1.0 o.1.1.0) o.1.1.1.0 o.1.1.1.1.0 o.1.1.1.1.1.0 c.turns-d.result.progress
 
-came : (c : tie.After-turns) → IsTurned c.turns.result (world c) (all c)
-came c = rw c.before.before.before.before.before.before.before.begin-cells.ensures at c.turns.ensures.0
+came : (c : tie.After-turns-d) → IsTurned c.turns-d.result (world c) (all c)
+came c = rw c.begin_cells.ensures at c.turns-d.ensures.0
 
-pub all-turns-spec : {M : Type 1} → statement M
-all-turns-spec =
+pub all_turns_spec : {M : Type 1} → statement M
+all_turns_spec =
     tie.close
     (tie.spec
     (λ c κs. search rules)
@@ -45,23 +45,23 @@ all-turns-spec =
     let i = c.before in
     let n = i.before in
     let d = n.before.before.before in
-    let b = not-true _ i.if1.true in
-    undoes (before d) (start d).args.kept (all d) c.refused.ensures (turned-stop d.turns.result (world d) (all d) (came d) b) (counts-undone (start d).args.acts.now d.turns.result n.before.counted.ensures n.count-acts.ensures b))
+    let b = not-true _ i.if-not-good.true-raw in
+    undoes (before d) (start d).args.kept (all d) c.refused.ensures (turned-stop d.turns-d.result (world d) (all d) (came d) b) (counts-undone (start d).args.acts.now d.turns-d.result n.counted.ensures n.count_acts.ensures b))
     (λ c. search rules)
-    (λ c κs. let d = c.before.before.before.before.before.before.before.before in (omega (arith, d.turns.ensures.1.0), (start d).requires.1.1.1))
-    (λ c κs. omega (arith, c.before.before.before.before.before.before.before.before.before.before.before.turns.ensures.1.0))
+    (λ c κs. let d = c.before.before.before.before.before.before.before.before in (omega (arith, d.turns-d.ensures.1.0), (start d).requires.1.1.1))
+    (λ c κs. omega (arith, c.turns-d.ensures.1.0))
     (λ c. search rules)
     (λ c.
     let p = c.before.before.before in
     let i = p.before.before.before.before.before in
     let n = i.before in
     let d = n.before.before.before in
-    let o = d.turns.new.1.1.1.1 in
-    let g = not-false _ i.if1.false in
-    let w = turned-good d.turns.result (world d) (all d) (came d) g in
-    let b = p.copy-orders.ensures in
+    let o = d.turns-d.new.1.1.1.1 in
+    let g = not-false _ i.if-not-good.false-raw in
+    let w = turned-good d.turns-d.result (world d) (all d) (came d) g in
+    let b = p.copy_orders.ensures in
     let v = vars_of o.0 o.1.0 o.1.1.0 in
-    let f = d.turns.result.progress in (
+    let f = d.turns-d.result.progress in (
       answers (before d) (start d).args.kept (all d) v o.1.1.1.0 o.1.1.1.1.0 o.1.1.1.1.1.0 f _ w.1 b.1 c.finished.ensures,
-      leaves (before d) (start d).args.kept (all d) v o.1.1.1.0 o.1.1.1.1.0 o.1.1.1.1.1.0 f _ w.1 b.1 c.finished.ensures (counts-done (start d).args.acts.now d.turns.result n.before.counted.ensures n.count-acts.ensures g) b.0,
+      leaves (before d) (start d).args.kept (all d) v o.1.1.1.0 o.1.1.1.1.0 o.1.1.1.1.1.0 f _ w.1 b.1 c.finished.ensures (counts-done (start d).args.acts.now d.turns-d.result n.counted.ensures n.count_acts.ensures g) b.0,
     )))

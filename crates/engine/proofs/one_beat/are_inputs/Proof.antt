@@ -5,11 +5,11 @@ use Rattle.engine.specs.Beat.{are_inputs}
 use Rattle.engine.proofs.one_beat.are_inputs.Statement.{statement}
 use Rattle.engine.proofs.one_beat.are_inputs.Tie as tie
 
-pub are-inputs-spec : {M : Type 1} → statement M
+pub are_inputs_spec : {M : Type 1} → statement M
 unfolding are_inputs
-are-inputs-spec =
+are_inputs_spec =
     tie.close
     (tie.spec
-    (λ c. rw (ne_eqb _ _ c.if1.true))
+    (λ c. rw (ne_eqb _ _ c.if-lent-ne-POSITIONS.true))
     (λ c κs. search rules)
-    (λ c. rw (eq-eqb _ _ c.before.if1.false) c.all-ranged.ensures))
+    (λ c. rw (eq-eqb _ _ c.if-lent-ne-POSITIONS.false) c.all_ranged.ensures))

@@ -4,10 +4,10 @@ use Rattle.engine.proofs.BeatLaws.{each-array}
 use Rattle.engine.proofs.one_beat.beat_known.Statement.{statement}
 use Rattle.engine.proofs.one_beat.beat_known.Tie as tie
 
-pub beat-known-spec : {M : Type 1} → statement M
-beat-known-spec =
+pub beat_known_spec : {M : Type 1} → statement M
+beat_known_spec =
     tie.close
     (tie.spec
     (λ c κs. search rules)
     (λ c. search rules)
-    (λ c. each-array c.before.before.known-held.ensures))
+    (λ c. each-array c.known_held.ensures))

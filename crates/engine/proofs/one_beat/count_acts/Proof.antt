@@ -11,20 +11,20 @@ use Rattle.engine.proofs.BeatLaws.{count_none, count_turn, count-rest}
 use Rattle.engine.proofs.one_beat.count_acts.Statement.{statement}
 use Rattle.engine.proofs.one_beat.count_acts.Tie as tie
 
-abbrev invariant-loop : tie.invariant-loop
+abbrev invariant-loop : tie.invariant-loop-k
 invariant-loop acts₀ word rest₀ k₀ acts rest k = (acts ≡ counted_acts acts₀ word k) × (rest ≡ word / 2 ^ k) × (k ≤ max_lines)
 
-abbrev decreases-loop : tie.decreases-loop
+abbrev decreases-loop : tie.decreases-loop-k
 decreases-loop acts₀ word rest₀ k₀ acts rest k = max_lines - k
 
-pub count-acts-spec : {M : Type 1} → statement M
-count-acts-spec =
+pub count_acts_spec : {M : Type 1} → statement M
+count_acts_spec =
     tie.close
     (tie.spec
     invariant-loop
     decreases-loop
     (λ c. (count_none _ _, sym (div-one _), omega arith))
-    (λ c. count-rest _ _ _ _ c.before.before.loop.invariant.0 c.before.before.loop.invariant.1 c.if1.true c.before.before.loop.invariant.2)
+    (λ c. count-rest _ _ _ _ c.loop-k.invariant.0 c.loop-k.invariant.1 c.if-rest-eq0.true c.loop-k.invariant.2)
     (λ c. search rules)
     (λ c. search rules)
     (λ c κs. search rules)
@@ -32,5 +32,5 @@ count-acts-spec =
     (λ c. search rules)
     (λ c. omega arith)
     (λ c. omega arith)
-    (λ c. let b = c.before.before.before.before in (count_turn _ _ _ _ b.loop.invariant.0 b.loop.invariant.1 c.one_more.ensures, bits-next _ _ _ b.loop.invariant.1, omega arith))
-    (λ c. let e : c.before.loop.k ≡ max_lines = omega arith in rw e at c.before.loop.invariant.0))
+    (λ c. let b = c.before.before.before.before in (count_turn _ _ _ _ b.loop-k.invariant.0 b.loop-k.invariant.1 c.one_more.ensures, bits-next _ _ _ b.loop-k.invariant.1, omega arith))
+    (λ c. let e : c.loop-k.k ≡ max_lines = omega arith in rw e at c.loop-k.invariant.0))

@@ -7,5 +7,5 @@ pub counted_spec : {M : Type 1} → statement M
 counted_spec =
     tie.close
     (tie.spec
-    (λ c. rw (not-true c.before.before.args.d.good c.if1.true))
-    (λ c. rw (not-false c.before.before.args.d.good c.if1.false)))
+    (λ c. rw (not-true c.args.d.good c.if-not-good.true-raw))
+    (λ c. rw (not-false c.args.d.good c.if-not-good.false-raw)))

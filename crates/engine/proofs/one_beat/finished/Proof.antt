@@ -4,8 +4,8 @@ use mathlib.Core.Path.{refl}
 use Rattle.engine.proofs.one_beat.finished.Statement.{statement}
 use Rattle.engine.proofs.one_beat.finished.Tie as tie
 
-pub finished-spec : {M : Type 1} → statement M
-finished-spec =
+pub finished_spec : {M : Type 1} → statement M
+finished_spec =
     tie.close
     (tie.spec
     (λ c. search rules)

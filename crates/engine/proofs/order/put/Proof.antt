@@ -19,6 +19,6 @@ put_spec =
     (λ c κs. search rules)
     (λ c. search rules)
     (λ c.
-    let a = c.before.before.before.before.before.args in
+    let a = c.args in
     let e : a.at + order_size - a.at ≡ order_size = omega arith in
-    rw (e, c.before.before.store.ensures, drop-drop order_size a.at a.buffer.now)))
+    rw (e, c.store.ensures, drop-drop order_size a.at a.buffer-1.now)))

@@ -19,10 +19,10 @@ returns c =
     let s = c.before.before.before.before in
     let d = s.args.part.now in
     let o = s.args.order in
-    let b = c.before.twos-complement.result in
-    let eb : b ≡ twos_complement o.value = c.before.twos-complement.ensures ∙ ap twos_complement (back w32 {z = o.value} (record { sfits = c.before.before.struct_told.given.1.1.1.0.1 })) in
-    rw (← eb, ← c.kind-number.ensures)
-    (sets-eq (c.kind-number.result ∷ o.line ∷ o.target ∷ 0 ∷ b % 256 ∷ b / 256 % 256 ∷ b / 65536 % 256 ∷ b / 16777216 ∷ []) d 0 (omega arith)
+    let b = c.twos_complement-bits.result in
+    let eb : b ≡ twos_complement o.value = c.twos_complement-bits.ensures ∙ ap twos_complement (back w32 {z = o.value} (record { sfits = c.struct_told-1.given.1.1.1.0.1 })) in
+    rw (← eb, ← c.kind_number.ensures)
+    (sets-eq (c.kind_number.result ∷ o.line ∷ o.target ∷ 0 ∷ b % 256 ∷ b / 256 % 256 ∷ b / 65536 % 256 ∷ b / 16777216 ∷ []) d 0 (omega arith)
     ∙ rw (drop_of_length-le d {i = 8} (omega arith)))
 
 pub store_spec : {M : Type 1} → statement M

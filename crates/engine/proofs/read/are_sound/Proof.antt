@@ -5,12 +5,12 @@ use Rattle.engine.specs.ReadLines.{lines_in}
 use Rattle.engine.proofs.read.are_sound.Statement.{statement}
 use Rattle.engine.proofs.read.are_sound.Tie as tie
 
-pub are-sound-spec : {M : Type 1} → statement M
+pub are_sound_spec : {M : Type 1} → statement M
 unfolding lines_in
-are-sound-spec =
+are_sound_spec =
     tie.close
     (tie.spec
     (λ c. search rules)
-    (λ c. rw (ne_eqb _ _ c.if1.true))
+    (λ c. rw (ne_eqb _ _ c.if-lines-ne1.true))
     (λ c. search rules)
-    (λ c. rw (eq-eqb _ _ c.before.if1.false)))
+    (λ c. rw (eq-eqb _ _ c.if-lines-ne1.false)))

@@ -5,6 +5,6 @@ use Rattle.engine.specs.ReadLines.{lines_in}
 use Rattle.engine.proofs.read.count_of.Statement.{statement}
 use Rattle.engine.proofs.read.count_of.Tie as tie
 
-pub count-of-spec : {M : Type 1} → statement M
+pub count_of_spec : {M : Type 1} → statement M
 unfolding lines_in
-count-of-spec = tie.close (tie.spec (λ c. search rules) (λ c. refl))
+count_of_spec = tie.close (tie.spec (λ c. search rules) (λ c. refl))

@@ -5,8 +5,8 @@ use Rattle.engine.proofs.ReadLaws.{line_at}
 use Rattle.engine.proofs.read.line_of.Statement.{statement}
 use Rattle.engine.proofs.read.line_of.Tie as tie
 
-pub line-of-spec : {M : Type 1} → statement M
-line-of-spec =
+pub line_of_spec : {M : Type 1} → statement M
+line_of_spec =
     tie.close
     (tie.spec
     (λ c. search rules)

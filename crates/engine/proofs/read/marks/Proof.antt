@@ -2,11 +2,11 @@
 use Rattle.engine.proofs.read.marks.Statement.{statement}
 use Rattle.engine.proofs.read.marks.Tie as tie
 
-pub marks-spec : {M : Type 1} → statement M
-marks-spec =
+pub marks_spec : {M : Type 1} → statement M
+marks_spec =
     tie.close
     (tie.spec
-    (λ c. rw (c.before.if1.true, c.if2.true))
-    (λ c. rw (c.before.if1.true, c.if2.false))
-    (λ c. rw (c.before.if1.false, c.if3.true))
-    (λ c. rw (c.before.if1.false, c.if3.false)))
+    (λ c. rw (c.if-ids.true, c.if-names.true))
+    (λ c. rw (c.if-ids.true, c.if-names.false))
+    (λ c. rw (c.if-ids.false, c.if-names-2.true))
+    (λ c. rw (c.if-ids.false, c.if-names-2.false)))

@@ -20,6 +20,6 @@ put_spec =
     (λ c κs. search rules)
     (λ c. search rules)
     (λ c.
-    let a = c.before.before.before.before.before.args in
+    let a = c.args in
     let e : a.at + line_places - a.at ≡ line_places = omega arith in
-    rw (e, c.before.before.store.ensures, drop-drop line_places a.at a.lines.now)))
+    rw (e, c.store.ensures, drop-drop line_places a.at a.lines-1.now)))

@@ -12,14 +12,14 @@ use Rattle.engine.proofs.ReadLaws.{number_at, numbers-length}
 use Rattle.engine.proofs.read.rank_of.Statement.{statement}
 use Rattle.engine.proofs.read.rank_of.Tie as tie
 
-abbrev invariant-loop : tie.invariant-loop
+abbrev invariant-loop : tie.invariant-loop-k
 invariant-loop lines n k₀ k = (rank_in (drop k (lines_in lines).numbers) n k ≡ rank_in (lines_in lines).numbers n 0) × (k ≤ max_lines)
 
-abbrev decreases-loop : tie.decreases-loop
+abbrev decreases-loop : tie.decreases-loop-k
 decreases-loop lines n k₀ k = max_lines - k
 
-pub rank-of-spec : {M : Type 1} → statement M
-rank-of-spec =
+pub rank_of_spec : {M : Type 1} → statement M
+rank_of_spec =
     tie.close
     (tie.spec
     invariant-loop
@@ -32,14 +32,14 @@ rank-of-spec =
     (λ c. search rules)
     (λ c.
     let b = c.before.before.before in
-    let a = b.before.args.lines.now in
-    sym (rank-here _ _ b.loop.k (omega (arith, numbers-length a)) (number_at a b.loop.k (omega arith) ∙ c.if1.true)) ∙ b.loop.invariant.0)
+    let a = b.args.lines.now in
+    sym (rank-here _ _ b.loop-k.k (omega (arith, numbers-length a)) (number_at a b.loop-k.k (omega arith) ∙ c.if-number-n.true)) ∙ b.loop-k.invariant.0)
     (λ c. omega arith)
     (λ c. omega arith)
     (λ c.
     let b = c.before.before.before in
-    let a = b.before.args.lines.now in
-    (sym (rank-on _ _ b.loop.k (omega (arith, numbers-length a)) (λ e. c.if1.false (sym (number_at a b.loop.k (omega arith)) ∙ e))) ∙ b.loop.invariant.0, omega arith))
+    let a = b.args.lines.now in
+    (sym (rank-on _ _ b.loop-k.k (omega (arith, numbers-length a)) (λ e. c.if-number-n.false (sym (number_at a b.loop-k.k (omega arith)) ∙ e))) ∙ b.loop-k.invariant.0, omega arith))
     (λ c.
     let b = c.before in
-    sym (rank-none _ _ b.loop.k (omega (arith, numbers-length b.before.args.lines.now))) ∙ b.loop.invariant.0))
+    sym (rank-none _ _ b.loop-k.k (omega (arith, numbers-length b.args.lines.now))) ∙ b.loop-k.invariant.0))

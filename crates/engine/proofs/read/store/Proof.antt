@@ -26,4 +26,4 @@ store_spec =
     let s = c.before.before.before.before in
     let d = s.args.part.now in
     let l = s.args.l in
-    rw (← c.before.marks.ensures) (sets-eq (l.number ∷ c.before.marks.result ∷ l.keyword ∷ l.condition ∷ l.actions ∷ l.end ∷ []) d 0 (omega arith) ∙ rw (drop_of_length-le d {i = 6} (omega arith)))))
+    rw (← c.marks.ensures) (sets-eq (l.number ∷ c.marks.result ∷ l.keyword ∷ l.condition ∷ l.actions ∷ l.end ∷ []) d 0 (omega arith) ∙ rw (drop_of_length-le d {i = 6} (omega arith)))))

@@ -4,5 +4,5 @@ use mathlib.Core.Path.{◌∙◌}
 use Rattle.engine.proofs.set.curve_line.Statement.{statement}
 use Rattle.engine.proofs.set.curve_line.Tie as tie
 
-pub curve-line-spec : {M : Type 1} → statement M
-curve-line-spec = tie.close (tie.spec (λ c κs. search rules) (λ c κs. search rules) (λ c. c.definition-at.ensures ∙ rw c.before.curve-start.ensures))
+pub curve_line_spec : {M : Type 1} → statement M
+curve_line_spec = tie.close (tie.spec (λ c κs. search rules) (λ c κs. search rules) (λ c. c.definition_at.ensures ∙ rw c.curve_start.ensures))

@@ -11,14 +11,14 @@ use Rattle.engine.proofs.SetLaws.{curves-none, curves-wrong, curves-on, curves-e
 use Rattle.engine.proofs.set.curves_sound.Statement.{statement}
 use Rattle.engine.proofs.set.curves_sound.Tie as tie
 
-abbrev invariant-loop : tie.invariant-loop
+abbrev invariant-loop : tie.invariant-loop-n
 invariant-loop set lines k₀ n₀ k n = (curves_sound set (suc max_curves - n) n k ≡ curves_sound set max_curves 1 lines) × (n ≤ suc max_curves) × (k ≤ max_lines + n)
 
-abbrev decreases-loop : tie.decreases-loop
+abbrev decreases-loop : tie.decreases-loop-n
 decreases-loop set lines k₀ n₀ k n = suc max_curves - n
 
-pub curves-sound-spec : {M : Type 1} → statement M
-curves-sound-spec =
+pub curves_sound_spec : {M : Type 1} → statement M
+curves_sound_spec =
     tie.close
     (tie.spec
     invariant-loop
@@ -30,7 +30,7 @@ curves-sound-spec =
     (λ c.
     let s = c.before.before.before in
     let b = s.before.before in
-    sym (curves-wrong _ b.loop.n b.loop.k _ (omega arith) s.curve-start.ensures c.before.before.if1.true _ c.before.is-curve.ensures (not-true _ c.if2.true)) ∙ b.loop.invariant.0)
+    sym (curves-wrong _ b.loop-n.n b.loop-n.k _ (omega arith) s.curve_start.ensures c.if-curve_start-gt0.true _ c.is_curve.ensures (not-true _ c.if-not-is_curve.true-raw)) ∙ b.loop-n.invariant.0)
     (λ c. omega arith)
     (λ c. omega arith)
     (λ c. omega arith)
@@ -38,7 +38,7 @@ curves-sound-spec =
     let s = c.before in
     let b = s.before.before in
     ⊎_elim
-    (λ w. (rw w.3 (sym (curves-on _ b.loop.n b.loop.k _ (omega arith) s.curve-start.ensures w.0.taken _ w.1.ensures (not-false _ w.2.left)) ∙ b.loop.invariant.0), omega arith, omega (arith, w.3)))
-    (λ w. (rw w.1 (sym (curves-none _ b.loop.n b.loop.k _ (omega arith) s.curve-start.ensures w.0.left) ∙ b.loop.invariant.0), omega arith, omega (arith, w.1)))
-    c.if1.branch)
-    (λ c. sym (curves-end _ _ _ _ (omega arith)) ∙ c.before.loop.invariant.0))
+    (λ w. (rw w.3 (sym (curves-on _ b.loop-n.n b.loop-n.k _ (omega arith) s.curve_start.ensures w.0.taken _ w.1.ensures (not-false _ w.2.left)) ∙ b.loop-n.invariant.0), omega arith, omega (arith, w.3)))
+    (λ w. (rw w.1 (sym (curves-none _ b.loop-n.n b.loop-n.k _ (omega arith) s.curve_start.ensures w.0.left) ∙ b.loop-n.invariant.0), omega arith, omega (arith, w.1)))
+    c.if-curve_start-gt0.branch)
+    (λ c. sym (curves-end _ _ _ _ (omega arith)) ∙ c.loop-n.invariant.0))

@@ -4,6 +4,6 @@ use Rattle.engine.specs.Set.{empty_set}
 use Rattle.engine.proofs.set.empty_set.Statement.{statement}
 use Rattle.engine.proofs.set.empty_set.Tie as tie
 
-pub empty-set-spec : {M : Type 1} → statement M
+pub empty_set_spec : {M : Type 1} → statement M
 unfolding empty_set
-empty-set-spec = tie.close (tie.spec (λ c. refl))
+empty_set_spec = tie.close (tie.spec (λ c. refl))

@@ -4,10 +4,10 @@ use borrow.Author.Tests.{eq-eqb, ne_eqb}
 use Rattle.engine.proofs.set.is_curve.Statement.{statement}
 use Rattle.engine.proofs.set.is_curve.Tie as tie
 
-pub is-curve-spec : {M : Type 1} → statement M
-is-curve-spec =
+pub is_curve_spec : {M : Type 1} → statement M
+is_curve_spec =
     tie.close
     (tie.spec
     (λ c κs. search rules)
-    (λ c. rw (← c.before.curve-line.ensures, ne_eqb _ _ c.if1.true))
-    (λ c. rw (← c.before.curve-line.ensures, eq-eqb _ _ c.if1.false)))
+    (λ c. rw (← c.curve_line-d.ensures, ne_eqb _ _ c.if-fault-ne0.true))
+    (λ c. rw (← c.curve_line-d.ensures, eq-eqb _ _ c.if-fault-ne0.false)))

@@ -9,15 +9,15 @@ use lib.ListN.{get_or-eq_default}
 use Rattle.engine.proofs.set.is_defined.Statement.{statement}
 use Rattle.engine.proofs.set.is_defined.Tie as tie
 
-pub is-defined-spec : {M : Type 1} → statement M
-is-defined-spec =
+pub is_defined_spec : {M : Type 1} → statement M
+is_defined_spec =
     tie.close
     (tie.spec
-    (λ c. rw (lt-leb 1 c.before.args.n c.if1.true))
+    (λ c. rw (lt-leb 1 c.args.n c.if-n-lt1.true))
     (λ c. search rules)
     (λ c.
     let e = c.before.before in
-    let a = e.before.args in
-    rw (le-leb 1 a.n e.if1.false) (sym (get_or-eq_default a.curves.now false {n = a.n - 1} (omega arith))))
+    let a = e.args in
+    rw (le-leb 1 a.n e.if-n-lt1.false) (sym (get_or-eq_default a.curves.now false {n = a.n - 1} (omega arith))))
     (λ c. omega arith)
-    (λ c. let e = c.before.before.before in rw (le-leb 1 e.before.args.n e.if1.false)))
+    (λ c. let e = c.before.before.before in rw (le-leb 1 e.args.n e.if-n-lt1.false)))

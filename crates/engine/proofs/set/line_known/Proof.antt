@@ -5,5 +5,5 @@ use mathlib.Core.Path.{sym}
 use Rattle.engine.proofs.set.line_known.Statement.{statement}
 use Rattle.engine.proofs.set.line_known.Tie as tie
 
-pub line-known-spec : {M : Type 1} → statement M
-line-known-spec = tie.close (tie.spec (λ c. sym (c.before.requires (not-true _ c.if1.true))) (λ c κs. search rules) (λ c. c.names-known.ensures))
+pub line_known_spec : {M : Type 1} → statement M
+line_known_spec = tie.close (tie.spec (λ c. sym (c.requires (not-true _ c.if-not-names.true-raw))) (λ c κs. search rules) (λ c. c.names_known.ensures))

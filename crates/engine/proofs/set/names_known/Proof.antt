@@ -11,44 +11,44 @@ use Rattle.tokens.specs.BetweenLaws.{lies-inside}
 use Rattle.engine.proofs.set.names_known.Statement.{statement}
 use Rattle.engine.proofs.set.names_known.Tie as tie
 
-abbrev invariant-loop : tie.invariant-loop
+abbrev invariant-loop : tie.invariant-loop-left
 invariant-loop set numbers curves asked start p₀ left₀ p left = names_known set (asked_table asked numbers curves) left p ≡ names_known set (asked_table asked numbers curves) set_size start
 
-abbrev decreases-loop : tie.decreases-loop
+abbrev decreases-loop : tie.decreases-loop-left
 decreases-loop set numbers curves asked start p₀ left₀ p left = left
 
-pub names-known-spec : {M : Type 1} → statement M
-names-known-spec =
+pub names_known_spec : {M : Type 1} → statement M
+names_known_spec =
     tie.close
     (tie.spec
     invariant-loop
     decreases-loop
     (λ c. refl)
     (λ c κs. search rules)
-    (λ c. sym (names-end _ _ _ _ c.before.token-at.ensures c.if1.true _ (omega arith)) ∙ c.before.before.before.before.loop.invariant)
+    (λ c. sym (names-end _ _ _ _ c.token_at-t.ensures c.if-t-eq-END.true _ (omega arith)) ∙ c.loop-left.invariant)
     (λ c κs. search rules)
     (λ c.
     let e = c.before.before.before in
     let b = e.before.before.before.before in
-    omega (arith, lies-inside b.before.args.set.now b.loop.p e.before.token-at.ensures e.if1.false))
+    omega (arith, lies-inside b.args.set.now b.loop-left.p e.token_at-t.ensures e.if-t-eq-END.false))
     (λ c κs. search rules)
     (λ c κs. search rules)
     (λ c κs. search rules)
     (λ c.
     let d = c.before.before.before.before.before in
     let b = d.before.before.before.before.before.before in
-    let a = b.before.args in
-    sym (names-not _ (asked_table a.asked a.numbers.now a.curves.now) _ _ d.before.before.before.token-at.ensures d.before.before.if1.false (sym d.before.is-naming.ensures ∙ d.if2.true) _ _ c.before.before.before.token-at2.ensures c.before.before.whole_of.ensures _ c.before.name-known.ensures (not-true _ c.if3.true) _ (omega arith)) ∙ b.loop.invariant)
+    let a = b.args in
+    sym (names-not _ (asked_table a.asked a.numbers.now a.curves.now) _ _ d.token_at-t.ensures d.if-t-eq-END.false (sym d.is_naming.ensures ∙ d.if-is_naming.true) _ _ c.token_at.ensures c.whole_of-n.ensures _ c.name_known.ensures (not-true _ c.if-not-name_known.true-raw) _ (omega arith)) ∙ b.loop-left.invariant)
     (λ c.
     let e = c.before.before in
     let b = e.before.before.before.before in
-    omega (arith, lies-inside b.before.args.set.now b.loop.p e.before.token-at.ensures e.if1.false))
+    omega (arith, lies-inside b.args.set.now b.loop-left.p e.token_at-t.ensures e.if-t-eq-END.false))
     (λ c. omega arith)
     (λ c. omega arith)
     (λ c.
     let b = c.before.before.before.before.before.before in
-    let a = b.before.args in
-    ⊎_elim (λ w. sym (names-on _ (asked_table a.asked a.numbers.now a.curves.now) _ _ c.before.before.before.token-at.ensures c.before.before.if1.false (sym c.before.is-naming.ensures ∙ w.0.taken) _ _ w.2.ensures w.3.ensures _ w.4.ensures (not-false _ w.5.left) b.loop.left (omega arith)) ∙ b.loop.invariant)
-    (λ w. sym (names-other _ _ _ _ c.before.before.before.token-at.ensures c.before.before.if1.false (sym c.before.is-naming.ensures ∙ w.left) b.loop.left (omega arith)) ∙ b.loop.invariant)
-    c.if2.branch)
-    (λ c. sym (names-none _ _ _ _ (omega arith)) ∙ c.before.loop.invariant))
+    let a = b.args in
+    ⊎_elim (λ w. sym (names-on _ (asked_table a.asked a.numbers.now a.curves.now) _ _ c.token_at-t.ensures c.if-t-eq-END.false (sym c.is_naming.ensures ∙ w.0.taken) _ _ w.2.ensures w.3.ensures _ w.4.ensures (not-false _ w.5.left) b.loop-left.left (omega arith)) ∙ b.loop-left.invariant)
+    (λ w. sym (names-other _ _ _ _ c.token_at-t.ensures c.if-t-eq-END.false (sym c.is_naming.ensures ∙ w.left) b.loop-left.left (omega arith)) ∙ b.loop-left.invariant)
+    c.if-is_naming.branch)
+    (λ c. sym (names-none _ _ _ _ (omega arith)) ∙ c.loop-left.invariant))

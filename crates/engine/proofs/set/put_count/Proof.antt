@@ -3,5 +3,5 @@ use borrow.Author.Rules.{rules}
 use Rattle.engine.proofs.set.put_count.Statement.{statement}
 use Rattle.engine.proofs.set.put_count.Tie as tie
 
-pub put-count-spec : {M : Type 1} → statement M
-put-count-spec = tie.close (tie.spec (λ c κs. search rules) (λ c. c.put.ensures))
+pub put_count_spec : {M : Type 1} → statement M
+put_count_spec = tie.close (tie.spec (λ c κs. search rules) (λ c. c.put.ensures))

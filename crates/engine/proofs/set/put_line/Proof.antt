@@ -5,6 +5,6 @@ use Rattle.engine.specs.Set.{with_line}
 use Rattle.engine.proofs.set.put_line.Statement.{statement}
 use Rattle.engine.proofs.set.put_line.Tie as tie
 
-pub put-line-spec : {M : Type 1} → statement M
+pub put_line_spec : {M : Type 1} → statement M
 unfolding with_line
-put-line-spec = tie.close (tie.spec (λ c κs. search rules) (λ c κs. search rules) (λ c. c.put-tokens.ensures ∙ rw c.before.before.put.ensures))
+put_line_spec = tie.close (tie.spec (λ c κs. search rules) (λ c κs. search rules) (λ c. c.put_tokens.ensures ∙ rw c.put.ensures))

@@ -11,21 +11,21 @@ use Rattle.engine.proofs.SetLaws.{tokens-next, tokens-end}
 use Rattle.engine.proofs.set.put_tokens.Statement.{statement}
 use Rattle.engine.proofs.set.put_tokens.Tie as tie
 
-abbrev invariant-loop : tie.invariant-loop
+abbrev invariant-loop : tie.invariant-loop-i
 invariant-loop set₀ at tokens p₀ i₀ set p i = (put_at set p (with_end (map without_mark (drop i tokens))) ≡ put_at set₀ at (with_end (map without_mark tokens))) × (p ≡ at + i) × (i ≤ length tokens)
 
-abbrev decreases-loop : tie.decreases-loop
+abbrev decreases-loop : tie.decreases-loop-i
 decreases-loop set₀ at tokens p₀ i₀ set p i = length tokens - i
 
-pub put-tokens-spec : {M : Type 1} → statement M
-put-tokens-spec =
+pub put_tokens_spec : {M : Type 1} → statement M
+put_tokens_spec =
     tie.close
     (tie.spec
     invariant-loop
     decreases-loop
     (λ c. (refl, omega arith, omega arith))
     (λ c. omega arith)
-    (λ c. omega (arith, c.shared-slice-known2.given c.before.before.before.loop.i))
+    (λ c. omega (arith, c.shared_slice_known-in-loop-i-1.given c.loop-i.i))
     (λ c κs. search rules)
     (λ c κs. search rules)
     (λ c. omega arith)
@@ -33,9 +33,9 @@ put-tokens-spec =
     (λ c. omega arith)
     (λ c.
     let b = c.before.before.before.before.before in (
-      rw (c.put.ensures, c.before.without-mark.ensures) (sym (tokens-next _ _ _ b.loop.i (omega arith)) ∙ b.loop.invariant.0),
+      rw (c.put.ensures, c.without_mark.ensures) (sym (tokens-next _ _ _ b.loop-i.i (omega arith)) ∙ b.loop-i.invariant.0),
       omega arith,
       omega arith,
     ))
     (λ c κs. search rules)
-    (λ c. let b = c.before.before.before in c.put2.ensures ∙ (sym (tokens-end _ _ _ b.loop.i (omega arith)) ∙ b.loop.invariant.0)))
+    (λ c. let b = c.before.before.before in c.put-2.ensures ∙ (sym (tokens-end _ _ _ b.loop-i.i (omega arith)) ∙ b.loop-i.invariant.0)))

@@ -9,14 +9,14 @@ use Rattle.engine.proofs.SetLaws.{lines-fault, lines-order, lines-on, lines_none
 use Rattle.engine.proofs.set.read_lines.Statement.{statement}
 use Rattle.engine.proofs.set.read_lines.Tie as tie
 
-abbrev invariant-loop : tie.invariant-loop
+abbrev invariant-loop : tie.invariant-loop-k
 invariant-loop set count numbers₀ items₀ last₀ k₀ numbers items last k = (lines_from set (count - k) k last numbers items ≡ lines_read set) × (k ≤ count)
 
-abbrev decreases-loop : tie.decreases-loop
+abbrev decreases-loop : tie.decreases-loop-k
 decreases-loop set count numbers₀ items₀ last₀ k₀ numbers items last k = count - k
 
-pub read-lines-spec : {M : Type 1} → statement M
-read-lines-spec =
+pub read_lines_spec : {M : Type 1} → statement M
+read_lines_spec =
     tie.close
     (tie.spec
     invariant-loop
@@ -24,23 +24,23 @@ read-lines-spec =
     (λ c κs. search rules)
     (λ c. search rules)
     (λ c κs. search rules)
-    (λ c. c.no_lines.ensures ∙ sym (read-many c.before.before.before.before.args.set.now (omega (arith, c.before.before.token-at.ensures))))
+    (λ c. c.no_lines.ensures ∙ sym (read-many c.args.set.now (omega (arith, c.token_at-count.ensures))))
     (λ c κs. search rules)
-    (λ c. (rw c.no_line.ensures (read-few c.before.before.before.before.args.set.now _ c.before.before.token-at.ensures (omega arith)), omega arith))
+    (λ c. (rw c.no_line-items.ensures (read-few c.args.set.now _ c.token_at-count.ensures (omega arith)), omega arith))
     (λ c. search rules)
     (λ c κs. search rules)
     (λ c. search rules)
     (λ c κs. search rules)
     (λ c κs. search rules)
-    (λ c. c.no-lines2.ensures ∙ (sym (lines-fault _ _ _ _ _ _ _ c.before.before.before.token-at2.ensures _ c.before.before.line_at.ensures (omega arith) c.before.if2.true) ∙ c.before.before.before.before.before.before.loop.invariant.0))
+    (λ c. c.no_lines-then-fault-ne0.ensures ∙ (sym (lines-fault _ _ _ _ _ _ _ c.token_at-start.ensures _ c.line_at-l.ensures (omega arith) c.if-fault-ne0.true) ∙ c.loop-k.invariant.0))
     (λ c κs. search rules)
-    (λ c. c.no-lines3.ensures ∙ (sym (lines-order _ _ _ _ _ _ _ c.before.before.before.before.token-at2.ensures _ c.before.before.before.line_at.ensures (omega arith) c.before.before.if2.false c.before.if3.true) ∙ c.before.before.before.before.before.before.before.loop.invariant.0))
+    (λ c. c.no_lines-then-number-last.ensures ∙ (sym (lines-order _ _ _ _ _ _ _ c.token_at-start.ensures _ c.line_at-l.ensures (omega arith) c.if-fault-ne0.false c.if-number-last.true) ∙ c.loop-k.invariant.0))
     (λ c. search rules)
     (λ c. search rules)
     (λ c. search rules)
     (λ c. search rules)
     (λ c. omega arith)
-    (λ c. (sym (lines-on _ _ _ _ _ _ _ c.before.before.before.token-at2.ensures _ c.before.before.line_at.ensures (omega arith) c.before.if2.false c.if3.false) ∙ c.before.before.before.before.before.before.loop.invariant.0, omega arith))
+    (λ c. (sym (lines-on _ _ _ _ _ _ _ c.token_at-start.ensures _ c.line_at-l.ensures (omega arith) c.if-fault-ne0.false c.if-number-last.false) ∙ c.loop-k.invariant.0, omega arith))
     (λ c.
-    let e : c.before.loop.k ≡ c.before.before.before.before.token-at.result = omega arith in
-    ap (λ (n : ℕ). record { sound = true; count = n; numbers = c.before.loop.numbers; items = c.before.loop.items }) (sym e) ∙ (sym (lines_none _ _ _ 0 _ _ _ (omega arith)) ∙ c.before.loop.invariant.0)))
+    let e : c.loop-k.k ≡ c.token_at-count.result = omega arith in
+    ap (λ (n : ℕ). record { sound = true; count = n; numbers = c.loop-k.numbers; items = c.loop-k.items }) (sym e) ∙ (sym (lines_none _ _ _ 0 _ _ _ (omega arith)) ∙ c.loop-k.invariant.0)))

@@ -13,14 +13,14 @@ use Rattle.engine.proofs.SoundTestLaws.{ranged-next, ranged-done}
 use Rattle.engine.proofs.sound.all_ranged.Statement.{statement}
 use Rattle.engine.proofs.sound.all_ranged.Tie as tie
 
-abbrev invariant-loop : tie.invariant-loop
+abbrev invariant-loop : tie.invariant-loop-i
 invariant-loop xs good₀ i₀ good i = (good && all_ranged (drop i xs)) ≡ all_ranged xs
 
-abbrev decreases-loop : tie.decreases-loop
+abbrev decreases-loop : tie.decreases-loop-i
 decreases-loop xs good₀ i₀ good i = length xs - i
 
-pub all-ranged-spec : {M : Type 1} → statement M
-all-ranged-spec =
+pub all_ranged_spec : {M : Type 1} → statement M
+all_ranged_spec =
     tie.close
     (tie.spec
     invariant-loop
@@ -31,5 +31,5 @@ all-ranged-spec =
     (λ c κs. search rules)
     (λ c. omega arith)
     (λ c. omega arith)
-    (λ c. ranged-next _ c.before.before.before.loop.i (omega arith) _ (c.in-range.ensures ∙ ap in_range (back w32 (record { sfits = c.before.in-range-arg.given }))) c.before.before.before.loop.good ∙ c.before.before.before.loop.invariant)
-    (λ c. ranged-done _ c.before.loop.i (omega arith) c.before.loop.good ∙ c.before.loop.invariant))
+    (λ c. ranged-next _ c.loop-i.i (omega arith) _ (c.in_range-good.ensures ∙ ap in_range (back w32 (record { sfits = c.in_range-arg-1.given }))) c.loop-i.good ∙ c.loop-i.invariant)
+    (λ c. ranged-done _ c.loop-i.i (omega arith) c.loop-i.good ∙ c.loop-i.invariant))

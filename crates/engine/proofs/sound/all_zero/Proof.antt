@@ -14,14 +14,14 @@ use Rattle.engine.proofs.SoundTestLaws.{zero-next, zero-done}
 use Rattle.engine.proofs.sound.all_zero.Statement.{statement}
 use Rattle.engine.proofs.sound.all_zero.Tie as tie
 
-abbrev invariant-loop : tie.invariant-loop
+abbrev invariant-loop : tie.invariant-loop-i
 invariant-loop xs n good₀ i₀ good i = (good && all_zero (drop i xs)) ≡ all_zero (drop n xs)
 
-abbrev decreases-loop : tie.decreases-loop
+abbrev decreases-loop : tie.decreases-loop-i
 decreases-loop xs n good₀ i₀ good i = length xs - i
 
-pub all-zero-spec : {M : Type 1} → statement M
-all-zero-spec =
+pub all_zero_spec : {M : Type 1} → statement M
+all_zero_spec =
     tie.close
     (tie.spec
     invariant-loop
@@ -32,5 +32,5 @@ all-zero-spec =
     (λ c κs. search rules)
     (λ c. omega arith)
     (λ c. omega arith)
-    (λ c. zero-next _ c.before.before.before.loop.i (omega arith) _ (c.is-equal.ensures ∙ ap (λ (v : ℤ). equal_to v (pos 0)) (back w32 (record { sfits = c.before.is-equal-arg.given }))) c.before.before.before.loop.good ∙ c.before.before.before.loop.invariant)
-    (λ c. zero-done _ c.before.loop.i (omega arith) c.before.loop.good ∙ c.before.loop.invariant))
+    (λ c. zero-next _ c.loop-i.i (omega arith) _ (c.is_equal-good.ensures ∙ ap (λ (v : ℤ). equal_to v (pos 0)) (back w32 (record { sfits = c.is_equal-arg-1.given }))) c.loop-i.good ∙ c.loop-i.invariant)
+    (λ c. zero-done _ c.loop-i.i (omega arith) c.loop-i.good ∙ c.loop-i.invariant))

@@ -10,14 +10,14 @@ use Rattle.engine.proofs.SoundTestLaws.{counts-next, counts-done}
 use Rattle.engine.proofs.sound.are_act_counts.Statement.{statement}
 use Rattle.engine.proofs.sound.are_act_counts.Tie as tie
 
-abbrev invariant-loop : tie.invariant-loop
+abbrev invariant-loop : tie.invariant-loop-k
 invariant-loop count acts good₀ k₀ good k = ((good && are_act_counts count acts (max_lines - k) k) ≡ are_act_counts count acts max_lines 0) × (k ≤ max_lines)
 
-abbrev decreases-loop : tie.decreases-loop
+abbrev decreases-loop : tie.decreases-loop-k
 decreases-loop count acts good₀ k₀ good k = max_lines - k
 
-pub are-act-counts-spec : {M : Type 1} → statement M
-are-act-counts-spec =
+pub are_act_counts_spec : {M : Type 1} → statement M
+are_act_counts_spec =
     tie.close
     (tie.spec
     invariant-loop
@@ -28,5 +28,5 @@ are-act-counts-spec =
     (λ c κs. search rules)
     (λ c. omega arith)
     (λ c. omega arith)
-    (λ c. let b = c.before.before.before in (counts-next _ _ b.loop.k (omega arith) _ c.is-act-count.ensures b.loop.good ∙ b.loop.invariant.0, omega arith))
-    (λ c. counts-done _ _ c.before.loop.k _ (omega arith) c.before.loop.good ∙ c.before.loop.invariant.0))
+    (λ c. let b = c.before.before.before in (counts-next _ _ b.loop-k.k (omega arith) _ c.is_act_count-good.ensures b.loop-k.good ∙ b.loop-k.invariant.0, omega arith))
+    (λ c. counts-done _ _ c.loop-k.k _ (omega arith) c.loop-k.good ∙ c.loop-k.invariant.0))

@@ -6,8 +6,8 @@ use Rattle.engine.proofs.SoundTestLaws.{cells-done}
 use Rattle.engine.proofs.sound.are_cells.Statement.{statement}
 use Rattle.engine.proofs.sound.are_cells.Tie as tie
 
-pub are-cells-spec : {M : Type 1} → statement M
-are-cells-spec =
+pub are_cells_spec : {M : Type 1} → statement M
+are_cells_spec =
     tie.close
     (tie.spec
     (λ c κs. (omega arith, omega arith))
@@ -15,4 +15,4 @@ are-cells-spec =
     (λ c κs. (omega arith, omega arith))
     (λ c κs. (omega arith, omega arith))
     (λ c κs. (omega arith, omega arith))
-    (λ c. cells-done c.before.before.before.before.before.args.cells.now state_cells (omega arith) c.cells-on5.result ∙ c.cells-on5.ensures ∙ c.before.cells-on4.ensures ∙ c.before.before.cells-on3.ensures ∙ c.before.before.before.cells-on2.ensures ∙ c.before.before.before.before.cells-on.ensures))
+    (λ c. cells-done c.args.cells.now state_cells (omega arith) c.cells_on.result ∙ c.cells_on.ensures ∙ c.cells_on-timers.ensures ∙ c.cells_on-params.ensures ∙ c.cells_on-markers.ensures ∙ c.cells_on-outputs.ensures))

@@ -10,14 +10,14 @@ use Rattle.engine.proofs.SoundTestLaws.{fifos-next, fifos-done}
 use Rattle.engine.proofs.sound.are_fifos.Statement.{statement}
 use Rattle.engine.proofs.sound.are_fifos.Tie as tie
 
-abbrev invariant-loop : tie.invariant-loop
+abbrev invariant-loop : tie.invariant-loop-k
 invariant-loop r cells good₀ k₀ good k = ((good && are_fifos r cells (fifos - k) k) ≡ are_fifos r cells fifos 0) × (k ≤ fifos)
 
-abbrev decreases-loop : tie.decreases-loop
+abbrev decreases-loop : tie.decreases-loop-k
 decreases-loop r cells good₀ k₀ good k = fifos - k
 
-pub are-fifos-spec : {M : Type 1} → statement M
-are-fifos-spec =
+pub are_fifos_spec : {M : Type 1} → statement M
+are_fifos_spec =
     tie.close
     (tie.spec
     invariant-loop
@@ -26,5 +26,5 @@ are-fifos-spec =
     (λ c κs. search rules)
     (λ c. omega arith)
     (λ c. omega arith)
-    (λ c. (fifos-next _ _ c.before.before.loop.k (omega arith) _ c.is-fifo-sound.ensures c.before.before.loop.good ∙ c.before.before.loop.invariant.0, omega arith))
-    (λ c. fifos-done _ _ c.before.loop.k _ (omega arith) c.before.loop.good ∙ c.before.loop.invariant.0))
+    (λ c. (fifos-next _ _ c.loop-k.k (omega arith) _ c.is_fifo_sound-good.ensures c.loop-k.good ∙ c.loop-k.invariant.0, omega arith))
+    (λ c. fifos-done _ _ c.loop-k.k _ (omega arith) c.loop-k.good ∙ c.loop-k.invariant.0))

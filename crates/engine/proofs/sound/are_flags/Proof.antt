@@ -10,14 +10,14 @@ use Rattle.engine.proofs.SoundTestLaws.{flags-next, flags-done}
 use Rattle.engine.proofs.sound.are_flags.Statement.{statement}
 use Rattle.engine.proofs.sound.are_flags.Tie as tie
 
-abbrev invariant-loop : tie.invariant-loop
+abbrev invariant-loop : tie.invariant-loop-k
 invariant-loop count locked cancelled memory good₀ k₀ good k = ((good && are_flags count locked cancelled memory (max_lines - k) k) ≡ are_flags count locked cancelled memory max_lines 0) × (k ≤ max_lines)
 
-abbrev decreases-loop : tie.decreases-loop
+abbrev decreases-loop : tie.decreases-loop-k
 decreases-loop count locked cancelled memory good₀ k₀ good k = max_lines - k
 
-pub are-flags-spec : {M : Type 1} → statement M
-are-flags-spec =
+pub are_flags_spec : {M : Type 1} → statement M
+are_flags_spec =
     tie.close
     (tie.spec
     invariant-loop
@@ -29,5 +29,5 @@ are-flags-spec =
     (λ c κs. search rules)
     (λ c. omega arith)
     (λ c. omega arith)
-    (λ c. (flags-next _ _ _ _ c.before.before.before.before.before.loop.k (omega arith) _ c.is-flag.ensures c.before.before.before.before.before.loop.good ∙ c.before.before.before.before.before.loop.invariant.0, omega arith))
-    (λ c. flags-done _ _ _ _ c.before.loop.k _ (omega arith) c.before.loop.good ∙ c.before.loop.invariant.0))
+    (λ c. (flags-next _ _ _ _ c.loop-k.k (omega arith) _ c.is_flag-good.ensures c.loop-k.good ∙ c.loop-k.invariant.0, omega arith))
+    (λ c. flags-done _ _ _ _ c.loop-k.k _ (omega arith) c.loop-k.good ∙ c.loop-k.invariant.0))

@@ -12,14 +12,14 @@ use Rattle.engine.proofs.SoundTestLaws.{cells-next}
 use Rattle.engine.proofs.sound.cells_on.Statement.{statement}
 use Rattle.engine.proofs.sound.cells_on.Tie as tie
 
-abbrev invariant-loop : tie.invariant-loop
+abbrev invariant-loop : tie.invariant-loop-i
 invariant-loop cells from to before good₀ i₀ good i = ((good && are_cells (drop i cells) i) ≡ (before && are_cells (drop from cells) from)) × (i ≤ to)
 
-abbrev decreases-loop : tie.decreases-loop
+abbrev decreases-loop : tie.decreases-loop-i
 decreases-loop cells from to before good₀ i₀ good i = to - i
 
-pub cells-on-spec : {M : Type 1} → statement M
-cells-on-spec =
+pub cells_on_spec : {M : Type 1} → statement M
+cells_on_spec =
     tie.close
     (tie.spec
     invariant-loop
@@ -32,7 +32,7 @@ cells-on-spec =
     (λ c. omega arith)
     (λ c.
     let l = c.before.before.before in (
-      cells-next _ l.loop.i (omega arith) _ (c.is-cell.ensures ∙ ap (is_cell l.loop.i) (back w32 (record { sfits = c.before.is-cell-arg.given }))) l.loop.good ∙ l.loop.invariant.0,
+      cells-next _ l.loop-i.i (omega arith) _ (c.is_cell-good.ensures ∙ ap (is_cell l.loop-i.i) (back w32 (record { sfits = c.is_cell-arg-1.given }))) l.loop-i.good ∙ l.loop-i.invariant.0,
       omega arith,
     ))
-    (λ c. let l = c.before in let e : l.loop.i ≡ l.before.args.to = omega arith in rw e at l.loop.invariant.0))
+    (λ c. let l = c.before in let e : l.loop-i.i ≡ l.args.to = omega arith in rw e at l.loop-i.invariant.0))

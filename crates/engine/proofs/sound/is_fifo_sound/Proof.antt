@@ -16,12 +16,12 @@ use Rattle.engine.proofs.sound.is_fifo_sound.Tie as tie
 size : (k : ℕ) → run_at k + places - run_at k ≡ places
 size k = omega arith
 
-count : (c : tie.After-count-of) → c.count_of.result ≡ count_in c.before.before.args.cells.now c.before.before.args.k
-count c = c.count_of.ensures ∙ ap as_count (back w32 {z = get_or c.before.before.args.cells.now (count_at + c.before.before.args.k) (pos 0)} (record { sfits = c.before.count-of-arg.given }))
+count : (c : tie.After-count_of-count) → c.count_of-count.result ≡ count_in c.args.cells.now c.args.k
+count c = c.count_of-count.ensures ∙ ap as_count (back w32 {z = get_or c.args.cells.now (count_at + c.args.k) (pos 0)} (record { sfits = c.count_of-arg-1.given }))
 
-pub is-fifo-sound-spec : {M : Type 1} → statement M
+pub is_fifo_sound_spec : {M : Type 1} → statement M
 unfolding is_fifo_sound
-is-fifo-sound-spec =
+is_fifo_sound_spec =
     tie.close
     (tie.spec
     (λ c. search rules)
@@ -37,4 +37,4 @@ is-fifo-sound-spec =
     (λ c. search rules)
     (λ c. search rules)
     (λ c κs. search rules)
-    (λ c. c.all-zero.ensures ∙ rw (size, count c.before.before.before)))
+    (λ c. c.all_zero.ensures ∙ rw (size, count c.before.before.before)))

@@ -4,14 +4,14 @@ use Rattle.engine.specs.Sound.{is_flag}
 use Rattle.engine.proofs.sound.is_flag.Statement.{statement}
 use Rattle.engine.proofs.sound.is_flag.Tie as tie
 
-pub is-flag-spec : {M : Type 1} → statement M
+pub is_flag_spec : {M : Type 1} → statement M
 unfolding is_flag
-is-flag-spec =
+is_flag_spec =
     tie.close
     (tie.spec
-    (λ c. simp (lt-ltb _ _ c.before.before.if1.true, c.before.if2.true, c.if3.true))
-    (λ c. simp (lt-ltb _ _ c.before.before.if1.true, c.before.if2.true, c.if3.false))
-    (λ c. simp (lt-ltb _ _ c.before.if1.true, c.if2.false))
-    (λ c. simp (le-ltb _ _ c.before.if1.false, c.if4.true))
-    (λ c. simp (le-ltb _ _ c.before.before.if1.false, c.before.if4.false, c.if5.true))
-    (λ c. simp (le-ltb _ _ c.before.before.if1.false, c.before.if4.false, c.if5.false)))
+    (λ c. simp (lt-ltb _ _ c.if-k-count.true, c.if-cancelled.true, c.if-locked.true))
+    (λ c. simp (lt-ltb _ _ c.if-k-count.true, c.if-cancelled.true, c.if-locked.false))
+    (λ c. simp (lt-ltb _ _ c.if-k-count.true, c.if-cancelled.false))
+    (λ c. simp (le-ltb _ _ c.if-k-count.false, c.if-locked-2.true))
+    (λ c. simp (le-ltb _ _ c.if-k-count.false, c.if-locked-2.false, c.if-memory.true))
+    (λ c. simp (le-ltb _ _ c.if-k-count.false, c.if-locked-2.false, c.if-memory.false)))

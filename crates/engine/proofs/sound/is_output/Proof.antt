@@ -11,17 +11,17 @@ use Rattle.engine.proofs.SoundTestLaws.{output-alarm}
 use Rattle.engine.proofs.sound.is_output.Statement.{statement}
 use Rattle.engine.proofs.sound.is_output.Tie as tie
 
-output : (c : tie.After-output) → c.output.result ≡ output_of c.before.args.v
-output c = c.output.ensures ∙ ap output_of (back w32 c.before.ranges.v)
+output : (c : tie.After-output) → c.output.result ≡ output_of c.args.v
+output c = c.output.ensures ∙ ap output_of (back w32 c.ranges.v)
 
-pub is-output-spec : {M : Type 1} → statement M
-is-output-spec =
+pub is_output_spec : {M : Type 1} → statement M
+is_output_spec =
     tie.close
     (tie.spec
     (λ c κs. search rules)
     (λ c. search rules)
     (λ c. search rules)
-    (λ c. ap (λ (x : Worked). eqb (code_of x) 0) (sym c.enum_told.given.1 ∙ output c.before.before))
+    (λ c. ap (λ (x : Worked). eqb (code_of x) 0) (sym c.in-Value.is ∙ output c.before))
     (λ c.
-    let told = sym c.enum-told2.given.1 ∙ output c.before.before in
+    let told = sym c.in-Alarm.is ∙ output c.before in
     sym (ne_eqb _ 0 (output-alarm _ _ (sym told))) ∙ ap (λ (x : Worked). eqb (code_of x) 0) told))

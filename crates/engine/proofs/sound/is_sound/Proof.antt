@@ -6,11 +6,11 @@ use Rattle.engine.proofs.SoundTestLaws.{unsound-set, sound-as}
 use Rattle.engine.proofs.sound.is_sound.Statement.{statement}
 use Rattle.engine.proofs.sound.is_sound.Tie as tie
 
-pub is-sound-spec : {M : Type 1} → statement M
-is-sound-spec =
+pub is_sound_spec : {M : Type 1} → statement M
+is_sound_spec =
     tie.close
     (tie.spec
     (λ c κs. search rules)
-    (λ c. sym (unsound-set _ _ _ c.before.sound-lines.ensures (not-true _ c.if1.true)))
+    (λ c. sym (unsound-set _ _ _ c.sound_lines-lines.ensures (not-true _ c.if-not-sound.true-raw)))
     (λ c κs. search rules)
-    (λ c. sym (sound-as _ _ _ c.before.before.sound-lines.ensures (not-false _ c.before.if1.false) _ c.is-state-sound.ensures)))
+    (λ c. sym (sound-as _ _ _ c.sound_lines-lines.ensures (not-false _ c.if-not-sound.false-raw) _ c.is_state_sound.ensures)))

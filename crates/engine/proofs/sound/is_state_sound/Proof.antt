@@ -3,10 +3,10 @@ use borrow.Author.Rules.{rules}
 use Rattle.engine.proofs.sound.is_state_sound.Statement.{statement}
 use Rattle.engine.proofs.sound.is_state_sound.Tie as tie
 
-pub is-state-sound-spec : {M : Type 1} → statement M
-is-state-sound-spec =
+pub is_state_sound_spec : {M : Type 1} → statement M
+is_state_sound_spec =
     tie.close
     (tie.spec
     (λ c. search rules)
     (λ c κs. search rules)
-    (λ c. c.is-held-sound.ensures c.before.before.before.before.before.before.before.before.before.before.before.before.before.before.args.state.runs))
+    (λ c. c.is_held_sound.ensures c.args.state.runs))

@@ -4,6 +4,6 @@ use Rattle.engine.specs.State.{power_on}
 use Rattle.engine.proofs.state.power_on.Statement.{statement}
 use Rattle.engine.proofs.state.power_on.Tie as tie
 
-pub power-on-spec : {M : Type 1} → statement M
+pub power_on_spec : {M : Type 1} → statement M
 unfolding power_on
-power-on-spec = tie.close (tie.spec (λ c κs. search rules) (λ c. rw c.fresh-channels.ensures))
+power_on_spec = tie.close (tie.spec (λ c κs. search rules) (λ c. rw c.fresh_channels-channels.ensures))

@@ -3,11 +3,11 @@ use Rattle.engine.specs.Status.{standing_of}
 use Rattle.engine.proofs.status.standing_of.Statement.{statement}
 use Rattle.engine.proofs.status.standing_of.Tie as tie
 
-pub standing-of-spec : {M : Type 1} → statement M
+pub standing_of_spec : {M : Type 1} → statement M
 unfolding standing_of
-standing-of-spec =
+standing_of_spec =
     tie.close
     (tie.spec
-    (λ c. simp (standing_of, c.if1.true))
-    (λ c. simp (standing_of, c.before.if1.false, c.if2.true))
-    (λ c. simp (standing_of, c.before.if1.false, c.if2.false)))
+    (λ c. simp (standing_of, c.if-cancelled.true))
+    (λ c. simp (standing_of, c.if-cancelled.false, c.if-locked.true))
+    (λ c. simp (standing_of, c.if-cancelled.false, c.if-locked.false)))

@@ -8,21 +8,21 @@ use Rattle.engine.proofs.StatusLaws.{picture-unsound, picture-sound}
 use Rattle.engine.proofs.status.status_of.Statement.{statement}
 use Rattle.engine.proofs.status.status_of.Tie as tie
 
-pub status-of-spec : {M : Type 1} → statement M
-status-of-spec =
+pub status_of_spec : {M : Type 1} → statement M
+status_of_spec =
     tie.close
     (tie.spec
     (λ c κs. search rules)
     (λ c κs. search rules)
-    (λ c. let i = c.before in c.no-picture.ensures ∙ sym (picture-unsound _ _ (unsound-set _ _ _ i.before.sound-lines.ensures (not-true _ i.if1.true))))
+    (λ c. let i = c.before in c.no_picture.ensures ∙ sym (picture-unsound _ _ (unsound-set _ _ _ i.sound_lines-lines.ensures (not-true _ i.if-not-sound.true-raw))))
     (λ c κs. search rules)
     (λ c κs. search rules)
     (λ c.
     let i = c.before in
     let a = i.before.before in
-    c.no-picture2.ensures ∙ sym (picture-unsound _ _ (sound-as _ _ _ a.before.sound-lines.ensures (not-false _ a.if1.false) _ i.before.is-state-sound.ensures ∙ not-true _ i.if2.true)))
-    (λ c κs. rw c.before.before.before.sound-lines.ensures (sound-count _))
+    c.no_picture-then-not-is_state_sound.ensures ∙ sym (picture-unsound _ _ (sound-as _ _ _ a.sound_lines-lines.ensures (not-false _ a.if-not-sound.false-raw) _ i.is_state_sound.ensures ∙ not-true _ i.if-not-is_state_sound.true-raw)))
+    (λ c κs. rw c.sound_lines-lines.ensures (sound-count _))
     (λ c.
     let i = c.before in
     let a = i.before.before in
-    sym (picture-sound _ _ (sound-as _ _ _ a.before.sound-lines.ensures (not-false _ a.if1.false) _ i.before.is-state-sound.ensures ∙ not-false _ i.if2.false) a.before.sound-lines.ensures c.status-lines.ensures)))
+    sym (picture-sound _ _ (sound-as _ _ _ a.sound_lines-lines.ensures (not-false _ a.if-not-sound.false-raw) _ i.is_state_sound.ensures ∙ not-false _ i.if-not-is_state_sound.false-raw) a.sound_lines-lines.ensures c.status_lines-rows.ensures)))

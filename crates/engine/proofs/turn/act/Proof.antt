@@ -14,26 +14,26 @@ use Rattle.engine.proofs.TurnLaws.{next_bit, word_fits, same_turn, done-turned}
 use Rattle.engine.proofs.turn.act.Statement.{statement}
 use Rattle.engine.proofs.turn.act.Tie as tie
 
-pub act-spec : {M : Type 1} → statement M
+pub act_spec : {M : Type 1} → statement M
 unfolding do_turn
-act-spec =
+act_spec =
     tie.close
     (tie.spec
     (λ c κs. search rules)
-    (λ c. let s = c.before.before in (λ m es automatic. rw (not-true s.args.yes c.before.if1.true, c.did-all.ensures) (refl, refl), rw c.did-all.ensures (same_turn s.args.k s.args.progress s.requires.1)))
+    (λ c. let s = c.before.before in (λ m es automatic. rw (not-true s.args.yes c.if-not-yes.true-raw, c.did_all.ensures) (refl, refl), rw c.did_all.ensures (same_turn s.args.k s.args.progress s.requires.1)))
     (λ c κs. search rules)
-    (λ c. let s = c.before.before.before in omega (arith, c.before.line-bit.ensures, next_bit s.args.k, word_fits (s.args.k + 1) (omega arith)))
+    (λ c. let s = c.before.before.before in omega (arith, c.line_bit.ensures, next_bit s.args.k, word_fits (s.args.k + 1) (omega arith)))
     (λ c κs. search rules)
     (λ c.
     let b = c.before.before.before.before.before.before.before in
     let i = b.before in
-    let a = i.before.args in
+    let a = i.args in
     let d = c.actions in
     let o = d.new.1.1.1 in (
       λ m es automatic.
-          rw (not-false a.yes i.if1.false)
+          rw (not-false a.yes i.if-not-yes.false-raw)
           (done-turned d.result (world_of (vars_of o.0 o.1.0 o.1.1.0) o.1.1.1.0 m o.1.1.1.1.0 d.result.progress)
           (actions_of a.set.now (lines_in a.lines.now).numbers a.cancelled.now a.l.number max_actions (counted (world_of (vars_of a.r.now a.cells.now a.runs.now) a.locked.now m a.out.now a.progress) a.k) a.l.actions)
-          es (rw b.line-bit.ensures at (d.ensures.0 m))),
-      (omega arith, omega (arith, d.ensures.1.1, b.line-bit.ensures, next_bit a.k)),
+          es (rw b.line_bit.ensures at (d.ensures.0 m))),
+      (omega arith, omega (arith, d.ensures.1.1, b.line_bit.ensures, next_bit a.k)),
     )))

@@ -14,15 +14,15 @@ use Rattle.engine.proofs.WriteLaws.{fifo-changes}
 use Rattle.engine.proofs.write.change_fifo.Statement.{statement}
 use Rattle.engine.proofs.write.change_fifo.Tie as tie
 
-came : (c : tie.After-change-run) → let s = c.before.before in let a = s.before.before.args in change_fifo a.r.now a.cells.now a.op a.w a.v ≡ moved a.r.now a.cells.now (fifo_of a.w) (changed a.op (run a.r.now (fifo_of a.w)) s.count_of.result a.v) c.change-run.result
+came : (c : tie.After-change_run) → let s = c.before.before in let a = s.args in change_fifo a.r.now a.cells.now a.op a.w a.v ≡ moved a.r.now a.cells.now (fifo_of a.w) (changed a.op (run a.r.now (fifo_of a.w)) s.count_of-count.result a.v) c.change_run.result
 came c =
     let s = c.before.before in
-    let a = s.before.before.args in
-    fifo-changes a.r.now a.cells.now a.op a.w s.count_of.result a.v (record { sfits = s.before.count-of-arg.given }) s.count_of.ensures
-    (rw (back w32 s.before.before.ranges.v) at c.change-run.ensures.0)
+    let a = s.args in
+    fifo-changes a.r.now a.cells.now a.op a.w s.count_of-count.result a.v (record { sfits = s.count_of-arg-1.given }) s.count_of-count.ensures
+    (rw (back w32 s.ranges.v) at c.change_run.ensures.0)
 
-pub change-fifo-spec : {M : Type 1} → statement M
-change-fifo-spec =
+pub change_fifo_spec : {M : Type 1} → statement M
+change_fifo_spec =
     tie.close
     (tie.spec
     (λ c. let b = inside FIFO1 FIFO4 c.args.w c.requires in omega arith)
@@ -35,15 +35,15 @@ change-fifo-spec =
     (λ c. search rules)
     (λ c. search rules)
     (λ c. search rules)
-    (λ c. let s = c.before.before.before.before.before.before.before in let b = inside FIFO1 FIFO4 s.args.w s.requires in omega arith)
+    (λ c. let s = c.before.before.before.before.before in let b = inside FIFO1 FIFO4 s.args.w s.requires in omega arith)
     (λ c. search rules)
     (λ c. search rules)
     (λ c.
-    let d = c.before.before.before in
+    let d = c.before in
     let s = d.before.before.before.before in
-    let n = c.before.u.given.0.1.0 in
-    rw (came d, c.before.u.given.1)
-    (ap Value (back w32 (record { sfits = c.known-told.given.0.1 })), (rw (back w32 s.ranges.v) at d.change-run.ensures.1, rw (to_z_pos w32 n (omega (arith, c.known-told.given.1.0.1)))))
+    let n = c.in-Done.n in
+    rw (came d, c.in-Done.is)
+    (ap Value (back w32 (record { sfits = c.in-Done.known_told-1-own.given.0.1 })), (rw (back w32 s.ranges.v) at d.change_run.ensures.1, rw (to_z_pos w32 n (omega (arith, c.in-Done.known_told-1-own.given.1.0.1)))))
     )
-    (λ c. rw (came c.before.before.before, c.before.a.given.1) refl)
-    (λ c. rw (came c.before.before, c.enum_told.given.1) refl))
+    (λ c. rw (came c.before, c.in-Alarm.is) refl)
+    (λ c. rw (came c.before, c.in-Unfit.is) refl))

@@ -11,8 +11,8 @@ use Rattle.working.specs.Variables.{run_at}
 use Rattle.engine.proofs.write.change_run.Statement.{statement}
 use Rattle.engine.proofs.write.change_run.Tie as tie
 
-pub change-run-spec : {M : Type 1} → statement M
-change-run-spec =
+pub change_run_spec : {M : Type 1} → statement M
+change_run_spec =
     tie.close
     (tie.spec
     (λ c. search rules)
@@ -28,5 +28,5 @@ change-run-spec =
     let s = c.before.before.before in
     let a = s.args in
     let e : run_at a.k + places - run_at a.k ≡ places = omega arith in
-    let f = rw (e, back w32 s.ranges.v) at c.before.change.ensures in
-    (f.0, rw (e, f.1, drop-drop places (run_at a.k) a.r.now))))
+    let f = rw (e, back w32 s.ranges.v) at c.change.ensures in
+    (f.0, rw (e, f.1, drop-drop places (run_at a.k) a.r-1.now))))

@@ -12,11 +12,11 @@ put_spec =
     tie.close
     (tie.spec
     (λ c. search rules)
-    (λ c. omega (arith, c.before.before.before.requires))
-    (λ c. c.before.before.before.requires)
+    (λ c. omega (arith, c.requires))
+    (λ c. c.requires)
     (λ c κs. search rules)
     (λ c. search rules)
     (λ c κs. search rules)
     (λ c. λ runs.
-    rw (c.before.before.made.given.1, c.written-so.ensures, back w32 (record { sfits = c.before.known-told.given.0.1 })) (refl, (refl, refl)))
-    (λ c. λ runs. rw (c.before.before.made2.given.1, c.not_written.ensures) (refl, refl)))
+    rw (c.in-Value.is, c.written_so.ensures, back w32 (record { sfits = c.in-Value.known_told-1-own.given.0.1 })) (refl, (refl, refl)))
+    (λ c. λ runs. rw (c.in-Alarm.is, c.not_written.ensures) (refl, refl)))

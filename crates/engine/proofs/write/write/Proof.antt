@@ -13,8 +13,8 @@ use Rattle.engine.proofs.WriteAnswerLaws.{celled-written}
 use Rattle.engine.proofs.write.write.Statement.{statement}
 use Rattle.engine.proofs.write.write.Tie as tie
 
-holds : (c : tie.Else1) → let a = c.before.before.args in is_inside a.w a.i ≡ true
-holds c = sym c.before.is-inside.ensures ∙ not-false _ c.if1.false
+holds : (c : tie.Else-not-is_inside) → let a = c.args in is_inside a.w a.i ≡ true
+holds c = sym c.is_inside.ensures ∙ not-false _ c.if-not-is_inside.false-raw
 
 pub write_spec : {M : Type 1} → statement M
 unfolding write_to write_inside
@@ -23,26 +23,26 @@ write_spec =
     (tie.spec
     (λ c κs. search rules)
     (λ c κs. search rules)
-    (λ c. simp (write_to, sym c.before.before.is-inside.ensures ∙ not-true _ c.before.if1.true, c.not_written.ensures) (refl, refl))
-    (λ c. omega (arith, rw c.if2.true at (last-inside _ _ (holds c.before))))
-    (λ c. omega (arith, rw c.if2.true at (last-inside _ _ (holds c.before))))
+    (λ c. simp (write_to, sym c.is_inside.ensures ∙ not-true _ c.if-not-is_inside.true-raw, c.not_written.ensures) (refl, refl))
+    (λ c. omega (arith, rw c.if-w-eq-R.true at (last-inside _ _ (holds c.before))))
+    (λ c. omega (arith, rw c.if-w-eq-R.true at (last-inside _ _ (holds c.before))))
     (λ c κs. search rules)
     (λ c.
     let s = c.before.before in
-    simp (write_to, write_inside, holds s, eq-eqb _ _ c.before.if2.true, back w32 s.before.before.ranges.v, c.written-so.ensures) (refl, refl))
+    simp (write_to, write_inside, holds s, eq-eqb _ _ c.if-w-eq-R.true, back w32 s.ranges.v, c.written_so.ensures) (refl, refl))
     (λ c κs. search rules)
-    (λ c κs. sym c.before.before.before.is-fifo.ensures ∙ c.before.before.if3.true)
+    (λ c κs. sym c.is_fifo.ensures ∙ c.if-is_fifo.true)
     (λ c.
     let f = c.before.before.before in
     let s = f.before.before.before in
-    simp (write_to, write_inside, holds s, ne_eqb _ _ f.before.before.if2.false, sym f.before.is-fifo.ensures ∙ f.if3.true)
-    (rw (back w32 s.before.before.ranges.v) at (c.write-fifo.ensures s.before.before.args.runs.now)))
+    simp (write_to, write_inside, holds s, ne_eqb _ _ f.if-w-eq-R.false, sym f.is_fifo.ensures ∙ f.if-is_fifo.true)
+    (rw (back w32 s.ranges.v) at (c.write_fifo.ensures s.args.runs.now)))
     (λ c κs.
     let f = c.before.before in
-    (holds f.before.before.before, (sym f.before.is-fifo.ensures ∙ f.if3.false, f.before.before.if2.false)))
+    (holds f.before.before.before, (sym f.is_fifo.ensures ∙ f.if-is_fifo.false, f.if-w-eq-R.false)))
     (λ c.
     let f = c.before.before.before in
     let s = f.before.before.before in
-    let a = s.before.before.args in
-    simp (write_to, write_inside, holds s, ne_eqb _ _ f.before.before.if2.false, sym f.before.is-fifo.ensures ∙ f.if3.false)
-    (celled-written c.write_cell.result a.r.now c.write_cell.new.0 c.write_cell.new.1.0 (write_cell a.cells.now a.runs.now a.w a.i a.v) (rw (back w32 s.before.before.ranges.v) at c.write_cell.ensures))))
+    let a = s.args in
+    simp (write_to, write_inside, holds s, ne_eqb _ _ f.if-w-eq-R.false, sym f.is_fifo.ensures ∙ f.if-is_fifo.false)
+    (celled-written c.write_cell.result a.r.now c.write_cell.new.0 c.write_cell.new.1.0 (write_cell a.cells.now a.runs.now a.w a.i a.v) (rw (back w32 s.ranges.v) at c.write_cell.ensures))))

@@ -14,15 +14,15 @@ use Rattle.engine.specs.Write.{write_cell}
 use Rattle.engine.proofs.write.write_cell.Statement.{statement}
 use Rattle.engine.proofs.write.write_cell.Tie as tie
 
-cell-fits : (c : tie.After-cell-of) → c.cell-of.result < cell_count
-cell-fits c = let p = c.before.requires in rw c.cell-of.ensures (cell-inside _ _ p.1.1 p.1.0 p.0)
+cell-fits : (c : tie.After-cell_of-at) → c.cell_of-at.result < cell_count
+cell-fits c = let p = c.requires in rw c.cell_of-at.ensures (cell-inside _ _ p.1.1 p.1.0 p.0)
 
-timer-fits : (c : tie.Else4) → let s = c.before.before.before.before.before in s.args.i < timer_count
-timer-fits c = omega (arith, rw c.if4.false at (last-inside _ _ c.before.before.before.before.before.requires.0))
+timer-fits : (c : tie.Else-w-ne-TIMER) → let s = c.before.before.before.before.before in s.args.i < timer_count
+timer-fits c = omega (arith, rw c.if-w-ne-TIMER.false at (last-inside _ _ c.requires.0))
 
-pub write-cell-spec : {M : Type 1} → statement M
+pub write_cell_spec : {M : Type 1} → statement M
 unfolding write_cell
-write-cell-spec =
+write_cell_spec =
     tie.close
     (tie.spec
     (λ c κs. search rules)
@@ -31,27 +31,27 @@ write-cell-spec =
     (λ c.
     let m = c.before in
     let s = m.before.before.before in
-    let e = m.marker.ensures ∙ ap marker_of (back w32 s.before.ranges.v) in
-    rw m.before.before.if1.true (rw (s.cell-of.ensures, e, m.before.before.if1.true) at (c.put.ensures s.before.args.runs.now)))
+    let e = m.marker.ensures ∙ ap marker_of (back w32 s.ranges.v) in
+    rw m.if-w-eq-MARKER.true (rw (s.cell_of-at.ensures, e, m.if-w-eq-MARKER.true) at (c.put.ensures s.args.runs.now)))
     (λ c. omega (arith, cell-fits c.before.before))
     (λ c. cell-fits c.before.before)
     (λ c κs. search rules)
     (λ c.
     let s = c.before.before.before in
-    rw (c.written-so.ensures, back w32 s.before.ranges.v, s.cell-of.ensures, c.before.if2.true) (refl, (refl, refl)))
+    rw (c.written_so.ensures, back w32 s.ranges.v, s.cell_of-at.ensures, c.if-w-eq-PARAM.true) (refl, (refl, refl)))
     (λ c κs. search rules)
     (λ c κs. cell-fits c.before.before.before.before.before)
     (λ c.
     let m = c.before in
     let s = m.before.before.before.before.before in
-    let e = m.output.ensures ∙ ap output_of (back w32 s.before.ranges.v) in
-    rw m.before.before.if3.true (rw (s.cell-of.ensures, e, m.before.before.if3.true) at (c.put2.ensures s.before.args.runs.now)))
+    let e = m.output.ensures ∙ ap output_of (back w32 s.ranges.v) in
+    rw m.if-w-eq-OUT.true (rw (s.cell_of-at.ensures, e, m.if-w-eq-OUT.true) at (c.put-then-w-eq-OUT.ensures s.args.runs.now)))
     (λ c κs. search rules)
     (λ c.
     let s = c.before.before.before.before in
-    simp (write_cell, ne_eqb _ _ s.if1.false, ne_eqb _ _ c.before.before.before.if2.false, ne_eqb _ _ c.before.before.if3.false, ne_eqb _ _ c.before.if4.true, c.not_written.ensures) (refl, refl))
+    simp (write_cell, ne_eqb _ _ s.if-w-eq-MARKER.false, ne_eqb _ _ c.if-w-eq-PARAM.false, ne_eqb _ _ c.if-w-eq-OUT.false, ne_eqb _ _ c.if-w-ne-TIMER.true, c.not_written.ensures) (refl, refl))
     (λ c κs. let e = c.before.before in (cell-fits e.before.before.before.before, timer-fits e))
     (λ c.
     let e = c.before.before.before in
     let s = e.before.before.before.before in
-    rw e.if4.false (rw (s.cell-of.ensures, back w32 s.before.ranges.v, e.if4.false) at c.write-timer.ensures)))
+    rw e.if-w-ne-TIMER.false (rw (s.cell_of-at.ensures, back w32 s.ranges.v, e.if-w-ne-TIMER.false) at c.write_timer.ensures)))

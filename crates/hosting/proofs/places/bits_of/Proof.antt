@@ -13,5 +13,5 @@ equals_itself nan h = absurd (true≢false h)
 equals_itself (inf s) h = tt
 equals_itself (fin s m e) h = tt
 
-pub bits-of-spec : {M : Type 1} → statement M
-bits-of-spec = tie.close (tie.spec (λ c. search rules) (λ c. equals_itself c.before.args.x c.if1.false) (λ c. search rules))
+pub bits_of_spec : {M : Type 1} → statement M
+bits_of_spec = tie.close (tie.spec (λ c. search rules) (λ c. equals_itself c.args.x c.if-x.false) (λ c. search rules))

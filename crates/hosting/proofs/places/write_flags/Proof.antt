@@ -5,14 +5,14 @@ use lib.ListN.{length}
 use Rattle.hosting.proofs.places.write_flags.Statement.{statement}
 use Rattle.hosting.proofs.places.write_flags.Tie as tie
 
-abbrev invariant-loop : tie.invariant-loop
+abbrev invariant-loop : tie.invariant-loop-i
 invariant-loop flags out₀ to₀ i₀ out to i = Unit {0}
 
-abbrev decreases-loop : tie.decreases-loop
+abbrev decreases-loop : tie.decreases-loop-i
 decreases-loop flags out₀ to₀ i₀ out to i = length flags - i
 
-pub write-flags-spec : {M : Type 1} → statement M
-write-flags-spec =
+pub write_flags_spec : {M : Type 1} → statement M
+write_flags_spec =
     tie.close
     (tie.spec
     invariant-loop

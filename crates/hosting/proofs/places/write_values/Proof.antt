@@ -5,14 +5,14 @@ use lib.ListN.{length}
 use Rattle.hosting.proofs.places.write_values.Statement.{statement}
 use Rattle.hosting.proofs.places.write_values.Tie as tie
 
-abbrev invariant-loop : tie.invariant-loop
+abbrev invariant-loop : tie.invariant-loop-i
 invariant-loop values out₀ to₀ i₀ out to i = Unit {0}
 
-abbrev decreases-loop : tie.decreases-loop
+abbrev decreases-loop : tie.decreases-loop-i
 decreases-loop values out₀ to₀ i₀ out to i = length values - i
 
-pub write-values-spec : {M : Type 1} → statement M
-write-values-spec =
+pub write_values_spec : {M : Type 1} → statement M
+write_values_spec =
     tie.close
     (tie.spec
     invariant-loop

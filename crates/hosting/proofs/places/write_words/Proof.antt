@@ -5,14 +5,14 @@ use lib.ListN.{length}
 use Rattle.hosting.proofs.places.write_words.Statement.{statement}
 use Rattle.hosting.proofs.places.write_words.Tie as tie
 
-abbrev invariant-loop : tie.invariant-loop
+abbrev invariant-loop : tie.invariant-loop-i
 invariant-loop words out₀ to₀ i₀ out to i = Unit {0}
 
-abbrev decreases-loop : tie.decreases-loop
+abbrev decreases-loop : tie.decreases-loop-i
 decreases-loop words out₀ to₀ i₀ out to i = length words - i
 
-pub write-words-spec : {M : Type 1} → statement M
-write-words-spec =
+pub write_words_spec : {M : Type 1} → statement M
+write_words_spec =
     tie.close
     (tie.spec
     invariant-loop

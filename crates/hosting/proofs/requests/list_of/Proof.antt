@@ -6,14 +6,14 @@ use lib.ListN.{length}
 use Rattle.hosting.proofs.requests.list_of.Statement.{statement}
 use Rattle.hosting.proofs.requests.list_of.Tie as tie
 
-abbrev invariant-loop : tie.invariant-loop
+abbrev invariant-loop : tie.invariant-loop-k
 invariant-loop request numbers₀ k₀ numbers k = length numbers ≡ 16
 
-abbrev decreases-loop : tie.decreases-loop
+abbrev decreases-loop : tie.decreases-loop-k
 decreases-loop request numbers₀ k₀ numbers k = 16 - k
 
-pub list-of-spec : {M : Type 1} → statement M
-list-of-spec =
+pub list_of_spec : {M : Type 1} → statement M
+list_of_spec =
     tie.close
     (tie.spec
     invariant-loop

@@ -6,14 +6,14 @@ use lib.ListN.{length}
 use Rattle.hosting.proofs.requests.readings_of.Statement.{statement}
 use Rattle.hosting.proofs.requests.readings_of.Tie as tie
 
-abbrev invariant-loop : tie.invariant-loop
+abbrev invariant-loop : tie.invariant-loop-k
 invariant-loop request readings₀ k₀ readings k = length readings ≡ 8
 
-abbrev decreases-loop : tie.decreases-loop
+abbrev decreases-loop : tie.decreases-loop-k
 decreases-loop request readings₀ k₀ readings k = 8 - k
 
-pub readings-of-spec : {M : Type 1} → statement M
-readings-of-spec =
+pub readings_of_spec : {M : Type 1} → statement M
+readings_of_spec =
     tie.close
     (tie.spec
     invariant-loop

@@ -6,11 +6,11 @@ use mathlib.Core.Bool.{not}
 use Rattle.print.proofs.line.is_following.Statement.{statement}
 use Rattle.print.proofs.line.is_following.Tie as tie
 
-pub is-following-spec : {M : Type 1} → statement M
-is-following-spec =
+pub is_following_spec : {M : Type 1} → statement M
+is_following_spec =
     tie.close
     (tie.spec
     (λ c κs. search rules)
-    (λ c. rw (sym c.before.goes_on.ensures ∙ not-true _ c.if1.true))
+    (λ c. rw (sym c.goes_on.ensures ∙ not-true _ c.if-not-goes_on.true-raw))
     (λ c κs. search rules)
-    (λ c. rw (sym c.before.before.goes_on.ensures ∙ not-false _ c.before.if1.false) (ap not c.is-variable.ensures)))
+    (λ c. rw (sym c.goes_on.ensures ∙ not-false _ c.if-not-goes_on.false-raw) (ap not c.is_variable.ensures)))

@@ -3,10 +3,10 @@ use borrow.Author.Tests.{eq-eqb, ne_eqb}
 use Rattle.print.proofs.line.is_opening.Statement.{statement}
 use Rattle.print.proofs.line.is_opening.Tie as tie
 
-pub is-opening-spec : {M : Type 1} → statement M
-is-opening-spec =
+pub is_opening_spec : {M : Type 1} → statement M
+is_opening_spec =
     tie.close
     (tie.spec
-    (λ c. rw (eq-eqb c.before.args.t 1 c.if1.true))
-    (λ c. let a = c.before.before.args in rw (ne_eqb a.t 1 c.before.if1.false, eq-eqb a.t 4 c.if2.true))
-    (λ c. let a = c.before.before.args in rw (ne_eqb a.t 1 c.before.if1.false, ne_eqb a.t 4 c.if2.false)))
+    (λ c. rw (eq-eqb c.args.t 1 c.if-t-eq-EQUALS.true))
+    (λ c. let a = c.args in rw (ne_eqb a.t 1 c.if-t-eq-EQUALS.false, eq-eqb a.t 4 c.if-t-eq-LESS.true))
+    (λ c. let a = c.args in rw (ne_eqb a.t 1 c.if-t-eq-EQUALS.false, ne_eqb a.t 4 c.if-t-eq-LESS.false)))

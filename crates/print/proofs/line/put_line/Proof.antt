@@ -16,11 +16,11 @@ use Rattle.print.specs.PrintRoomLaws.{token_room}
 use Rattle.print.proofs.line.put_line.Statement.{statement}
 use Rattle.print.proofs.line.put_line.Tie as tie
 
-abbrev invariant-loop : tie.invariant-loop
+abbrev invariant-loop : tie.invariant-loop-t
 invariant-loop set start out₀ at p₀ q₀ t₀ out p q t =
     Left out₀ at (line_text (row_at set start)) out q (line_text (row_at set p)) × (length out ≡ length out₀) × (t ≡ get_or set p 0)
 
-abbrev decreases-loop : tie.decreases-loop
+abbrev decreases-loop : tie.decreases-loop-t
 decreases-loop set start out₀ at p₀ q₀ t₀ out p q t = length set - p
 
 -- while something of the line is left, the place in the buffer is near
@@ -32,57 +32,57 @@ token-put : (s : List ℕ) (p : ℕ) {b whole out exit : List ℕ} {at q end t u
     IsPut out q (token_text t) exit end → Left b at whole exit end (gap t u ++ line_text (row_at s (p + 1)))
 token-put s p {t = t} {u = u} l e f n i = left_after (gap t u ++ line_text (row_at s (p + 1))) l (line-goes s p e f n) i
 
-pub put-line-spec : {M : Type 1} → statement M
-put-line-spec =
+pub put_line_spec : {M : Type 1} → statement M
+put_line_spec =
     tie.close
     (tie.spec
     invariant-loop
     decreases-loop
     (λ c κs. search rules)
-    (λ c. (left-all refl, refl, c.token-at.ensures))
+    (λ c. (left-all refl, refl, c.token_at-t.ensures))
     (λ c κs.
     let b = c.before.before in
-    let a = b.before.before.before.before.args in
-    omega (arith, near a.set.now _ _ _ a.start a.at b.loop.q b.loop.invariant.0))
+    let a = b.args in
+    omega (arith, near a.set.now _ _ _ a.start a.at b.loop-t.q b.loop-t.invariant.0))
     (λ c.
     let l = c.before.before.before.before.before in
     let b = l.before in
-    let a = b.before.before.before.before.args in
-    omega (arith, lies-inside a.set.now b.loop.p b.loop.invariant.2 l.loop-test.true))
+    let a = b.args in
+    omega (arith, lies-inside a.set.now b.loop-t.p b.loop-t.invariant.2 l.loop-t-test.true))
     (λ c κs. search rules)
     (λ c κs.
     let k = c.before.before.before.before.before in
     let l = k.before.before in
     let b = l.before in
-    let a = b.before.before.before.before.args in
-    omega (arith, near a.set.now _ _ _ a.start a.at _ (token-put a.set.now b.loop.p b.loop.invariant.0 b.loop.invariant.2 c.before.token-at2.ensures l.loop-test.true k.put-token.ensures)))
+    let a = b.args in
+    omega (arith, near a.set.now _ _ _ a.start a.at _ (token-put a.set.now b.loop-t.p b.loop-t.invariant.0 b.loop-t.invariant.2 c.token_at-u.ensures l.loop-t-test.true k.put_token-end.ensures)))
     (λ c.
     let l = c.before.before.before.before.before.before.before.before.before.before in
     let b = l.before in
-    let a = b.before.before.before.before.args in
-    omega (arith, lies-inside a.set.now b.loop.p b.loop.invariant.2 l.loop-test.true))
+    let a = b.args in
+    omega (arith, lies-inside a.set.now b.loop-t.p b.loop-t.invariant.2 l.loop-t-test.true))
     (λ c.
     let l = c.before.before.before.before.before.before.before.before.before.before in
     let b = l.before in
-    let a = b.before.before.before.before.args in
-    omega (arith, lies-inside a.set.now b.loop.p b.loop.invariant.2 l.loop-test.true))
+    let a = b.args in
+    omega (arith, lies-inside a.set.now b.loop-t.p b.loop-t.invariant.2 l.loop-t-test.true))
     (λ c.
     let g = c.before.before in
     let u = g.before.before in
     let k = u.before.before.before.before in
     let l = k.before.before in
     let b = l.before in
-    let a = b.before.before.before.before.args in
+    let a = b.args in
     let s = a.set.now in (
-      left_after (line_text (row_at s (b.loop.p + 1))) (token-put s b.loop.p b.loop.invariant.0 b.loop.invariant.2 u.token-at2.ensures l.loop-test.true k.put-token.ensures) refl g.put-gap.ensures,
-      g.put-gap.auto.0 ∙ k.put-token.auto.0 ∙ b.loop.invariant.1,
-      u.token-at2.ensures,
+      left_after (line_text (row_at s (b.loop-t.p + 1))) (token-put s b.loop-t.p b.loop-t.invariant.0 b.loop-t.invariant.2 u.token_at-u.ensures l.loop-t-test.true k.put_token-end.ensures) refl g.put_gap-q.ensures,
+      g.put_gap-q.auto.0 ∙ k.put_token-end.auto.0 ∙ b.loop-t.invariant.1,
+      u.token_at-u.ensures,
     ))
-    (λ c. c.before.loop.invariant.1)
+    (λ c. c.loop-t.invariant.1)
     (λ c.
     let b = c.before in
-    let a = b.before.before.before.before.args in
+    let a = b.args in
     let s = a.set.now in (
-      left-none b.loop.invariant.0 (line-over s b.loop.p b.loop.invariant.2 c.loop-test.false),
-      omega (arith, near s _ _ _ a.start a.at b.loop.q b.loop.invariant.0),
+      left-none b.loop-t.invariant.0 (line-over s b.loop-t.p b.loop-t.invariant.2 c.loop-t-test.false),
+      omega (arith, near s _ _ _ a.start a.at b.loop-t.q b.loop-t.invariant.0),
     )))

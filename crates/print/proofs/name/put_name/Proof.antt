@@ -15,8 +15,8 @@ use Rattle.print.proofs.name.put_name.Tie as tie
 renamed : (s : List ℕ) (p : ℕ) {a b t : List ℕ} {n : ℕ} → b ≡ a → n ≡ length a → t ≡ put_at s p a → (n ≡ length b) × (t ≡ put_at s p b)
 renamed s p e f g = (f ∙ ap (λ (l : List ℕ). length l) (sym e), g ∙ ap (put_at s p) (sym e))
 
-pub put-name-spec : {M : Type 1} → statement M
-put-name-spec =
+pub put_name_spec : {M : Type 1} → statement M
+put_name_spec =
     tie.close
     (tie.spec
     (λ c. search rules)
@@ -26,8 +26,8 @@ put-name-spec =
     (λ c.
     let r = c.before.before in
     let i = r.before.before.before in
-    let a = i.before.before.args in
-    renamed a.out.now a.at (sign-row a.t i.if1.true) r.put-row.ensures.0 r.put-row.ensures.1)
+    let a = i.args in
+    renamed a.out-1.now a.at (sign-row a.t i.if-t-lt-ID.true) r.put_row.ensures.0 r.put_row.ensures.1)
     (λ c. search rules)
     (λ c. search rules)
     (λ c. search rules)
@@ -36,8 +36,8 @@ put-name-spec =
     (λ c.
     let r = c.before.before in
     let i = r.before.before.before in
-    let a = i.before.before.before.args in
-    renamed a.out.now a.at (keyword-row a.t (omega arith) i.if2.true) r.put-row2.ensures.0 r.put-row2.ensures.1)
+    let a = i.args in
+    renamed a.out-1.now a.at (keyword-row a.t (omega arith) i.if-t-lt-IN.true) r.put_row-then-t-lt-IN.ensures.0 r.put_row-then-t-lt-IN.ensures.1)
     (λ c. search rules)
     (λ c. search rules)
     (λ c. search rules)
@@ -46,8 +46,8 @@ put-name-spec =
     (λ c.
     let r = c.before.before in
     let i = r.before.before.before in
-    let a = i.before.before.before.before.args in
-    renamed a.out.now a.at (variable-row a.t (omega arith) i.if3.true) r.put-row3.ensures.0 r.put-row3.ensures.1)
+    let a = i.args in
+    renamed a.out-1.now a.at (variable-row a.t (omega arith) i.if-t-lt-POS.true) r.put_row-then-t-lt-POS.ensures.0 r.put_row-then-t-lt-POS.ensures.1)
     (λ c. search rules)
     (λ c. search rules)
     (λ c. search rules)
@@ -56,6 +56,6 @@ put-name-spec =
     (λ c.
     let r = c.before.before in
     let i = r.before.before.before in
-    let a = i.before.before.before.before.before.args in
-    renamed a.out.now a.at (action-row a.t (omega arith) i.if4.true) r.put-row4.ensures.0 r.put-row4.ensures.1)
-    (λ c. let a = c.before.before.before.before.before.args in renamed a.out.now a.at (no_name a.t (omega arith)) refl refl))
+    let a = i.args in
+    renamed a.out-1.now a.at (action-row a.t (omega arith) i.if-t-le-W.true) r.put_row-then-t-le-W.ensures.0 r.put_row-then-t-le-W.ensures.1)
+    (λ c. let a = c.args in renamed a.out-1.now a.at (no_name a.t (omega arith)) refl refl))

@@ -21,8 +21,8 @@ solid-part t p w n e =
     let f : n ≡ solid_size (take w (drop p t)) = rw z at e in
     rw (z, f) (sym (length-take-le (solid_size (take w (drop p t))) (take w (drop p t)) r), refl)
 
-pub put-row-spec : {M : Type 1} → statement M
-put-row-spec =
+pub put_row_spec : {M : Type 1} → statement M
+put_row_spec =
     tie.close
     (tie.spec
     (λ c. search rules)
@@ -32,13 +32,13 @@ put-row-spec =
     (λ c κs. search rules)
     (λ c.
     let s = c.before.before in
-    let a = s.before.before.before.before.args in
-    (solid-part a.table.now a.start a.width _ s.solid-size.ensures).0)
+    let a = s.args in
+    (solid-part a.table.now a.start a.width _ s.solid_size-size.ensures).0)
     (λ c κs. search rules)
     (λ c. search rules)
     (λ c.
     let p = c.before.before in
     let s = p.before.before.before in
-    let a = s.before.before.before.before.args in
-    let (e, f) = solid-part a.table.now a.start a.width _ s.solid-size.ensures in
-    (e ∙ ap (λ (l : List ℕ). length l) f, p.put-bytes.ensures ∙ ap (λ (l : List ℕ). put_at a.out.now a.at l) f)))
+    let a = s.args in
+    let (e, f) = solid-part a.table.now a.start a.width _ s.solid_size-size.ensures in
+    (e ∙ ap (λ (l : List ℕ). length l) f, p.put_bytes.ensures ∙ ap (λ (l : List ℕ). put_at a.out-1.now a.at l) f)))

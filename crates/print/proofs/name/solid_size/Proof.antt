@@ -10,14 +10,14 @@ use Rattle.print.specs.NameRows.{no_space}
 use Rattle.print.proofs.name.solid_size.Statement.{statement}
 use Rattle.print.proofs.name.solid_size.Tie as tie
 
-abbrev invariant-loop : tie.invariant-loop
+abbrev invariant-loop : tie.invariant-loop-i
 invariant-loop row i₀ i = i + run no_space (drop i row) ≡ run no_space row
 
-abbrev decreases-loop : tie.decreases-loop
+abbrev decreases-loop : tie.decreases-loop-i
 decreases-loop row i₀ i = length row - i
 
-pub solid-size-spec : {M : Type 1} → statement M
-solid-size-spec =
+pub solid_size_spec : {M : Type 1} → statement M
+solid_size_spec =
     tie.close
     (tie.spec
     invariant-loop
@@ -26,10 +26,10 @@ solid-size-spec =
     (λ c. omega arith)
     (λ c.
     let b = c.before.before.before in
-    sym (run-stops no_space _ b.loop.i (omega arith) (rw (eq-eqb _ 32 c.if1.true))) ∙ b.loop.invariant)
+    sym (run-stops no_space _ b.loop-i.i (omega arith) (rw (eq-eqb _ 32 c.if-row-i-eq-SPACE.true))) ∙ b.loop-i.invariant)
     (λ c. omega arith)
     (λ c. omega arith)
     (λ c.
     let b = c.before.before.before in
-    sym (run-goes no_space _ b.loop.i (omega arith) (rw (ne_eqb _ 32 c.if1.false))) ∙ b.loop.invariant)
-    (λ c. let b = c.before in sym (run_ends no_space _ b.loop.i (omega arith)) ∙ b.loop.invariant))
+    sym (run-goes no_space _ b.loop-i.i (omega arith) (rw (ne_eqb _ 32 c.if-row-i-eq-SPACE.false))) ∙ b.loop-i.invariant)
+    (λ c. let b = c.before in sym (run_ends no_space _ b.loop-i.i (omega arith)) ∙ b.loop-i.invariant))

@@ -6,11 +6,11 @@ use Rattle.print.specs.PartLaws.{no_part, one-digit-part, two-digit-part, three-
 use Rattle.print.proofs.number.put_part.Statement.{statement}
 use Rattle.print.proofs.number.put_part.Tie as tie
 
-pub put-part-spec : {M : Type 1} → statement M
-put-part-spec =
+pub put_part_spec : {M : Type 1} → statement M
+put_part_spec =
     tie.close
     (tie.spec
-    (λ c. let a = c.before.before.args in put_as (no_part a.f c.if1.true) put-nothing)
+    (λ c. let a = c.args in put_as (no_part a.f c.if-f-eq0.true) put-nothing)
     (λ c κs. search rules)
     (λ c. omega arith)
     (λ c. omega arith)
@@ -22,8 +22,8 @@ put-part-spec =
     let d = c.before.before.before in
     let p = d.before.before.before.before in
     let s = p.before.before in
-    let a = s.before.before.args in
-    put_as (one-digit-part a.f s.if1.false c.if2.true) (put_both (put_byte p.put.ensures) (put_byte d.put2.ensures)))
+    let a = s.args in
+    put_as (one-digit-part a.f s.if-f-eq0.false c.if-f-eq0-2.true) (put_both (put_byte p.put.ensures) (put_byte d.put-2.ensures)))
     (λ c. omega arith)
     (λ c. omega arith)
     (λ c κs. search rules)
@@ -35,8 +35,8 @@ put-part-spec =
     let d = t.before.before.before in
     let p = d.before.before.before.before in
     let s = p.before.before in
-    let a = s.before.before.args in
-    put_as (two-digit-part a.f s.if1.false t.if2.false c.if3.true) (put_both (put_both (put_byte p.put.ensures) (put_byte d.put2.ensures)) (put_byte e.put3.ensures)))
+    let a = s.args in
+    put_as (two-digit-part a.f s.if-f-eq0.false t.if-f-eq0-2.false c.if-f-eq0-3.true) (put_both (put_both (put_byte p.put.ensures) (put_byte d.put-2.ensures)) (put_byte e.put-3.ensures)))
     (λ c. omega arith)
     (λ c. omega arith)
     (λ c κs. search rules)
@@ -50,5 +50,5 @@ put-part-spec =
     let d = t.before.before.before in
     let p = d.before.before.before.before in
     let s = p.before.before in
-    let a = s.before.before.args in
-    put_as (three-digit-part a.f s.if1.false t.if2.false u.if3.false) (put_both (put_both (put_both (put_byte p.put.ensures) (put_byte d.put2.ensures)) (put_byte e.put3.ensures)) (put_byte l.put4.ensures))))
+    let a = s.args in
+    put_as (three-digit-part a.f s.if-f-eq0.false t.if-f-eq0-2.false u.if-f-eq0-3.false) (put_both (put_both (put_both (put_byte p.put.ensures) (put_byte d.put-2.ensures)) (put_byte e.put-3.ensures)) (put_byte l.put-4.ensures))))

@@ -25,38 +25,38 @@ module _ (s : List ℕ) {l : Lines} (e : l ≡ sound_lines s) where
   unfolding print_text rows_of
   text-is = ap (λ (x : Lines). rows_text (curve_rows s max_curves 1 ++ line_rows s x.count 0)) e
 
-pub print-spec : {M : Type 1} → statement M
-print-spec =
+pub print_spec : {M : Type 1} → statement M
+print_spec =
     tie.close
     (tie.spec
     (λ c κs. search rules)
     (λ c κs. search rules)
     (λ c.
     let i = c.before in
-    let a = i.before.before.before.args in
-    let (e, f) = answers-unsound a.set.now a.buffer.now (sym (ap (λ (x : Lines). x.sound) i.before.sound-lines.ensures) ∙ not-true _ i.if1.true) in
-    (c.not-printed.ensures ∙ e, f))
+    let a = i.args in
+    let (e, f) = answers-unsound a.set.now a.buffer-1.now (sym (ap (λ (x : Lines). x.sound) i.sound_lines-lines.ensures) ∙ not-true _ i.if-not-sound.true-raw) in
+    (c.not_printed.ensures ∙ e, f))
     (λ c κs. search rules)
     (λ c.
     let i = c.before in
     let l = i.before.before in
-    let a = l.before.before.args in
-    let (e, f) = answers-small a.set.now a.buffer.now (sym (ap (λ (x : Lines). x.sound) l.sound-lines.ensures) ∙ not-false _ i.before.if1.false) i.if2.true in
-    (c.not-printed2.ensures ∙ e, f))
-    (λ c κs. let l = c.before.before in few l.before.before.args.set.now l.sound-lines.ensures)
+    let a = l.args in
+    let (e, f) = answers-small a.set.now a.buffer-1.now (sym (ap (λ (x : Lines). x.sound) l.sound_lines-lines.ensures) ∙ not-false _ i.if-not-sound.false-raw) i.if-buffer-lt-TEXT_SIZE.true in
+    (c.not_printed-then-buffer-lt-TEXT_SIZE.ensures ∙ e, f))
+    (λ c κs. let l = c.before.before in few l.args.set.now l.sound_lines-lines.ensures)
     (λ c κs. search rules)
     (λ c.
     let i = c.before in
     let z = i.before in
     let j = z.before in
     let l = j.before.before in
-    let a = l.before.before.args in
+    let a = l.args in
     let s = a.set.now in
-    let t = text-is s l.sound-lines.ensures in
-    let n : z.type_size.result ≡ length (print_text s) = z.type_size.ensures ∙ ap (λ (x : List ℕ). length x) t in
-    let (e, f) = answers-short s a.buffer.now (sym (ap (λ (x : Lines). x.sound) l.sound-lines.ensures) ∙ not-false _ j.before.if1.false) j.if2.false (omega (arith, n, i.if3.true)) in
-    (c.not-printed3.ensures ∙ e, f))
-    (λ c κs. let l = c.before.before.before.before.before in few l.before.before.args.set.now l.sound-lines.ensures)
+    let t = text-is s l.sound_lines-lines.ensures in
+    let n : z.size_of-size.result ≡ length (print_text s) = z.size_of-size.ensures ∙ ap (λ (x : List ℕ). length x) t in
+    let (e, f) = answers-short s a.buffer-1.now (sym (ap (λ (x : Lines). x.sound) l.sound_lines-lines.ensures) ∙ not-false _ j.if-not-sound.false-raw) j.if-buffer-lt-TEXT_SIZE.false (omega (arith, n, i.if-buffer-size.true)) in
+    (c.not_printed-then-buffer-size.ensures ∙ e, f))
+    (λ c κs. let l = c.before.before.before.before.before in few l.args.set.now l.sound_lines-lines.ensures)
     (λ c. search rules)
     (λ c.
     let p = c.before.before in
@@ -64,9 +64,9 @@ print-spec =
     let z = i.before in
     let j = z.before in
     let l = j.before.before in
-    let a = l.before.before.args in
+    let a = l.args in
     let s = a.set.now in
-    let t = text-is s l.sound-lines.ensures in
-    let n : z.type_size.result ≡ length (print_text s) = z.type_size.ensures ∙ ap (λ (x : List ℕ). length x) t in
-    answers-printed s a.buffer.now (sym (ap (λ (x : Lines). x.sound) l.sound-lines.ensures) ∙ not-false _ j.before.if1.false) j.if2.false _ _ n (omega (arith, n, i.if3.false))
-    (p.put-rows.ensures.put ∙ ap (put_at a.buffer.now 0) t)))
+    let t = text-is s l.sound_lines-lines.ensures in
+    let n : z.size_of-size.result ≡ length (print_text s) = z.size_of-size.ensures ∙ ap (λ (x : List ℕ). length x) t in
+    answers-printed s a.buffer-1.now (sym (ap (λ (x : Lines). x.sound) l.sound_lines-lines.ensures) ∙ not-false _ j.if-not-sound.false-raw) j.if-buffer-lt-TEXT_SIZE.false _ _ n (omega (arith, n, i.if-buffer-size.false))
+    (p.put_rows.ensures.put ∙ ap (put_at a.buffer-1.now 0) t)))

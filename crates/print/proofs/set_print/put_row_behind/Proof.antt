@@ -7,8 +7,8 @@ use Rattle.print.specs.PrintOrderLaws.{row_first, row_next}
 use Rattle.print.proofs.set_print.put_row_behind.Statement.{statement}
 use Rattle.print.proofs.set_print.put_row_behind.Tie as tie
 
-pub put-row-behind-spec : {M : Type 1} → statement M
-put-row-behind-spec =
+pub put_row_behind_spec : {M : Type 1} → statement M
+put_row_behind_spec =
     tie.close
     (tie.spec
     (λ c κs. omega arith)
@@ -16,8 +16,8 @@ put-row-behind-spec =
     (λ c.
     let l = c.before.before in
     let i = l.before.before in
-    let a = i.before.before.args in
-    (put_as (row_first a.set.now a.behind a.start (not-true _ i.if1.true)) l.put-line.ensures.0, omega (arith, l.put-line.ensures.1)))
+    let a = i.args in
+    (put_as (row_first a.set.now a.behind a.start (not-true _ i.if-not-behind.true-raw)) l.put_line.ensures.0, omega (arith, l.put_line.ensures.1)))
     (λ c κs. search rules)
     (λ c. omega arith)
     (λ c κs. omega arith)
@@ -26,5 +26,5 @@ put-row-behind-spec =
     let l = c.before.before in
     let p = l.before.before.before.before in
     let i = p.before.before in
-    let a = i.before.before.args in
-    (put_as (row_next a.set.now a.behind a.start (not-false _ i.if1.false)) (put_both (put_byte p.put.ensures) l.put-line2.ensures.0), omega (arith, l.put-line2.ensures.1))))
+    let a = i.args in
+    (put_as (row_next a.set.now a.behind a.start (not-false _ i.if-not-behind.false-raw)) (put_both (put_byte p.put.ensures) l.put_line-2.ensures.0), omega (arith, l.put_line-2.ensures.1))))

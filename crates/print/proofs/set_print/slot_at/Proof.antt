@@ -8,11 +8,11 @@ use Rattle.print.specs.PrintOrderLaws.{slot-curve, slot-line}
 use Rattle.print.proofs.set_print.slot_at.Statement.{statement}
 use Rattle.print.proofs.set_print.slot_at.Tie as tie
 
-pub slot-at-spec : {M : Type 1} → statement M
-slot-at-spec =
+pub slot_at_spec : {M : Type 1} → statement M
+slot_at_spec =
     tie.close
     (tie.spec
     (λ c. search rules)
-    (λ c. let k = c.before.args.k in let e : 33 + k ≡ curve_place (k + 1) = omega arith in e ∙ sym (slot-curve k c.if1.true))
+    (λ c. let k = c.args.k in let e : 33 + k ≡ curve_place (k + 1) = omega arith in e ∙ sym (slot-curve k c.if-k-lt-CURVES.true))
     (λ c. search rules)
-    (λ c. sym (slot-line c.before.args.k c.if1.false)))
+    (λ c. sym (slot-line c.args.k c.if-k-lt-CURVES.false)))

@@ -17,13 +17,13 @@ module _ (c : tie.After-lay) where
   laid : c.lay.new.0 ≡ alone tokens
   laid = c.lay.ensures ∙ ap (λ (x : List ℕ). put_at x 0 tokens) c.before.before.before.requires.0
 
-pub names-alone-spec : {M : Type 1} → statement M
-names-alone-spec =
+pub names_alone_spec : {M : Type 1} → statement M
+names_alone_spec =
     tie.close
     (tie.spec
-    (λ c κs. c.before.before.requires.1)
+    (λ c κs. c.requires.1)
     (λ c κs. search rules)
-    (λ c κs. c.before.before.before.before.before.before.requires.1)
+    (λ c κs. c.requires.1)
     (λ c.
     let l = c.before.before.before.before in
-    (rw (laid l) at c.before.before.names-known.ensures, c.wipe.ensures ∙ ap (λ (x : List ℕ). put_at x 0 (replicate (length (tokens l)) 0)) (laid l) ∙ wiped (tokens l))))
+    (rw (laid l) at c.names_known-known.ensures, c.wipe.ensures ∙ ap (λ (x : List ℕ). put_at x 0 (replicate (length (tokens l)) 0)) (laid l) ∙ wiped (tokens l))))

@@ -10,14 +10,14 @@ use Rattle.reader.proofs.AloneLaws.{zeros-next, zeros-none}
 use Rattle.reader.proofs.alone.wipe.Statement.{statement}
 use Rattle.reader.proofs.alone.wipe.Tie as tie
 
-abbrev invariant-loop : tie.invariant-loop
+abbrev invariant-loop : tie.invariant-loop-i
 invariant-loop row₀ n i₀ row i = (put_at row i (replicate (n - i) 0) ≡ put_at row₀ 0 (replicate n 0)) × (i ≤ n)
 
-abbrev decreases-loop : tie.decreases-loop
+abbrev decreases-loop : tie.decreases-loop-i
 decreases-loop row₀ n i₀ row i = n - i
 
-pub wipe-spec : {M : Type 1} → statement M
-wipe-spec =
+pub wipe_spec : {M : Type 1} → statement M
+wipe_spec =
     tie.close
     (tie.spec
     invariant-loop
@@ -27,5 +27,5 @@ wipe-spec =
     (λ c. omega arith)
     (λ c. omega arith)
     (λ c. omega arith)
-    (λ c. let b = c.before in (sym (zeros-next _ _ b.loop.i (omega arith)) ∙ b.loop.invariant.0, omega arith))
-    (λ c. let b = c.before in sym (zeros-none _ _ b.loop.i (omega arith)) ∙ b.loop.invariant.0))
+    (λ c. let b = c.before in (sym (zeros-next _ _ b.loop-i.i (omega arith)) ∙ b.loop-i.invariant.0, omega arith))
+    (λ c. let b = c.before in sym (zeros-none _ _ b.loop-i.i (omega arith)) ∙ b.loop-i.invariant.0))

@@ -40,7 +40,7 @@ module _ (c : tie.Start) where
   short = let f = c.requires.1 in let n = tokens-length array draft held c.args.end f.0 f.1 in let e = f.1 in omega arith
 
 -- they are looked at alone
-module _ (c : tie.After-curve-alone) where
+module _ (c : tie.After-curve_alone-f) where
   abbrev start : tie.Start
   start = c.before.before.before.before
 
@@ -48,8 +48,8 @@ module _ (c : tie.After-curve-alone) where
   told = c.curve-alone.ensures.0
 
 -- whether the curve is there
-module _ (c : tie.After-is-defined) where
-  abbrev looked : tie.After-curve-alone
+module _ (c : tie.After-is_defined) where
+  abbrev looked : tie.After-curve_alone-f
   looked = c.before.before.before.before
 
   fine : looked.curve-alone.result.fault ≡ 0
@@ -58,28 +58,28 @@ module _ (c : tie.After-is-defined) where
   there : c.is-defined.result ≡ is_defined (curves_there (curves (start looked))) looked.curve-alone.result.number
   there = c.is-defined.ensures ∙ ap (λ (x : List Bool). is_defined x looked.curve-alone.result.number) (held (start looked)).there
 
-pub add-curve-spec : {M : Type 1} → statement M
-add-curve-spec =
+pub add_curve_spec : {M : Type 1} → statement M
+add_curve_spec =
     tie.close
     (tie.spec
-    (λ c. let f = c.before.before.requires.1 in let a = f.0 in let b = f.1 in omega arith)
-    (λ c. let f = c.before.before.requires.1 in let a = f.0 in let b = f.1 in omega arith)
-    (λ c. let f = c.before.before.requires.1 in let a = f.0 in let b = f.1 in omega arith)
+    (λ c. let f = c.requires.1 in let a = f.0 in let b = f.1 in omega arith)
+    (λ c. let f = c.requires.1 in let a = f.0 in let b = f.1 in omega arith)
+    (λ c. let f = c.requires.1 in let a = f.0 in let b = f.1 in omega arith)
     (λ c. let s = c.before.before in let f = s.requires.1 in let b = f.1 in let z = (held s).size in omega arith)
     (λ c κs. let s = c.before.before.before in (s.requires.2, short s))
     (λ c κs. search rules)
     (λ c.
     let l = c.before.before in
     let s = start l in
-    let f = c.before.if1.true in
-    (c.refused-at.ensures ∙ with-fault _ _ _ _ _ (curve-told (tokens s) (real s) (short s) (curves s) _ (told l) f) f, l.curve-alone.ensures.1))
+    let f = c.if-fault-ne0.true in
+    (c.refused_at.ensures ∙ with-fault _ _ _ _ _ (curve-told (tokens s) (real s) (short s) (curves s) _ (told l) f) f, l.curve_alone-f.ensures.1))
     (λ c κs. search rules)
     (λ c κs. search rules)
     (λ c.
     let t = c.before.before in
     let l = looked t in
     let s = start l in
-    (c.refused-at2.ensures ∙ with-fault _ _ _ _ _ (curve-again (tokens s) (real s) (short s) (curves s) _ (told l) (fine t) _ (there t) c.before.if2.true) (λ e. omega arith), l.curve-alone.ensures.1))
+    (c.refused_at-then-is_defined.ensures ∙ with-fault _ _ _ _ _ (curve-again (tokens s) (real s) (short s) (curves s) _ (told l) (fine t) _ (there t) c.if-is_defined.true) (λ e. omega arith), l.curve_alone-f.ensures.1))
     (λ c κs.
     let t = c.before in
     let l = looked t in
@@ -90,7 +90,7 @@ add-curve-spec =
     let t = c.before.before in
     let l = looked t in
     let s = start l in (
-      c.grown-by-curve.ensures ∙ ap (λ (n : ℕ). grown_by_curve (draft s) n s.args.end) (curve-number-is (tokens s) (real s) (short s) (curves s) _ (told l) (fine t)).0
-          ∙ without-fault (draft s) _ s.args.k _ (curve-new (tokens s) (real s) (short s) (curves s) _ (told l) (fine t) _ (there t) c.before.if2.false),
-      l.curve-alone.ensures.1,
+      c.grown_by_curve.ensures ∙ ap (λ (n : ℕ). grown_by_curve (draft s) n s.args.end) (curve-number-is (tokens s) (real s) (short s) (curves s) _ (told l) (fine t)).0
+          ∙ without-fault (draft s) _ s.args.k _ (curve-new (tokens s) (real s) (short s) (curves s) _ (told l) (fine t) _ (there t) c.if-is_defined.false),
+      l.curve_alone-f.ensures.1,
     )))

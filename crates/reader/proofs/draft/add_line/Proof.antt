@@ -25,7 +25,7 @@ use Rattle.reader.proofs.draft.add_line.Statement.{statement}
 use Rattle.reader.proofs.draft.add_line.Tie as tie
 
 -- the tokens are written
-module _ (c : tie.After-write-tokens) where
+module _ (c : tie.After-write_tokens-w) where
   abbrev start : tie.Start
   start = c.before.before.before
 
@@ -81,7 +81,7 @@ module _ (c : tie.After-write-tokens) where
 
 -- whether they define a curve
 module _ (c : tie.After-defines) where
-  abbrev wrote : tie.After-write-tokens
+  abbrev wrote : tie.After-write_tokens-w
   wrote = c.before.before.before.before.before.before
 
   fine : (tokens wrote).good ≡ true
@@ -92,15 +92,15 @@ module _ (c : tie.After-defines) where
       sym (c.defines.ensures ∙ ap (λ (l : List ℕ). eqb (draft wrote).count 0 && eqb (get_or l 0 END) FCTDEF) (part wrote)
       ∙ ap (λ (n : ℕ). eqb n 0 && eqb (get_or (tokens wrote).list 0 END) FCTDEF) (sym (rows-length (array wrote) (draft wrote) (draft wrote).count 0)))
 
-pub add-line-spec : {M : Type 1} → statement M
-add-line-spec =
+pub add_line_spec : {M : Type 1} → statement M
+add_line_spec =
     tie.close
     (tie.spec
-    (λ c κs. c.before.before.requires.3)
+    (λ c κs. c.requires.3)
     (λ c κs. search rules)
     (λ c.
     let w = c.before.before in
-    (says-bad (kept_in (before w) (draft w)) (line w) _ _ (good w ∙ not-true _ c.before.if1.true) (ap (λ (x : Draft). x.code) c.refused-at.ensures) (ap (λ (x : Draft). x.line) c.refused-at.ensures), (start w).requires.1))
+    (says-bad (kept_in (before w) (draft w)) (line w) _ _ (good w ∙ not-true _ c.if-not-good.true-raw) (ap (λ (x : Draft). x.code) c.refused_at.ensures) (ap (λ (x : Draft). x.line) c.refused_at.ensures), (start w).requires.1))
     (λ c. let r = room c.before.before in omega arith)
     (λ c. let r = room c.before.before.before.before in omega arith)
     (λ c. let r = room c.before.before.before.before in omega arith)
@@ -111,11 +111,11 @@ add-line-spec =
     (λ c.
     let f = c.before.before.before.before in
     let w = wrote f in
-    let d = defining f ∙ c.before.before.before.if2.true in
-    (subst (λ (k : Kept). Says (rows_from k (line w ∷ [])) (array w) c.add-curve.result) (same w) (says-curve (array w) (draft w) (held w) (line w) (end w) (follows w).0 (follows w).1 (fine f) (part w) _ d c.add-curve.ensures.0), c.add-curve.ensures.1))
+    let d = defining f ∙ c.if-defines.true in
+    (subst (λ (k : Kept). Says (rows_from k (line w ∷ [])) (array w) c.add_curve.result) (same w) (says-curve (array w) (draft w) (held w) (line w) (end w) (follows w).0 (follows w).1 (fine f) (part w) _ d c.add_curve.ensures.0), c.add_curve.ensures.1))
     (λ c κs. let w = wrote c.before.before.before in (held w, follows w, (start w).pre.1, (start w).pre.2))
     (λ c.
     let f = c.before.before.before.before in
     let w = wrote f in
-    let d = defining f ∙ c.before.before.before.if2.false in
-    (subst (λ (k : Kept). Says (rows_from k (line w ∷ [])) (array w) c.add-numbered.result) (same w) (says-line (array w) (draft w) (held w) (line w) (end w) (follows w).0 (follows w).1 (fine f) (part w) _ (start w).pre.2 d c.add-numbered.ensures.0), c.add-numbered.ensures.1)))
+    let d = defining f ∙ c.if-defines.false in
+    (subst (λ (k : Kept). Says (rows_from k (line w ∷ [])) (array w) c.add_numbered.result) (same w) (says-line (array w) (draft w) (held w) (line w) (end w) (follows w).0 (follows w).1 (fine f) (part w) _ (start w).pre.2 d c.add_numbered.ensures.0), c.add_numbered.ensures.1)))

@@ -44,7 +44,7 @@ module _ (c : tie.Start) where
   short = let f = c.requires.1 in let n = tokens-length array draft held c.args.end f.0 f.1 in let e = f.1 in omega arith
 
 -- they are looked at alone
-module _ (c : tie.After-line-alone) where
+module _ (c : tie.After-line_alone-l) where
   abbrev start : tie.Start
   start = c.before.before.before.before
 
@@ -52,8 +52,8 @@ module _ (c : tie.After-line-alone) where
   told = c.line-alone.ensures.0
 
 -- the rank of its number
-module _ (c : tie.After-rank-in) where
-  abbrev looked : tie.After-line-alone
+module _ (c : tie.After-rank_in) where
+  abbrev looked : tie.After-line_alone-l
   looked = c.before.before.before.before
 
   fine : looked.line-alone.result.fault ≡ 0
@@ -63,8 +63,8 @@ module _ (c : tie.After-rank-in) where
   ranked = c.rank-in.ensures ∙ ap (λ (ns : List ℕ). rank_in ns looked.line-alone.result.number 0) (held (start looked)).numbers
 
 -- whether its curves are there
-module _ (c : tie.After-curves-known) where
-  abbrev new : tie.After-rank-in
+module _ (c : tie.After-curves_known) where
+  abbrev new : tie.After-rank_in
   new = c.before.before.before.before.before.before.before
 
   abbrev begun : tie.Start
@@ -73,21 +73,21 @@ module _ (c : tie.After-curves-known) where
   known : c.curves-known.result ≡ names_known (alone (tokens begun)) (curve_table (kept begun).curves) set_size 0
   known = c.curves-known.ensures.0 ∙ ap (λ (cs : List Bool). names_known (alone (tokens begun)) (asked_table false (draft begun).numbers cs) set_size 0) (held begun).there
 
-pub add-numbered-spec : {M : Type 1} → statement M
-add-numbered-spec =
+pub add_numbered_spec : {M : Type 1} → statement M
+add_numbered_spec =
     tie.close
     (tie.spec
-    (λ c. let f = c.before.before.requires.1 in let a = f.0 in let b = f.1 in omega arith)
-    (λ c. let f = c.before.before.requires.1 in let a = f.0 in let b = f.1 in omega arith)
-    (λ c. let f = c.before.before.requires.1 in let a = f.0 in let b = f.1 in omega arith)
+    (λ c. let f = c.requires.1 in let a = f.0 in let b = f.1 in omega arith)
+    (λ c. let f = c.requires.1 in let a = f.0 in let b = f.1 in omega arith)
+    (λ c. let f = c.requires.1 in let a = f.0 in let b = f.1 in omega arith)
     (λ c. let s = c.before.before in let f = s.requires.1 in let b = f.1 in let z = (held s).size in omega arith)
     (λ c κs. let s = c.before.before.before in (s.requires.2, short s))
     (λ c κs. search rules)
     (λ c.
     let l = c.before.before in
     let s = start l in
-    let f = c.before.if1.true in
-    (c.refused-at.ensures ∙ with-fault _ _ _ _ _ (fault-told (tokens s) (real s) (short s) (kept s) _ (told l) f) f, l.line-alone.ensures.1))
+    let f = c.if-fault-ne0.true in
+    (c.refused_at.ensures ∙ with-fault _ _ _ _ _ (fault-told (tokens s) (real s) (short s) (kept s) _ (told l) f) f, l.line_alone-l.ensures.1))
     (λ c. search rules)
     (λ c κs. search rules)
     (λ c κs. search rules)
@@ -95,30 +95,30 @@ add-numbered-spec =
     let r = c.before.before in
     let l = looked r in
     let s = start l in
-    (c.refused-at2.ensures ∙ with-fault _ _ _ _ _ (fault-used (tokens s) (real s) (short s) (kept s) _ (told l) (fine r) _ (ranked r) c.before.if2.true) (λ e. omega arith), l.line-alone.ensures.1))
+    (c.refused_at-then-rank_in-lt-LINES.ensures ∙ with-fault _ _ _ _ _ (fault-used (tokens s) (real s) (short s) (kept s) _ (told l) (fine r) _ (ranked r) c.if-rank_in-lt-LINES.true) (λ e. omega arith), l.line_alone-l.ensures.1))
     (λ c. let f = (start (looked c.before.before.before.before.before)).pre.1 in let a = f.0 in let b = f.1 in omega arith)
     (λ c. let f = (start (looked c.before.before.before.before.before)).pre.1 in let a = f.0 in let b = f.1 in omega arith)
     (λ c. let f = (start (looked c.before.before.before.before.before)).pre.1 in let a = f.0 in let b = f.1 in omega arith)
-    (λ c. let s = start (looked c.before.before.before.before.before) in let f = s.pre.1 in let b = f.1 in let z = (held s).size in omega arith)
+    (λ c. let s = start (looked c.before.before.before.before.before) in let f = s.requires.1 in let b = f.1 in let z = (held s).size in omega arith)
     (λ c κs.
     let r = c.before.before.before.before.before.before in
     let l = looked r in
     let s = start l in
-    (l.line-alone.ensures.1, short s, λ n. check-nameless (tokens s) (real s) (short s) _ (ap (λ (x : Line). x.fault) (sym (told l)) ∙ fine r) (ap (λ (x : Line). x.names) (sym (told l)) ∙ n)))
+    (l.line_alone-l.ensures.1, short s, λ n. check-nameless (tokens s) (real s) (short s) _ (ap (λ (x : Line). x.fault) (sym (told l)) ∙ fine r) (ap (λ (x : Line). x.names) (sym (told l)) ∙ n)))
     (λ c κs. search rules)
     (λ c.
     let n = c.before.before in
     let r = new n in
     let l = looked r in
     let s = start l in
-    (c.refused-at3.ensures ∙ with-fault _ _ _ _ _ (fault-unknown (tokens s) (real s) (short s) (kept s) _ (told l) (fine r) _ (ranked r) n.before.before.before.before.before.before.if2.false _ (known n) (not-true _ c.before.if3.true)) (λ e. omega arith), n.curves-known.ensures.1))
+    (c.refused_at-then-not-curves_known.ensures ∙ with-fault _ _ _ _ _ (fault-unknown (tokens s) (real s) (short s) (kept s) _ (told l) (fine r) _ (ranked r) n.if-rank_in-lt-LINES.false _ (known n) (not-true _ c.if-not-curves_known.true-raw)) (λ e. omega arith), n.curves_known.ensures.1))
     (λ c κs. (start (looked (new c.before))).pre.3)
     (λ c.
     let n = c.before.before in
     let r = new n in
     let l = looked r in
     let s = start l in (
-      c.grown-by.ensures ∙ ap (λ (m : ℕ). grown_by (draft s) s.args.k m s.args.end) (number_is (tokens s) (real s) (short s) (kept s) _ (told l) (fine r))
-          ∙ without-fault (draft s) _ s.args.k _ (fault-none (tokens s) (real s) (short s) (kept s) _ (told l) (fine r) _ (ranked r) n.before.before.before.before.before.before.if2.false _ (known n) (not-false _ c.before.if3.false)),
-      n.curves-known.ensures.1,
+      c.grown_by.ensures ∙ ap (λ (m : ℕ). grown_by (draft s) s.args.k m s.args.end) (number_is (tokens s) (real s) (short s) (kept s) _ (told l) (fine r))
+          ∙ without-fault (draft s) _ s.args.k _ (fault-none (tokens s) (real s) (short s) (kept s) _ (told l) (fine r) _ (ranked r) n.if-rank_in-lt-LINES.false _ (known n) (not-false _ c.if-not-curves_known.false-raw)),
+      n.curves_known.ensures.1,
     )))

@@ -4,10 +4,10 @@ use mathlib.Core.Path.{sym}
 use Rattle.reader.proofs.draft.curves_known.Statement.{statement}
 use Rattle.reader.proofs.draft.curves_known.Tie as tie
 
-pub curves-known-spec : {M : Type 1} → statement M
-curves-known-spec =
+pub curves_known_spec : {M : Type 1} → statement M
+curves_known_spec =
     tie.close
     (tie.spec
-    (λ c. let p = c.before.before.requires in (sym (p.2 (not-true _ c.if1.true)), p.0))
-    (λ c κs. let p = c.before.before.before.requires in (p.0, p.1))
-    (λ c. c.names-alone.ensures))
+    (λ c. let p = c.requires in (sym (p.2 (not-true _ c.if-not-names.true-raw)), p.0))
+    (λ c κs. let p = c.requires in (p.0, p.1))
+    (λ c. c.names_alone.ensures))

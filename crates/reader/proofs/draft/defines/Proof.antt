@@ -7,11 +7,11 @@ use Rattle.tokens.specs.Token.{END}
 use Rattle.reader.proofs.draft.defines.Statement.{statement}
 use Rattle.reader.proofs.draft.defines.Tie as tie
 
-pub defines-spec : {M : Type 1} → statement M
-defines-spec =
+pub defines_spec : {M : Type 1} → statement M
+defines_spec =
     tie.close
     (tie.spec
-    (λ c. rw (ne_eqb c.before.args.count 0 c.if1.true))
-    (λ c. let a = c.before.before.args in rw (eq-eqb a.count 0 c.before.if1.false, get_or-eq_default a.tokens.now END {n = 0} (omega arith)))
+    (λ c. rw (ne_eqb c.args.count 0 c.if-count-ne0.true))
+    (λ c. let a = c.args in rw (eq-eqb a.count 0 c.if-count-ne0.false, get_or-eq_default a.tokens.now END {n = 0} (omega arith)))
     (λ c. search rules)
-    (λ c. rw (eq-eqb c.before.before.before.args.count 0 c.before.before.if1.false)))
+    (λ c. rw (eq-eqb c.args.count 0 c.if-count-ne0.false)))

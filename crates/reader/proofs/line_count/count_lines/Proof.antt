@@ -11,19 +11,19 @@ use Rattle.reader.proofs.TokenLineLaws.{lines_none, line-inside, part-is, lines_
 use Rattle.reader.proofs.line_count.count_lines.Statement.{statement}
 use Rattle.reader.proofs.line_count.count_lines.Tie as tie
 
-abbrev invariant-loop : tie.invariant-loop
+abbrev invariant-loop : tie.invariant-loop-i
 invariant-loop text n₀ i₀ n i = (n + length (numbered 1 (bodies (text_lines (drop i text)))) ≡ length (token_lines text)) × (n ≤ i) × (i ≤ length text + 1)
 
-abbrev decreases-loop : tie.decreases-loop
+abbrev decreases-loop : tie.decreases-loop-i
 decreases-loop text n₀ i₀ n i = length text + 1 - i
 
 -- the line at hand stands in the text
-inside : (c : tie.After-line-bounds invariant-loop decreases-loop) → let b = c.line-bounds.result in (c.before.before.loop.i ≤ b.body) × (b.body ≤ b.end) × (b.end ≤ length c.before.before.before.before.args.text.now)
-inside c = let g = line-inside c.before.before.before.before.args.text.now c.before.before.loop.i _ c.line-bounds.ensures (omega arith) in (g.0, g.1, g.2)
+inside : (c : tie.After-line_bounds-b invariant-loop decreases-loop) → let b = c.line_bounds-b.result in (c.loop-i.i ≤ b.body) × (b.body ≤ b.end) × (b.end ≤ length c.args.text.now)
+inside c = let g = line-inside c.args.text.now c.loop-i.i _ c.line_bounds-b.ensures (omega arith) in (g.0, g.1, g.2)
 
-pub count-lines-spec : {M : Type 1} → statement M
+pub count_lines_spec : {M : Type 1} → statement M
 unfolding token_lines
-count-lines-spec =
+count_lines_spec =
     tie.close
     (tie.spec
     invariant-loop
@@ -40,9 +40,9 @@ count-lines-spec =
     (λ c.
     let l = c.before.before.before.before in
     let b = l.before.before in
-    let t = b.before.before.args.text.now in
-    let e = ap length (lines_step t b.loop.i _ l.line-bounds.ensures 1) in
-    let p = ap is_blank (sym (part-is t b.loop.i _ l.line-bounds.ensures)) ∙ sym c.before.before.is-blank.ensures in
+    let t = b.args.text.now in
+    let e = ap length (lines_step t b.loop-i.i _ l.line_bounds-b.ensures 1) in
+    let p = ap is_blank (sym (part-is t b.loop-i.i _ l.line_bounds-b.ensures)) ∙ sym c.is_blank.ensures in
     let g = inside l in
-    ⊎_elim (λ w. let f = e ∙ count-full _ _ (p ∙ not-true _ w.0.taken) in (omega arith, omega arith, omega arith)) (λ w. let f = e ∙ count-blank _ _ (p ∙ not-false _ w.0.left) in (omega arith, omega arith, omega arith)) c.before.if1.branch)
-    (λ c. let b = c.before in let e = ap length (lines_none b.before.before.args.text.now b.loop.i (omega arith) 1) in omega arith))
+    ⊎_elim (λ w. let f = e ∙ count-full _ _ (p ∙ not-true _ w.0.taken) in (omega arith, omega arith, omega arith)) (λ w. let f = e ∙ count-blank _ _ (p ∙ not-false _ w.0.left) in (omega arith, omega arith, omega arith)) c.if-not-is_blank.branch)
+    (λ c. let b = c.before in let e = ap length (lines_none b.args.text.now b.loop-i.i (omega arith) 1) in omega arith))

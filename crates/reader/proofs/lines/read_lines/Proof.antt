@@ -16,21 +16,21 @@ use Rattle.reader.proofs.EachLineLaws.{none-held, first_count, line-next, line-s
 use Rattle.reader.proofs.lines.read_lines.Statement.{statement}
 use Rattle.reader.proofs.lines.read_lines.Tie as tie
 
-abbrev invariant-loop : tie.invariant-loop
+abbrev invariant-loop : tie.invariant-loop-i
 invariant-loop text s₀ row₀ d₀ k₀ i₀ s row d k i =
     (rows_from (kept_in s d) (numbered k (bodies (text_lines (drop i text)))) ≡ rows_from nothing (token_lines text))
     × Held s d × (row ≡ empty_set) × (d.code ≡ 0)
     × (d.count + length (numbered k (bodies (text_lines (drop i text)))) ≤ max_lines) × (d.at ≤ i) × (k ≤ i + 1) × (i ≤ length text + 1)
 
-abbrev decreases-loop : tie.decreases-loop
+abbrev decreases-loop : tie.decreases-loop-i
 decreases-loop text s₀ row₀ d₀ k₀ i₀ s row d k i = length text + 1 - i
 
-abbrev text : tie.At-loop invariant-loop decreases-loop → List ℕ
-text b = b.before.before.before.args.text.now
+abbrev text : tie.At-loop-i invariant-loop decreases-loop → List ℕ
+text b = b.args.text.now
 
 -- the line at hand, and what follows it
-module _ (c : tie.After-line-bounds invariant-loop decreases-loop) where
-  abbrev begun : tie.At-loop invariant-loop decreases-loop
+module _ (c : tie.After-line_bounds-b invariant-loop decreases-loop) where
+  abbrev begun : tie.At-loop-i invariant-loop decreases-loop
   begun = c.before.before
 
   abbrev body : List ℕ
@@ -52,25 +52,25 @@ module _ (c : tie.After-line-bounds invariant-loop decreases-loop) where
   whole : rows_from (kept_in begun.loop.s begun.loop.d) (numbered begun.loop.k (body ∷ behind)) ≡ rows_from nothing (token_lines (text begun))
   whole = ap (rows_from (kept_in begun.loop.s begun.loop.d)) (sym steps) ∙ begun.loop.inv.0
 
-module _ (c : tie.After-take-line invariant-loop decreases-loop) where
-  abbrev line : tie.After-line-bounds invariant-loop decreases-loop
+module _ (c : tie.After-take_line-d invariant-loop decreases-loop) where
+  abbrev line : tie.After-line_bounds-b invariant-loop decreases-loop
   line = c.before.before.before.before
 
   said : Says (rows_from (kept_in (begun line).loop.s (begun line).loop.d) (numbered (begun line).loop.k (body line ∷ []))) c.take-line.new.1.0 c.take-line.result
   said = rw (is_body line) at c.take-line.ensures.0
 
-pub read-lines-spec : {M : Type 1} → statement M
+pub read_lines_spec : {M : Type 1} → statement M
 unfolding token_lines rows_from rows_at curves_at empty_set
-read-lines-spec =
+read_lines_spec =
     tie.close
     (tie.spec
     invariant-loop
     decreases-loop
     (λ c κs. search rules)
     (λ c.
-    let p = c.before.before.requires in
+    let p = c.requires in
     let few = p.1 in
-    rw c.no-draft.ensures (refl, subst (λ (x : List ℕ). Held x no_draft) (sym p.2) none-held, p.3, refl, omega arith, omega arith, omega arith, omega arith))
+    rw c.no_draft-d.ensures (refl, subst (λ (x : List ℕ). Held x no_draft) (sym p.2) none-held, p.3, refl, omega arith, omega arith, omega arith, omega arith))
     (λ c κs. search rules)
     (λ c. (inside c).0)
     (λ c. (inside c).0)
@@ -78,17 +78,17 @@ read-lines-spec =
     (λ c κs.
     let l = c.before.before.before in
     let b = begun l in
-    let v = b.loop.inv in
+    let v = b.loop-i.inv in
     let g = inside l in
     let e = ap length (steps l) in
-    let f = first_count b.loop.k (body l) (behind l) in
+    let f = first_count b.loop-i.k (body l) (behind l) in
     let n = ap length (is_body l) in
     let few = v.4 in
     rw (is_body l) (v.1, v.2, v.3, omega arith, omega arith))
     (λ c.
     let t = c.before in
     let b = begun (line t) in
-    (subst (λ (o : Outcome). Says o t.take-line.new.1.0 t.take-line.result) (whole (line t)) (line-stop _ _ b.loop.inv.1 _ _ _ _ (said t) (behind (line t)) c.if1.true), t.take-line.ensures.1))
+    (subst (λ (o : Outcome). Says o t.take_line-d.new.1.0 t.take_line-d.result) (whole (line t)) (line-stop _ _ b.loop-i.inv.1 _ _ _ _ (said t) (behind (line t)) c.if-code-ne0.true), t.take_line-d.ensures.1))
     (λ c. omega arith)
     (λ c. omega (arith, inside (line c.before.before)))
     (λ c. omega (arith, inside (line c.before.before)))
@@ -96,17 +96,17 @@ read-lines-spec =
     let t = c.before.before in
     let l = line t in
     let b = begun l in
-    let v = b.loop.inv in
-    let g = line-next _ _ v.1 _ _ _ _ (said t) (behind l) c.before.if1.false in
+    let v = b.loop-i.inv in
+    let g = line-next _ _ v.1 _ _ _ _ (said t) (behind l) c.if-code-ne0.false in
     let h = inside l in
     let e = ap length (steps l) in
     let n = ap length (is_body l) in
     let few = v.4 in
     let r = g.2 in
     let q = g.3 in
-    (sym g.0 ∙ whole l, g.1, t.take-line.ensures.1, c.before.if1.false, omega arith, omega arith, omega arith, omega arith))
+    (sym g.0 ∙ whole l, g.1, t.take_line-d.ensures.1, c.if-code-ne0.false, omega arith, omega arith, omega arith, omega arith))
     (λ c.
     let b = c.before in
-    let v = b.loop.invariant in
-    let e = ap (rows_from (kept_in b.loop.s b.loop.d)) (sym (lines_none (text b) b.loop.i (omega arith) b.loop.k)) ∙ v.0 in
-    (subst (λ (o : Outcome). Says o b.loop.s b.loop.d) e (v.3, refl, v.1), v.2)))
+    let v = b.loop-i.invariant in
+    let e = ap (rows_from (kept_in b.loop-i.s b.loop-i.d)) (sym (lines_none (text b) b.loop-i.i (omega arith) b.loop-i.k)) ∙ v.0 in
+    (subst (λ (o : Outcome). Says o b.loop-i.s b.loop-i.d) e (v.3, refl, v.1), v.2)))

@@ -13,22 +13,22 @@ use Rattle.reader.proofs.TokenLineLaws.{line-blank, line-full}
 use Rattle.reader.proofs.lines.take_line.Statement.{statement}
 use Rattle.reader.proofs.lines.take_line.Tie as tie
 
-pub take-line-spec : {M : Type 1} → statement M
+pub take_line_spec : {M : Type 1} → statement M
 unfolding rows_from numbered
-take-line-spec =
+take_line_spec =
     tie.close
     (tie.spec
     (λ c κs. search rules)
     (λ c.
     let s = c.before.before.before in
-    rw (line-blank s.args.body.now [] s.args.k (sym c.before.is-blank.ensures ∙ c.if1.true)) ((s.requires.2, refl, s.requires.0), s.requires.1))
+    rw (line-blank s.args.body.now [] s.args.k (sym c.is_blank.ensures ∙ c.if-is_blank.true)) ((s.requires.2, refl, s.requires.0), s.requires.1))
     (λ c κs.
     let i = c.before.before in
     let s = i.before.before.before in
-    let e = ap length (line-full s.args.body.now [] s.args.k (sym i.before.is-blank.ensures ∙ i.if1.false)) in
+    let e = ap length (line-full s.args.body.now [] s.args.k (sym i.is_blank.ensures ∙ i.if-is_blank.false)) in
     let few : s.args.d.count < max_lines = let p = s.requires.3 in omega arith in
     (s.requires.0, s.requires.1, few, s.requires.4))
     (λ c.
     let i = c.before.before.before in
     let s = i.before.before.before in
-    rw (line-full s.args.body.now [] s.args.k (sym i.before.is-blank.ensures ∙ i.if1.false)) c.add-line.ensures))
+    rw (line-full s.args.body.now [] s.args.k (sym i.is_blank.ensures ∙ i.if-is_blank.false)) c.add_line.ensures))

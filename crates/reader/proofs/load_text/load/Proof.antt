@@ -17,7 +17,7 @@ use Rattle.reader.proofs.load_text.load.Statement.{statement}
 use Rattle.reader.proofs.load_text.load.Tie as tie
 
 -- the text, and that the set is cleared
-module _ (c : tie.After-empty-set) where
+module _ (c : tie.After-empty_set) where
   abbrev text : List ℕ
   text = c.before.before.args.text.now
 
@@ -25,8 +25,8 @@ module _ (c : tie.After-empty-set) where
   cleared = c.empty-set.ensures
 
 -- it is no longer than a text may be, and has no more lines
-module _ (c : tie.Else2) where
-  abbrev start : tie.After-empty-set
+module _ (c : tie.Else-count_lines-gt-LINES) where
+  abbrev start : tie.After-empty_set
   start = c.before.before.before
 
   short : length (text start) ≤ text_size
@@ -36,8 +36,8 @@ module _ (c : tie.Else2) where
   few = let e = c.before.count-lines.ensures in let l = c.if2.false in omega arith
 
 -- its lines are read
-module _ (c : tie.After-read-lines) where
-  abbrev small : tie.Else2
+module _ (c : tie.After-read_lines-d) where
+  abbrev small : tie.Else-count_lines-gt-LINES
   small = c.before.before.before.before
 
   abbrev array : List ℕ
@@ -55,34 +55,34 @@ load_spec =
     (tie.spec
     (λ c κs. search rules)
     (λ c κs. search rules)
-    (λ c. let s = c.before.before in let w = text-long (text s) c.before.if1.true in (c.answered.ensures ∙ w.0, cleared s ∙ w.1))
-    (λ c κs. c.if1.false)
+    (λ c. let s = c.before.before in let w = text-long (text s) c.if-text-gt-TEXT_SIZE.true in (c.answered.ensures ∙ w.0, cleared s ∙ w.1))
+    (λ c κs. c.if-text-gt-TEXT_SIZE.false)
     (λ c κs. search rules)
     (λ c.
     let l = c.before.before in
     let s = l.before.before in
-    let e = l.count-lines.ensures in
-    let m = c.before.if2.true in
-    let w = text-many (text s) l.before.if1.false (omega arith) in
-    (c.answered2.ensures ∙ w.0, cleared s ∙ w.1))
+    let e = l.count_lines.ensures in
+    let m = c.if-count_lines-gt-LINES.true in
+    let w = text-many (text s) l.if-text-gt-TEXT_SIZE.false (omega arith) in
+    (c.answered-then-count_lines-gt-LINES.ensures ∙ w.0, cleared s ∙ w.1))
     (λ c κs. search rules)
-    (λ c κs. let l = c.before.before.before in (short l, few l, c.before.before.empty-set2.ensures, cleared (start l)))
+    (λ c κs. let l = c.before.before.before in (short l, few l, c.empty_set-s.ensures, cleared (start l)))
     (λ c κs. search rules)
     (λ c.
     let r = c.before.before in
     let l = small r in
-    let w = text-faulty (text (start l)) (short l) (few l) (array r) (draft r) r.read-lines.ensures.0 c.before.if3.true in
-    (c.answered3.ensures ∙ w.0, r.read-lines.ensures.1 ∙ w.1))
-    (λ c κs. let i = c.before.before in ((kept i.before i.if3.false).1, i.before.read-lines.ensures.1))
+    let w = text-faulty (text (start l)) (short l) (few l) (array r) (draft r) r.read_lines-d.ensures.0 c.if-code-ne0.true in
+    (c.answered-then-code-ne0.ensures ∙ w.0, r.read_lines-d.ensures.1 ∙ w.1))
+    (λ c κs. let i = c.before.before in ((kept i.before i.if-code-ne0.false).1, i.read_lines-d.ensures.1))
     (λ c κs. search rules)
     (λ c.
     let u = c.before.before in
     let i = u.before.before.before in
     let r = i.before in
     let l = small r in
-    let w = text-unknown (text (start l)) (short l) (few l) (kept_in (array r) (draft r)) (kept r i.if3.false).0 _ u.first-unknown.ensures.0 c.before.if4.true in
-    (c.answered4.ensures ∙ w.0, u.first-unknown.ensures.1 ∙ w.1))
-    (λ c κs. let i = c.before.before.before.before.before.before in let w = kept i.before i.if3.false in (w.1, w.2))
+    let w = text-unknown (text (start l)) (short l) (few l) (kept_in (array r) (draft r)) (kept r i.if-code-ne0.false).0 _ u.first_unknown-k.ensures.0 c.if-k-ne0.true in
+    (c.answered-then-k-ne0.ensures ∙ w.0, u.first_unknown-k.ensures.1 ∙ w.1))
+    (λ c κs. let i = c.before.before.before.before.before.before in let w = kept i.before i.if-code-ne0.false in (w.1, w.2))
     (λ c κs. search rules)
     (λ c.
     let p = c.before in
@@ -91,5 +91,5 @@ load_spec =
     let i = u.before.before.before in
     let r = i.before in
     let l = small r in
-    let w = text-good (text (start l)) (short l) (few l) (kept_in (array r) (draft r)) (kept r i.if3.false).0 _ u.first-unknown.ensures.0 n.if4.false _ (rw u.first-unknown.ensures.1 at p.put-rows.ensures) in
-    (c.answered5.ensures ∙ w.0, w.1)))
+    let w = text-good (text (start l)) (short l) (few l) (kept_in (array r) (draft r)) (kept r i.if-code-ne0.false).0 _ u.first_unknown-k.ensures.0 n.if-k-ne0.false _ (rw u.first_unknown-k.ensures.1 at p.put_rows.ensures) in
+    (c.answered-2.ensures ∙ w.0, w.1)))

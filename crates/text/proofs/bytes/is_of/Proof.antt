@@ -3,8 +3,8 @@ use borrow.Author.Rules.{rules}
 use Rattle.text.proofs.bytes.is_of.Statement.{statement}
 use Rattle.text.proofs.bytes.is_of.Tie as tie
 
-pub is-of-spec : {M : Type 1} → statement M
-is-of-spec =
+pub is_of_spec : {M : Type 1} → statement M
+is_of_spec =
     tie.close
     (tie.spec
     (λ c. search rules)
@@ -13,7 +13,7 @@ is-of-spec =
     (λ c κs. search rules)
     (λ c. search rules)
     (λ c. search rules)
-    (λ c. rw c.before.enum_told.given.1 c.is_digit.ensures)
-    (λ c. rw c.before.enum-told2.given.1 c.is-word-byte.ensures)
-    (λ c. rw c.enum-told3.given.1)
-    (λ c. rw c.enum-told4.given.1))
+    (λ c. rw c.in-Digit.is c.is_digit.ensures)
+    (λ c. rw c.in-Word.is c.is_word_byte.ensures)
+    (λ c. rw c.in-Line.is)
+    (λ c. rw c.in-Body.is))

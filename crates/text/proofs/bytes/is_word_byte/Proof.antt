@@ -4,12 +4,12 @@ use mathlib.Core.Path.{sym, ◌∙◌}
 use Rattle.text.proofs.bytes.is_word_byte.Statement.{statement}
 use Rattle.text.proofs.bytes.is_word_byte.Tie as tie
 
-pub is-word-byte-spec : {M : Type 1} → statement M
-is-word-byte-spec =
+pub is_word_byte_spec : {M : Type 1} → statement M
+is_word_byte_spec =
     tie.close
     (tie.spec
     (λ c κs. search rules)
-    (λ c. rw (sym c.before.is-letter.ensures ∙ c.if1.true))
+    (λ c. rw (sym c.is_letter.ensures ∙ c.if-is_letter.true))
     (λ c κs. search rules)
-    (λ c. rw (sym c.before.before.before.is-letter.ensures ∙ c.before.before.if1.false, sym c.before.is_digit.ensures ∙ c.if2.true))
-    (λ c. rw (sym c.before.before.before.is-letter.ensures ∙ c.before.before.if1.false, sym c.before.is_digit.ensures ∙ c.if2.false)))
+    (λ c. rw (sym c.is_letter.ensures ∙ c.if-is_letter.false, sym c.is_digit.ensures ∙ c.if-is_digit.true))
+    (λ c. rw (sym c.is_letter.ensures ∙ c.if-is_letter.false, sym c.is_digit.ensures ∙ c.if-is_digit.false)))

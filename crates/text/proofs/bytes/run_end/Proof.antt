@@ -10,14 +10,14 @@ use Rattle.text.specs.ByteLaws.{run-stops, run-goes, run_ends}
 use Rattle.text.proofs.bytes.run_end.Statement.{statement}
 use Rattle.text.proofs.bytes.run_end.Tie as tie
 
-abbrev invariant-loop : tie.invariant-loop
+abbrev invariant-loop : tie.invariant-loop-k
 invariant-loop text at kind k₀ k = k + run (kind_of kind) (drop k text) ≡ at + run (kind_of kind) (drop at text)
 
-abbrev decreases-loop : tie.decreases-loop
+abbrev decreases-loop : tie.decreases-loop-k
 decreases-loop text at kind k₀ k = length text - k
 
-pub run-end-spec : {M : Type 1} → statement M
-run-end-spec =
+pub run_end_spec : {M : Type 1} → statement M
+run_end_spec =
     tie.close
     (tie.spec
     invariant-loop
@@ -25,8 +25,8 @@ run-end-spec =
     (λ c. refl)
     (λ c. omega arith)
     (λ c κs. search rules)
-    (λ c. sym (run-stops _ _ c.before.before.before.before.loop.k (omega arith) (sym c.before.is-of.ensures ∙ not-true _ c.if1.true)) ∙ c.before.before.before.before.loop.invariant)
+    (λ c. sym (run-stops _ _ c.loop-k.k (omega arith) (sym c.is_of.ensures ∙ not-true _ c.if-not-is_of.true-raw)) ∙ c.loop-k.invariant)
     (λ c. omega arith)
     (λ c. omega arith)
-    (λ c. sym (run-goes _ _ c.before.before.before.before.loop.k (omega arith) (sym c.before.is-of.ensures ∙ not-false _ c.if1.false)) ∙ c.before.before.before.before.loop.invariant)
-    (λ c. sym (run_ends _ _ c.before.loop.k (omega arith)) ∙ c.before.loop.invariant))
+    (λ c. sym (run-goes _ _ c.loop-k.k (omega arith) (sym c.is_of.ensures ∙ not-false _ c.if-not-is_of.false-raw)) ∙ c.loop-k.invariant)
+    (λ c. sym (run_ends _ _ c.loop-k.k (omega arith)) ∙ c.loop-k.invariant))

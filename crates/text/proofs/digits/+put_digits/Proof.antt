@@ -23,31 +23,31 @@ put-digits-at t = and 1 put-digits-kinds.ps (is 1 put-digits-kinds.ps μ-put-dig
 abbrev put-digits-below : ℕ → In 1 put-digits-kinds.ps
 put-digits-below t = and 1 put-digits-kinds.ps (falls 1 put-digits-kinds.ps ◌<◌ μ-put-digits t) put-digits.Pre
 
-put-digits-returns : (t : ℕ) → put-digits-lts.Need-returns (put_reads.Asked, put_reads.Learnt, put-digits-below t, put-digits.Post) (put-digits-at t) put-digits.Post
-put-digits-returns t c = let s = c.before.before in rw (no-digits s.args.k s.args.n c.if1.true) put-nothing
+put-digits-returns : (t : ℕ) → put-digits-lts.Need-returns-then-k-eq0 (put_reads.Asked, put_reads.Learnt, put-digits-below t, put-digits.Post) (put-digits-at t) put-digits.Post
+put-digits-returns t c = let s = c.before.before in rw (no-digits s.args.k s.args.n c.if-k-eq0.true) put-nothing
 
-put-digits-put-digits-requires : (t : ℕ) → put-digits-lts.Need-put-digits-requires (put_reads.Asked, put_reads.Learnt, put-digits-below t, put-digits.Post) (put-digits-at t) put-digits.Post
+put-digits-put-digits-requires : (t : ℕ) → put-digits-lts.Need-put_digits-end-requires (put_reads.Asked, put_reads.Learnt, put-digits-below t, put-digits.Post) (put-digits-at t) put-digits.Post
 put-digits-put-digits-requires t c κs = search rules
 
-put-digits-same-length : (t : ℕ) → put-digits-lts.Need-same-length (put_reads.Asked, put_reads.Learnt, put-digits-below t, put-digits.Post) (put-digits-at t) put-digits.Post
+put-digits-same-length : (t : ℕ) → put-digits-lts.Need-shape_of-out-then-n-lt10 (put_reads.Asked, put_reads.Learnt, put-digits-below t, put-digits.Post) (put-digits-at t) put-digits.Post
 put-digits-same-length t c = search rules
 
-put-digits-same-length-2 : (t : ℕ) → put-digits-lts.Need-same-length-2 (put_reads.Asked, put_reads.Learnt, put-digits-below t, put-digits.Post) (put-digits-at t) put-digits.Post
+put-digits-same-length-2 : (t : ℕ) → put-digits-lts.Need-shape_of-out (put_reads.Asked, put_reads.Learnt, put-digits-below t, put-digits.Post) (put-digits-at t) put-digits.Post
 put-digits-same-length-2 t c = search rules
 
-put-digits-returns-2 : (t : ℕ) → put-digits-lts.Need-returns-2 (put_reads.Asked, put_reads.Learnt, put-digits-below t, put-digits.Post) (put-digits-at t) put-digits.Post
+put-digits-returns-2 : (t : ℕ) → put-digits-lts.Need-returns-then-n-lt10 (put_reads.Asked, put_reads.Learnt, put-digits-below t, put-digits.Post) (put-digits-at t) put-digits.Post
 put-digits-returns-2 t c =
     let s = c.before.before.before.before.before.before.before in
-    rw (one-digit s.args.k s.args.n (omega arith) (omega arith)) (put_byte c.before.before.put.ensures)
+    rw (one-digit s.args.k s.args.n (omega arith) (omega arith)) (put_byte c.put.ensures)
 
-put-digits-returns-3 : (t : ℕ) → put-digits-lts.Need-returns-3 (put_reads.Asked, put_reads.Learnt, put-digits-below t, put-digits.Post) (put-digits-at t) put-digits.Post
+put-digits-returns-3 : (t : ℕ) → put-digits-lts.Need-returns (put_reads.Asked, put_reads.Learnt, put-digits-below t, put-digits.Post) (put-digits-at t) put-digits.Post
 put-digits-returns-3 t c =
     let d = c.before.before.before.before.before.before in
     let s = d.before.before.before.before.before in
-    rw (more-digits s.args.k s.args.n (omega arith) (omega arith)) (put_both d.put-digits.ensures (put_byte c.before.before.put2.ensures))
+    rw (more-digits s.args.k s.args.n (omega arith) (omega arith)) (put_both d.put_digits-end.ensures (put_byte c.put-2.ensures))
 
-pub +put-digits-spec : {M : Type 1} → statement M
-+put-digits-spec = close μ-put-digits λ t. put-digits-lts.spec (put_reads.Asked, put_reads.Learnt, put-digits-below t, put-digits.Post) (put-digits-at t) put-digits.Post
+pub +put_digits_spec : {M : Type 1} → statement M
++put_digits_spec = close μ-put-digits λ t. put-digits-lts.spec (put_reads.Asked, put_reads.Learnt, put-digits-below t, put-digits.Post) (put-digits-at t) put-digits.Post
     (put-digits-returns t)
     (λ c. omega arith)
     (λ c. omega arith)

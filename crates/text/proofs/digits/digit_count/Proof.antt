@@ -6,8 +6,8 @@ use Rattle.text.specs.DigitsLaws.{one-digit, count-is}
 use Rattle.text.proofs.digits.digit_count.Statement.{statement}
 use Rattle.text.proofs.digits.digit_count.Tie as tie
 
-pub digit-count-spec : {M : Type 1} → statement M
-digit-count-spec =
+pub digit_count_spec : {M : Type 1} → statement M
+digit_count_spec =
     tie.close
     (tie.spec
     (λ c. sym (ap length (one-digit 10 _ (omega arith) (omega arith))))

@@ -13,13 +13,13 @@ use Rattle.text.proofs.digits.put_number.Statement.{statement}
 use Rattle.text.proofs.digits.put_number.Tie as tie
 
 -- the place within the buffer is as good as the given one
-placed : (w : tie.After-within) → let a = w.before.before.before.before.args in put_at a.out.now w.within.result (decimal a.n) ≡ put_at a.out.now a.at (decimal a.n)
+placed : (w : tie.After-within-p) → let a = w.args in put_at a.out-1.now w.within-p.result (decimal a.n) ≡ put_at a.out-1.now a.at (decimal a.n)
 placed w =
-    let a = w.before.before.before.before.args in
-    ap (λ (y : ℕ). put_at a.out.now y (decimal a.n)) w.within.ensures ∙ put-within (decimal a.n) a.out.now a.at
+    let a = w.args in
+    ap (λ (y : ℕ). put_at a.out-1.now y (decimal a.n)) w.within-p.ensures ∙ put-within (decimal a.n) a.out-1.now a.at
 
-pub put-number-spec : {M : Type 1} → statement M
-put-number-spec =
+pub put_number_spec : {M : Type 1} → statement M
+put_number_spec =
     tie.close
     (tie.spec
     (λ c. omega arith)
@@ -28,15 +28,15 @@ put-number-spec =
     (λ c. search rules)
     (λ c.
     let p = c.before.before in
-    let a = p.before.before.before.before.args in
+    let a = p.args in
     let e = one-digit 10 a.n (omega arith) (omega arith) in
-    (ap (λ (l : List ℕ). length l) (sym e), p.put.ensures ∙ ap (λ (l : List ℕ). put_at a.out.now a.at l) (sym e)))
+    (ap (λ (l : List ℕ). length l) (sym e), p.put.ensures ∙ ap (λ (l : List ℕ). put_at a.out-1.now a.at l) (sym e)))
     (λ c κs. search rules)
     (λ c κs. search rules)
-    (λ c. omega (arith, c.within.ensures))
-    (λ c κs. let w = c.before.before in (w.before.digit-count.ensures, omega (arith, w.within.ensures)))
+    (λ c. omega (arith, c.within-p.ensures))
+    (λ c κs. let w = c.before.before in (w.digit_count-k.ensures, omega (arith, w.within-p.ensures)))
     (λ c. search rules)
-    (λ c. let d = c.before.before in let w = d.before.before.before in (w.before.digit-count.ensures, d.fill-digits.ensures ∙ placed w))
+    (λ c. let d = c.before.before in let w = d.before.before.before in (w.digit_count-k.ensures, d.fill_digits.ensures ∙ placed w))
     (λ c κs. search rules)
     (λ c. search rules)
-    (λ c. let d = c.before.before in let w = d.before.before.before in (w.before.digit-count.ensures, d.put-digits.ensures.put ∙ placed w)))
+    (λ c. let d = c.before.before in let w = d.before.before.before in (w.digit_count-k.ensures, d.put_digits.ensures.put ∙ placed w)))

@@ -8,22 +8,22 @@ use Rattle.text.specs.LinesLaws.{blank-stops, blank-goes, blank-ends}
 use Rattle.text.proofs.lines.is_blank.Statement.{statement}
 use Rattle.text.proofs.lines.is_blank.Tie as tie
 
-abbrev invariant-loop : tie.invariant-loop
+abbrev invariant-loop : tie.invariant-loop-k
 invariant-loop part k₀ k = is_blank (drop k part) ≡ is_blank part
 
-abbrev decreases-loop : tie.decreases-loop
+abbrev decreases-loop : tie.decreases-loop-k
 decreases-loop part k₀ k = length part - k
 
-pub is-blank-spec : {M : Type 1} → statement M
-is-blank-spec =
+pub is_blank_spec : {M : Type 1} → statement M
+is_blank_spec =
     tie.close
     (tie.spec
     invariant-loop
     decreases-loop
     (λ c. refl)
     (λ c. omega arith)
-    (λ c. sym (blank-stops c.before.before.before.before.args.part.now c.before.before.before.loop.k (omega arith) c.if1.true) ∙ c.before.before.before.loop.invariant)
+    (λ c. sym (blank-stops c.args.part.now c.loop-k.k (omega arith) c.if-part-k-ne-SPACE.true) ∙ c.loop-k.invariant)
     (λ c. omega arith)
     (λ c. omega arith)
-    (λ c. sym (blank-goes c.before.before.before.before.args.part.now c.before.before.before.loop.k (omega arith) c.if1.false) ∙ c.before.before.before.loop.invariant)
-    (λ c. sym (blank-ends c.before.before.args.part.now c.before.loop.k (omega arith)) ∙ c.before.loop.invariant))
+    (λ c. sym (blank-goes c.args.part.now c.loop-k.k (omega arith) c.if-part-k-ne-SPACE.false) ∙ c.loop-k.invariant)
+    (λ c. sym (blank-ends c.args.part.now c.loop-k.k (omega arith)) ∙ c.loop-k.invariant))

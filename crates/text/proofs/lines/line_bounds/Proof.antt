@@ -10,20 +10,20 @@ use Rattle.text.specs.LinesLaws.{bounds-none, bounds-last, bounds-more, body-fit
 use Rattle.text.proofs.lines.line_bounds.Statement.{statement}
 use Rattle.text.proofs.lines.line_bounds.Tie as tie
 
-pub line-bounds-spec : {M : Type 1} → statement M
-line-bounds-spec =
+pub line_bounds_spec : {M : Type 1} → statement M
+line_bounds_spec =
     tie.close
     (tie.spec
-    (λ c. bounds-none c.before.before.args.text.now c.before.before.args.at c.if1.true)
+    (λ c. bounds-none c.args.text.now c.args.at c.if-text-at.true)
     (λ c κs. search rules)
     (λ c. search rules)
     (λ c. search rules)
-    (λ c. omega (arith, run_fits in_line c.before.before.before.args.text.now c.before.before.before.args.at (omega arith), c.run_end.ensures))
+    (λ c. omega (arith, run_fits in_line c.args.text.now c.args.at (omega arith), c.run_end-end.ensures))
     (λ c κs. search rules)
-    (λ c. omega (arith, body-fits c.before.before.before.before.before.before.args.text.now c.before.before.before.before.before.before.args.at (omega arith) (c.before.before.before.run_end.result - c.before.before.before.before.before.before.args.at) _ c.run-end2.ensures))
-    (λ c. bounds-last c.before.before.before.before.before.before.args.text.now c.before.before.before.before.before.before.args.at c.before.before.before.run_end.result c.before.before.before.run_end.ensures (omega arith) c.before.if2.true _ c.run-end2.ensures)
+    (λ c. omega (arith, body-fits c.args.text.now c.args.at (omega arith) (c.run_end-end.result - c.args.at) _ c.run_end-last.ensures))
+    (λ c. bounds-last c.args.text.now c.args.at c.run_end-end.result c.run_end-end.ensures (omega arith) c.if-end-text.true _ c.run_end-last.ensures)
     (λ c κs. search rules)
-    (λ c. sym (length-take-le c.before.size-without-return.result (line c.before.before.before.before.before.before.before.args.text.now c.before.before.before.before.before.before.before.args.at c.before.before.before.before.run_end.result c.before.before.before.before.run_end.ensures) (omega (arith, c.before.size-without-return.ensures, return-within (line c.before.before.before.before.before.before.before.args.text.now c.before.before.before.before.before.before.before.args.at c.before.before.before.before.run_end.result c.before.before.before.before.run_end.ensures)))))
+    (λ c. sym (length-take-le c.size_without_return-n.result (line c.args.text.now c.args.at c.run_end-end.result c.run_end-end.ensures) (omega (arith, c.size_without_return-n.ensures, return-within (line c.args.text.now c.args.at c.run_end-end.result c.run_end-end.ensures)))))
     (λ c κs. search rules)
-    (λ c. omega (arith, kept-fits c.before.before.before.before.before.before.before.before.args.text.now c.before.before.before.before.before.before.before.before.args.at (omega arith) c.before.before.size-without-return.result (c.before.before.before.before.before.run_end.result - c.before.before.before.before.before.before.before.before.args.at) _ c.run-end3.ensures))
-    (λ c. bounds-more c.before.before.before.before.before.before.before.before.args.text.now c.before.before.before.before.before.before.before.before.args.at c.before.before.before.before.before.run_end.result c.before.before.before.before.before.run_end.ensures (omega arith) c.before.before.before.if2.false _ c.before.before.size-without-return.ensures _ c.run-end3.ensures))
+    (λ c. omega (arith, kept-fits c.args.text.now c.args.at (omega arith) c.size_without_return-n.result (c.run_end-end.result - c.args.at) _ c.run_end-size.ensures))
+    (λ c. bounds-more c.args.text.now c.args.at c.run_end-end.result c.run_end-end.ensures (omega arith) c.if-end-text.false _ c.size_without_return-n.ensures _ c.run_end-size.ensures))

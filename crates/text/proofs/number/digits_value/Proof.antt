@@ -9,30 +9,30 @@ use Rattle.text.specs.NumberLaws.{Low, value-goes, value-ends, low-more, low-wit
 use Rattle.text.proofs.number.digits_value.Statement.{statement}
 use Rattle.text.proofs.number.digits_value.Tie as tie
 
-abbrev invariant-loop : tie.invariant-loop
+abbrev invariant-loop : tie.invariant-loop-k
 invariant-loop digits n₀ k₀ n k = (digits_value (drop k digits) n ≡ digits_value digits 0) × Low k n × (k ≤ length digits) × (length digits ≤ 7)
 
-abbrev decreases-loop : tie.decreases-loop
+abbrev decreases-loop : tie.decreases-loop-k
 decreases-loop digits n₀ k₀ n k = length digits - k
 
-pub digits-value-spec : {M : Type 1} → statement M
-digits-value-spec =
+pub digits_value_spec : {M : Type 1} → statement M
+digits_value_spec =
     tie.close
     (tie.spec
     invariant-loop
     decreases-loop
-    (λ c. (refl, omega arith, omega arith, c.before.requires))
-    (λ c. omega (arith, low-within _ _ c.before.loop.invariant.1 (omega arith)))
+    (λ c. (refl, omega arith, omega arith, c.requires))
+    (λ c. omega (arith, low-within _ _ c.loop-k.invariant.1 (omega arith)))
     (λ c. omega arith)
     (λ c κs. search rules)
-    (λ c. omega (arith, low-within _ _ c.before.before.before.loop.invariant.1 (omega arith), c.before.shared-slice-known2.given c.before.before.before.loop.k))
+    (λ c. omega (arith, low-within _ _ c.loop-k.invariant.1 (omega arith), c.shared_slice_known-in-loop-k-1.given c.loop-k.k))
     (λ c. omega arith)
     (λ c. omega arith)
     (λ c.
-    rw c.digit-of.ensures (
-      sym (value-goes c.before.before.before.before.before.args.digits.now c.before.before.before.loop.k c.before.before.before.loop.n (omega arith)) ∙ c.before.before.before.loop.invariant.0,
-      low-more c.before.before.before.loop.k c.before.before.before.loop.n (get_or c.before.before.before.before.before.args.digits.now c.before.before.before.loop.k 0) c.before.before.before.loop.invariant.1 (omega (arith, c.before.shared-slice-known2.given c.before.before.before.loop.k)),
+    rw c.digit_of.ensures (
+      sym (value-goes c.args.digits.now c.loop-k.k c.loop-k.n (omega arith)) ∙ c.loop-k.invariant.0,
+      low-more c.loop-k.k c.loop-k.n (get_or c.args.digits.now c.loop-k.k 0) c.loop-k.invariant.1 (omega (arith, c.shared_slice_known-in-loop-k-1.given c.loop-k.k)),
       omega arith,
-      c.before.before.before.loop.invariant.3,
+      c.loop-k.invariant.3,
     ))
-    (λ c. (sym (value-ends c.before.before.before.args.digits.now c.before.loop.k c.before.loop.n (omega arith)) ∙ c.before.loop.invariant.0, low-within _ _ c.before.loop.invariant.1 (omega arith))))
+    (λ c. (sym (value-ends c.args.digits.now c.loop-k.k c.loop-k.n (omega arith)) ∙ c.loop-k.invariant.0, low-within _ _ c.loop-k.invariant.1 (omega arith))))

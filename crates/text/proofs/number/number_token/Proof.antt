@@ -6,31 +6,31 @@ use Rattle.text.specs.NumberLaws.{whole_out, part_out, value_out, value_in, writ
 use Rattle.text.proofs.number.number_token.Statement.{statement}
 use Rattle.text.proofs.number.number_token.Tie as tie
 
-pub number-token-spec : {M : Type 1} → statement M
-number-token-spec =
+pub number_token_spec : {M : Type 1} → statement M
+number_token_spec =
     tie.close
     (tie.spec
     (λ c κs. search rules)
     (λ c. omega arith)
     (λ c. omega arith)
     (λ c. omega arith)
-    (λ c. whole_out c.before.before.before.before.args.before.now c.before.before.before.before.args.behind.now _ c.before.point-mark.ensures.0 (omega arith))
+    (λ c. whole_out c.args.before.now c.args.behind.now _ c.point_mark-mark.ensures.0 (omega arith))
     (λ c. omega arith)
     (λ c. omega arith)
     (λ c. omega arith)
-    (λ c. part_out c.before.before.before.before.before.args.before.now c.before.before.before.before.before.args.behind.now _ c.before.before.point-mark.ensures.0 c.if2.true)
+    (λ c. part_out c.args.before.now c.args.behind.now _ c.point_mark-mark.ensures.0 c.if-behind-gt-PART_DIGITS.true)
     (λ c κs. search rules)
     (λ c. omega arith)
     (λ c κs. search rules)
     (λ c κs. search rules)
-    (λ c. omega (arith, mul-le-mul c.before.digits-value2.ensures.1 c.place-value.ensures.1))
-    (λ c. omega (arith, mul-le-mul c.before.digits-value2.ensures.1 c.place-value.ensures.1))
+    (λ c. omega (arith, mul-le-mul c.digits_value-2.ensures.1 c.place_value.ensures.1))
+    (λ c. omega (arith, mul-le-mul c.digits_value-2.ensures.1 c.place_value.ensures.1))
     (λ c. omega arith)
     (λ c. omega arith)
     (λ c. omega arith)
-    (λ c. value_out c.before.before.before.before.before.before.before.before.before.args.before.now c.before.before.before.before.before.before.before.before.before.args.behind.now _ c.before.before.before.before.before.before.point-mark.ensures.0 _ (written_is c.before.before.before.before.before.before.before.before.before.args.before.now c.before.before.before.before.before.before.before.before.before.args.behind.now _ _ _ c.before.before.before.digits_value.ensures.0 c.before.before.digits-value2.ensures.0 c.before.place-value.ensures.0) c.if3.true)
+    (λ c. value_out c.args.before.now c.args.behind.now _ c.point_mark-mark.ensures.0 _ (written_is c.args.before.now c.args.behind.now _ _ _ c.digits_value.ensures.0 c.digits_value-2.ensures.0 c.place_value.ensures.0) c.if-n-gt-TOP.true)
     (λ c. omega arith)
     (λ c. omega arith)
     (λ c. omega arith)
     (λ c. omega arith)
-    (λ c. value_in c.before.before.before.before.before.before.before.before.before.args.before.now c.before.before.before.before.before.before.before.before.before.args.behind.now _ c.before.before.before.before.before.before.point-mark.ensures.0 _ (written_is c.before.before.before.before.before.before.before.before.before.args.before.now c.before.before.before.before.before.before.before.before.before.args.behind.now _ _ _ c.before.before.before.digits_value.ensures.0 c.before.before.digits-value2.ensures.0 c.before.place-value.ensures.0) (omega arith) (omega arith) c.if3.false))
+    (λ c. value_in c.args.before.now c.args.behind.now _ c.point_mark-mark.ensures.0 _ (written_is c.args.before.now c.args.behind.now _ _ _ c.digits_value.ensures.0 c.digits_value-2.ensures.0 c.place_value.ensures.0) (omega arith) (omega arith) c.if-n-gt-TOP.false))

@@ -9,11 +9,11 @@ use Rattle.text.proofs.number.place_value.Tie as tie
 last-place : (count : ℕ) → (count ≡ 0 → ⊥) → (count ≡ 1 → ⊥) → (count ≡ 2 → ⊥) → 1 ≡ 10 ^ (3 - count)
 last-place count a b d = let z : 3 - count ≡ 0 = omega arith in rw z
 
-pub place-value-spec : {M : Type 1} → statement M
-place-value-spec =
+pub place_value_spec : {M : Type 1} → statement M
+place_value_spec =
     tie.close
     (tie.spec
-    (λ c. (rw c.if1.true, omega arith))
-    (λ c. (rw c.if2.true, omega arith))
-    (λ c. (rw c.if3.true, omega arith))
-    (λ c. (last-place _ c.before.before.if1.false c.before.if2.false c.if3.false, omega arith)))
+    (λ c. (rw c.if-count-eq0.true, omega arith))
+    (λ c. (rw c.if-count-eq1.true, omega arith))
+    (λ c. (rw c.if-count-eq2.true, omega arith))
+    (λ c. (last-place _ c.if-count-eq0.false c.if-count-eq1.false c.if-count-eq2.false, omega arith)))

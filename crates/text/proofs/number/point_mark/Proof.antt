@@ -4,9 +4,9 @@ use Rattle.text.specs.NumberLaws.{no-mark, a-mark}
 use Rattle.text.proofs.number.point_mark.Statement.{statement}
 use Rattle.text.proofs.number.point_mark.Tie as tie
 
-pub point-mark-spec : {M : Type 1} → statement M
-point-mark-spec =
+pub point_mark_spec : {M : Type 1} → statement M
+point_mark_spec =
     tie.close
     (tie.spec
-    (λ c. (no-mark c.before.args.behind.now c.if1.true, omega arith))
-    (λ c. (a-mark c.before.args.behind.now c.if1.false, omega arith)))
+    (λ c. (no-mark c.args.behind.now c.if-behind-eq0.true, omega arith))
+    (λ c. (a-mark c.args.behind.now c.if-behind-eq0.false, omega arith)))

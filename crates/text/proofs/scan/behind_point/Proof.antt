@@ -5,14 +5,14 @@ use Rattle.text.specs.FirstLaws.{no_byte, no-point, point}
 use Rattle.text.proofs.scan.behind_point.Statement.{statement}
 use Rattle.text.proofs.scan.behind_point.Tie as tie
 
-pub behind-point-spec : {M : Type 1} → statement M
-behind-point-spec =
+pub behind_point_spec : {M : Type 1} → statement M
+behind_point_spec =
     tie.close
     (tie.spec
-    (λ c. no_byte c.before.before.args.part.now _ c.if1.true)
+    (λ c. no_byte c.args.part.now _ c.if-part-n.true)
     (λ c. omega arith)
-    (λ c. no-point c.before.before.before.before.args.part.now c.before.before.before.before.args.n c.if2.true)
+    (λ c. no-point c.args.part.now c.args.n c.if-part-n-ne-POINT.true)
     (λ c. omega arith)
     (λ c κs. search rules)
     (λ c. omega (arith, c.run_end.ensures))
-    (λ c. omega (arith, c.run_end.ensures, point c.before.before.before.before.before.args.part.now c.before.before.before.before.before.args.n c.before.if2.false)))
+    (λ c. omega (arith, c.run_end.ensures, point c.args.part.now c.args.n c.if-part-n-ne-POINT.false)))

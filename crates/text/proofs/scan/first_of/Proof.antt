@@ -3,9 +3,9 @@ use Rattle.text.specs.FirstLaws.{found_some}
 use Rattle.text.proofs.scan.first_of.Statement.{statement}
 use Rattle.text.proofs.scan.first_of.Tie as tie
 
-pub first-of-spec : {M : Type 1} → statement M
-first-of-spec =
+pub first_of_spec : {M : Type 1} → statement M
+first_of_spec =
     tie.close
     (tie.spec
-    (λ c. rw c.if1.true)
-    (λ c. found_some c.before.args.t c.before.args.n c.if1.false))
+    (λ c. rw c.if-t-eq0.true)
+    (λ c. found_some c.args.t c.args.n c.if-t-eq0.false))

@@ -6,20 +6,20 @@ use Rattle.text.specs.FirstLaws.{first-none, word_at, number_at, sign_at}
 use Rattle.text.proofs.scan.first_token.Statement.{statement}
 use Rattle.text.proofs.scan.first_token.Tie as tie
 
-pub first-token-spec : {M : Type 1} → statement M
-first-token-spec =
+pub first_token_spec : {M : Type 1} → statement M
+first_token_spec =
     tie.close
     (tie.spec
-    (λ c. first-none c.before.before.args.text.now c.before.before.args.at c.if1.true)
+    (λ c. first-none c.args.text.now c.args.at c.if-text-at.true)
     (λ c. search rules)
     (λ c. search rules)
     (λ c. search rules)
     (λ c. search rules)
     (λ c κs. search rules)
     (λ c κs. search rules)
-    (λ c. c.word_first.ensures ∙ word_at c.before.before.before.before.before.before.before.args.text.now c.before.before.before.before.before.before.before.args.at (omega arith) (sym c.before.before.starts-word.ensures ∙ c.before.if2.true))
+    (λ c. c.word_first.ensures ∙ word_at c.args.text.now c.args.at (omega arith) (sym c.starts_word.ensures ∙ c.if-starts_word.true))
     (λ c κs. search rules)
     (λ c κs. search rules)
-    (λ c. c.number-first.ensures ∙ number_at c.before.before.before.before.before.before.before.before.before.args.text.now c.before.before.before.before.before.before.before.before.before.args.at (omega arith) (sym c.before.before.before.before.starts-word.ensures ∙ c.before.before.before.if2.false) (sym c.before.before.is_digit.ensures ∙ c.before.if3.true))
+    (λ c. c.number_first.ensures ∙ number_at c.args.text.now c.args.at (omega arith) (sym c.starts_word.ensures ∙ c.if-starts_word.false) (sym c.is_digit.ensures ∙ c.if-is_digit.true))
     (λ c κs. search rules)
-    (λ c. c.sign-first.ensures ∙ sign_at c.before.before.before.before.before.before.before.before.before.args.text.now c.before.before.before.before.before.before.before.before.before.args.at (omega arith) (sym c.before.before.before.before.starts-word.ensures ∙ c.before.before.before.if2.false) (sym c.before.before.is_digit.ensures ∙ c.before.if3.false)))
+    (λ c. c.sign_first.ensures ∙ sign_at c.args.text.now c.args.at (omega arith) (sym c.starts_word.ensures ∙ c.if-starts_word.false) (sym c.is_digit.ensures ∙ c.if-is_digit.false)))

@@ -4,11 +4,11 @@ use Rattle.text.specs.FirstLaws.{end_whole, end-point}
 use Rattle.text.proofs.scan.number_end.Statement.{statement}
 use Rattle.text.proofs.scan.number_end.Tie as tie
 
-pub number-end-spec : {M : Type 1} → statement M
-number-end-spec =
+pub number_end_spec : {M : Type 1} → statement M
+number_end_spec =
     tie.close
     (tie.spec
-    (λ c. end_whole c.before.args.n c.before.args.m c.if1.true)
-    (λ c. omega (arith, end-point c.before.args.m c.if1.false, c.before.requires))
-    (λ c. omega (arith, end-point c.before.args.m c.if1.false, c.before.requires))
-    (λ c. omega (arith, end-point c.before.args.m c.if1.false)))
+    (λ c. end_whole c.args.n c.args.m c.if-m-eq0.true)
+    (λ c. omega (arith, end-point c.args.m c.if-m-eq0.false, c.requires))
+    (λ c. omega (arith, end-point c.args.m c.if-m-eq0.false, c.requires))
+    (λ c. omega (arith, end-point c.args.m c.if-m-eq0.false)))

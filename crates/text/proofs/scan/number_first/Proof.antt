@@ -10,11 +10,11 @@ use Rattle.text.specs.FirstLaws.{number_is}
 use Rattle.text.proofs.scan.number_first.Statement.{statement}
 use Rattle.text.proofs.scan.number_first.Tie as tie
 
-pub number-first-spec : {M : Type 1} → statement M
-number-first-spec =
+pub number_first_spec : {M : Type 1} → statement M
+number_first_spec =
     tie.close
     (tie.spec
     (λ c κs. search rules)
     (λ c κs. search rules)
-    (λ c κs. rw c.behind-point.ensures (omega (arith, run_fits is_digit c.before.before.before.args.part.now 0 (omega arith), c.before.run_end.ensures, behind-within (drop c.before.run_end.result c.before.before.before.args.part.now), length-drop c.before.run_end.result c.before.before.before.args.part.now)))
-    (λ c. c.number-with.ensures ∙ number_is c.before.before.before.before.args.part.now c.before.before.run_end.result c.before.behind-point.result c.before.before.run_end.ensures c.before.behind-point.ensures))
+    (λ c κs. rw c.behind_point-m.ensures (omega (arith, run_fits is_digit c.args.part.now 0 (omega arith), c.run_end-n.ensures, behind-within (drop c.run_end-n.result c.args.part.now), length-drop c.run_end-n.result c.args.part.now)))
+    (λ c. c.number_with.ensures ∙ number_is c.args.part.now c.run_end-n.result c.behind_point-m.result c.run_end-n.ensures c.behind_point-m.ensures))

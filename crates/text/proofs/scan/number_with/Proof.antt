@@ -9,18 +9,18 @@ use Rattle.text.specs.FirstLaws.{point-room, letter-behind, no-letter}
 use Rattle.text.proofs.scan.number_with.Statement.{statement}
 use Rattle.text.proofs.scan.number_with.Tie as tie
 
-pub number-with-spec : {M : Type 1} → statement M
-number-with-spec =
+pub number_with_spec : {M : Type 1} → statement M
+number_with_spec =
     tie.close
     (tie.spec
     (λ c κs. search rules)
     (λ c κs. search rules)
-    (λ c. letter-behind c.before.before.before.before.args.part.now c.before.before.before.before.args.n c.before.before.before.before.args.m c.before.before.number-end.result c.before.before.number-end.ensures (sym c.before.is-letter-at.ensures ∙ c.if1.true))
-    (λ c. omega (arith, c.before.before.number-end.ensures, point-room c.before.before.before.before.args.m))
-    (λ c. sym (length-take-le c.before.before.before.before.before.args.n c.before.before.before.before.before.args.part.now (omega (arith, c.before.before.before.before.before.requires))))
+    (λ c. letter-behind c.args.part.now c.args.n c.args.m c.number_end-e.result c.number_end-e.ensures (sym c.is_letter_at.ensures ∙ c.if-is_letter_at.true))
+    (λ c. omega (arith, c.number_end-e.ensures, point-room c.args.m))
+    (λ c. sym (length-take-le c.args.n c.args.part.now (omega (arith, c.requires))))
     (λ c. omega arith)
-    (λ c. omega (arith, c.before.before.before.number-end.ensures, c.before.before.before.before.before.requires))
-    (λ c. omega (arith, c.before.before.before.number-end.ensures, c.before.before.before.before.before.requires, point-room c.before.before.before.before.before.args.m))
+    (λ c. omega (arith, c.number_end-e.ensures, c.requires))
+    (λ c. omega (arith, c.number_end-e.ensures, c.requires, point-room c.args.m))
     (λ c κs. search rules)
     (λ c κs. search rules)
-    (λ c. c.first_of.ensures ∙ ap (λ (k : ℕ). found k c.before.before.before.before.before.before.number-end.result) c.before.number-token.ensures ∙ no-letter c.before.before.before.before.before.before.before.before.args.part.now c.before.before.before.before.before.before.before.before.args.n c.before.before.before.before.before.before.before.before.args.m c.before.before.before.before.before.before.number-end.result c.before.before.before.before.before.before.number-end.ensures (sym c.before.before.before.before.before.is-letter-at.ensures ∙ c.before.before.before.before.if1.false)))
+    (λ c. c.first_of.ensures ∙ ap (λ (k : ℕ). found k c.number_end-e.result) c.number_token.ensures ∙ no-letter c.args.part.now c.args.n c.args.m c.number_end-e.result c.number_end-e.ensures (sym c.is_letter_at.ensures ∙ c.if-is_letter_at.false)))

@@ -3,20 +3,20 @@ use Rattle.text.specs.FirstLaws.{single-none}
 use Rattle.text.proofs.scan.single_token.Statement.{statement}
 use Rattle.text.proofs.scan.single_token.Tie as tie
 
-pub single-token-spec : {M : Type 1} → statement M
-single-token-spec =
+pub single_token_spec : {M : Type 1} → statement M
+single_token_spec =
     tie.close
     (tie.spec
-    (λ c. rw c.if1.true)
-    (λ c. rw c.if2.true)
-    (λ c. rw c.if3.true)
-    (λ c. rw c.if4.true)
-    (λ c. rw c.if5.true)
-    (λ c. rw c.if6.true)
-    (λ c. rw c.if7.true)
-    (λ c. rw c.if8.true)
-    (λ c. rw c.if9.true)
-    (λ c. rw c.if10.true)
-    (λ c. rw c.if11.true)
-    (λ c. rw c.if12.true)
-    (λ c. single-none c.before.before.before.before.before.before.before.before.before.before.before.before.args.a c.before.before.before.before.before.before.before.before.before.before.before.if1.false c.before.before.before.before.before.before.before.before.before.before.if2.false c.before.before.before.before.before.before.before.before.before.if3.false c.before.before.before.before.before.before.before.before.if4.false c.before.before.before.before.before.before.before.if5.false c.before.before.before.before.before.before.if6.false c.before.before.before.before.before.if7.false c.before.before.before.before.if8.false c.before.before.before.if9.false c.before.before.if10.false c.before.if11.false c.if12.false))
+    (λ c. rw c.if-a-eq61.true)
+    (λ c. rw c.if-a-eq60.true)
+    (λ c. rw c.if-a-eq62.true)
+    (λ c. rw c.if-a-eq43.true)
+    (λ c. rw c.if-a-eq45.true)
+    (λ c. rw c.if-a-eq42.true)
+    (λ c. rw c.if-a-eq47.true)
+    (λ c. rw c.if-a-eq40.true)
+    (λ c. rw c.if-a-eq41.true)
+    (λ c. rw c.if-a-eq91.true)
+    (λ c. rw c.if-a-eq93.true)
+    (λ c. rw c.if-a-eq44.true)
+    (λ c. single-none c.args.a c.if-a-eq61.false c.if-a-eq60.false c.if-a-eq62.false c.if-a-eq43.false c.if-a-eq45.false c.if-a-eq42.false c.if-a-eq47.false c.if-a-eq40.false c.if-a-eq41.false c.if-a-eq91.false c.if-a-eq93.false c.if-a-eq44.false))

@@ -11,12 +11,12 @@ use Rattle.text.specs.FirstLaws.{word-is}
 use Rattle.text.proofs.scan.word_first.Statement.{statement}
 use Rattle.text.proofs.scan.word_first.Tie as tie
 
-pub word-first-spec : {M : Type 1} → statement M
-word-first-spec =
+pub word_first_spec : {M : Type 1} → statement M
+word_first_spec =
     tie.close
     (tie.spec
     (λ c κs. search rules)
-    (λ c. sym (length-take-le c.before.run_end.result c.before.before.before.args.part.now (omega (arith, run_fits is_word_byte c.before.before.before.args.part.now 1 c.before.before.before.requires, c.before.run_end.ensures))))
+    (λ c. sym (length-take-le c.run_end-n.result c.args.part.now (omega (arith, run_fits is_word_byte c.args.part.now 1 c.requires, c.run_end-n.ensures))))
     (λ c κs. search rules)
     (λ c κs. search rules)
-    (λ c. c.first_of.ensures ∙ ap (λ (k : ℕ). found k c.before.before.before.run_end.result) c.before.word-token.ensures ∙ word-is c.before.before.before.before.before.args.part.now c.before.before.before.run_end.result c.before.before.before.run_end.ensures))
+    (λ c. c.first_of.ensures ∙ ap (λ (k : ℕ). found k c.run_end-n.result) c.word_token.ensures ∙ word-is c.args.part.now c.run_end-n.result c.run_end-n.ensures))

@@ -9,27 +9,27 @@ use Rattle.text.proofs.word.word_token.Statement.{statement}
 use Rattle.text.proofs.word.word_token.Tie as tie
 
 -- the keywords were tried, and FCTDEF
-defined : (b : tie.Else4) → let w = b.before.before.before.before.before.before.before.before.args.word.now in (t : ℕ) → sought (word_token w) (FCTDEF + 1) t ≡ sought (word_token w) FCTDEF 0 → sought (word_token w) (FCTDEF + 1) t ≡ sought (word_token w) ID 0
+defined : (b : tie.Else-u-ne0) → let w = b.args.word.now in (t : ℕ) → sought (word_token w) (FCTDEF + 1) t ≡ sought (word_token w) FCTDEF 0 → sought (word_token w) (FCTDEF + 1) t ≡ sought (word_token w) ID 0
 defined b t e =
     let d = b.before.before in
-    e ∙ past-signs _ d.before.before.if2.false 0 ∙ going_on _ _ _ b.if4.false ∙ b.before.from-do.ensures ∙ going_on _ _ _ d.if3.false ∙ d.before.from-id.ensures
+    e ∙ past-signs _ d.if-word-eq-DOLLAR.false 0 ∙ going_on _ _ _ b.if-u-ne0.false ∙ b.from_do-u.ensures ∙ going_on _ _ _ d.if-t-ne0.false ∙ d.from_id-t.ensures
 
-pub word-token-spec : {M : Type 1} → statement M
-word-token-spec =
+pub word_token_spec : {M : Type 1} → statement M
+word_token_spec =
     tie.close
     (tie.spec
-    (λ c. word_none c.before.before.args.word.now c.if1.true)
+    (λ c. word_none c.args.word.now c.if-word-eq0.true)
     (λ c. omega arith)
     (λ c κs. omega arith)
     (λ c κs. omega arith)
-    (λ c. word-variable c.before.before.before.before.before.before.args.word.now c.before.before.if2.true _ (c.from-timer.ensures ∙ c.before.from_in.ensures))
+    (λ c. word-variable c.args.word.now c.if-word-eq-DOLLAR.true _ (c.from_timer.ensures ∙ c.from_in.ensures))
     (λ c κs. omega arith)
-    (λ c. word-keyword c.before.before.before.before.before.before.args.word.now c.before.before.if2.false _ _ c.before.from-id.ensures c.if3.true)
+    (λ c. word-keyword c.args.word.now c.if-word-eq-DOLLAR.false _ _ c.from_id-t.ensures c.if-t-ne0.true)
     (λ c κs. omega arith)
-    (λ c. let d = c.before.before in word-keyword d.before.before.before.before.before.before.args.word.now d.before.before.if2.false _ _ (c.before.from-do.ensures ∙ going_on _ _ _ d.if3.false ∙ d.before.from-id.ensures) c.if4.true)
+    (λ c. let d = c.before.before in word-keyword d.args.word.now d.if-word-eq-DOLLAR.false _ _ (c.from_do-u.ensures ∙ going_on _ _ _ d.if-t-ne0.false ∙ d.from_id-t.ensures) c.if-u-ne0.true)
     (λ c κs. omega arith)
-    (λ c. let b = c.before.before in word-keyword b.before.before.before.before.before.before.before.before.args.word.now b.before.before.before.before.if2.false _ _ (defined b _ c.before.from-fctdef.ensures) c.if5.true)
+    (λ c. let b = c.before.before in word-keyword b.args.word.now b.if-word-eq-DOLLAR.false _ _ (defined b _ c.from_fctdef-v.ensures) c.if-v-ne0.true)
     (λ c κs. omega arith)
     (λ c κs. omega arith)
     (λ c κs. omega arith)
-    (λ c. let e = c.before.before.before in let b = e.before.before in word-action b.before.before.before.before.before.before.before.before.args.word.now b.before.before.before.before.if2.false _ _ _ _ (defined b _ e.before.from-fctdef.ensures) e.if5.false c.before.before.from-pos.ensures c.before.from-synfct.ensures c.from-x.ensures))
+    (λ c. let e = c.before.before.before in let b = e.before.before in word-action b.args.word.now b.if-word-eq-DOLLAR.false _ _ _ _ (defined b _ e.from_fctdef-v.ensures) e.if-v-ne0.false c.from_pos.ensures c.from_synfct.ensures c.from_x.ensures))

@@ -5,13 +5,13 @@ use Rattle.tokens.specs.SingleFault.{call_fault}
 use Rattle.tokens.proofs.fault.call_fault.Statement.{statement}
 use Rattle.tokens.proofs.fault.call_fault.Tie as tie
 
-pub call-fault-spec : {M : Type 1} → statement M
+pub call_fault_spec : {M : Type 1} → statement M
 unfolding call_fault
-call-fault-spec =
+call_fault_spec =
     tie.close
     (tie.spec
-    (λ c. simp (call_fault, eq-eqb _ _ c.before.if1.true, lt-leb _ _ c.if2.true))
-    (λ c. simp (call_fault, eq-eqb _ _ c.before.before.if1.true, le-leb _ _ c.before.if2.false, le-leb _ _ c.if3.true))
-    (λ c. simp (call_fault, eq-eqb _ _ c.before.before.if1.true, le-leb _ _ c.before.if2.false, lt-leb _ _ c.if3.false))
+    (λ c. simp (call_fault, eq-eqb _ _ c.if-w-eq-SETAL.true, lt-leb _ _ c.if-n-lt65000.true))
+    (λ c. simp (call_fault, eq-eqb _ _ c.if-w-eq-SETAL.true, le-leb _ _ c.if-n-lt65000.false, le-leb _ _ c.if-n-le69999.true))
+    (λ c. simp (call_fault, eq-eqb _ _ c.if-w-eq-SETAL.true, le-leb _ _ c.if-n-lt65000.false, lt-leb _ _ c.if-n-le69999.false))
     (λ c κs. search rules)
-    (λ c. simp (call_fault, ne_eqb _ _ c.before.if1.false) c.id-fault.ensures))
+    (λ c. simp (call_fault, ne_eqb _ _ c.if-w-eq-SETAL.false) c.id_fault.ensures))

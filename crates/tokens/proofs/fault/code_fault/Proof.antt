@@ -11,11 +11,11 @@ use Rattle.tokens.specs.SingleFaultLaws.{none_first, outside-first}
 use Rattle.tokens.proofs.fault.code_fault.Statement.{statement}
 use Rattle.tokens.proofs.fault.code_fault.Tie as tie
 
-pub code-fault-spec : {M : Type 1} → statement M
+pub code_fault_spec : {M : Type 1} → statement M
 unfolding code_fault
-code-fault-spec =
+code_fault_spec =
     tie.close
     (tie.spec
-    (λ c. sym (simp (code_fault, lt-leb _ _ c.if1.true) (outside-first (eqb c.before.args.keyword WHEN || eqb c.before.args.keyword EVERY) m_alone (omega arith))))
-    (λ c. simp (code_fault, le-leb _ _ c.before.if1.false, c.if2.true, none_first))
-    (λ c. simp (code_fault, le-leb _ _ c.before.if1.false, c.if2.false, none_first)))
+    (λ c. sym (simp (code_fault, lt-leb _ _ c.if-n-gt99.true) (outside-first (eqb c.args.keyword WHEN || eqb c.args.keyword EVERY) m_alone (omega arith))))
+    (λ c. simp (code_fault, le-leb _ _ c.if-n-gt99.false, c.if-keyword.true, none_first))
+    (λ c. simp (code_fault, le-leb _ _ c.if-n-gt99.false, c.if-keyword.false, none_first)))

@@ -4,11 +4,11 @@ use Rattle.tokens.specs.SingleFault.{curve_fault}
 use Rattle.tokens.proofs.fault.curve_fault.Statement.{statement}
 use Rattle.tokens.proofs.fault.curve_fault.Tie as tie
 
-pub curve-fault-spec : {M : Type 1} → statement M
+pub curve_fault_spec : {M : Type 1} → statement M
 unfolding curve_fault
-curve-fault-spec =
+curve_fault_spec =
     tie.close
     (tie.spec
-    (λ c. simp (curve_fault, lt-leb _ _ c.if1.true))
-    (λ c. simp (curve_fault, le-leb _ _ c.before.if1.false, le-leb _ _ c.if2.true))
-    (λ c. simp (curve_fault, le-leb _ _ c.before.if1.false, lt-leb _ _ c.if2.false)))
+    (λ c. simp (curve_fault, lt-leb _ _ c.if-n-lt1.true))
+    (λ c. simp (curve_fault, le-leb _ _ c.if-n-lt1.false, le-leb _ _ c.if-n-le-LAST_CURVE.true))
+    (λ c. simp (curve_fault, le-leb _ _ c.if-n-lt1.false, lt-leb _ _ c.if-n-le-LAST_CURVE.false)))

@@ -6,14 +6,14 @@ use Rattle.tokens.specs.SingleFault.{is_writable}
 use Rattle.tokens.proofs.fault.is_writable.Statement.{statement}
 use Rattle.tokens.proofs.fault.is_writable.Tie as tie
 
-pub is-writable-spec : {M : Type 1} → statement M
+pub is_writable_spec : {M : Type 1} → statement M
 unfolding is_writable
-is-writable-spec =
+is_writable_spec =
     tie.close
     (tie.spec
     (λ c κs. search rules)
-    (λ c. simp (is_writable, sym c.before.before.is-fifo.ensures ∙ c.before.if1.true, eq-eqb _ _ c.if2.true))
-    (λ c. simp (is_writable, sym c.before.before.is-fifo.ensures ∙ c.before.if1.true, ne_eqb _ _ c.if2.false))
-    (λ c. simp (is_writable, sym c.before.before.is-fifo.ensures ∙ c.before.if1.false, eq-eqb _ _ c.if3.true))
-    (λ c. simp (is_writable, sym c.before.before.before.is-fifo.ensures ∙ c.before.before.if1.false, ne_eqb _ _ c.before.if3.false, lt-leb _ _ c.if4.true))
-    (λ c. simp (is_writable, sym c.before.before.before.is-fifo.ensures ∙ c.before.before.if1.false, ne_eqb _ _ c.before.if3.false, le-leb _ _ c.if4.false)))
+    (λ c. simp (is_writable, sym c.is_fifo.ensures ∙ c.if-is_fifo.true, eq-eqb _ _ c.if-i-eq0.true))
+    (λ c. simp (is_writable, sym c.is_fifo.ensures ∙ c.if-is_fifo.true, ne_eqb _ _ c.if-i-eq0.false))
+    (λ c. simp (is_writable, sym c.is_fifo.ensures ∙ c.if-is_fifo.false, eq-eqb _ _ c.if-w-eq-R.true))
+    (λ c. simp (is_writable, sym c.is_fifo.ensures ∙ c.if-is_fifo.false, ne_eqb _ _ c.if-w-eq-R.false, lt-leb _ _ c.if-w-lt-OUT.true))
+    (λ c. simp (is_writable, sym c.is_fifo.ensures ∙ c.if-is_fifo.false, ne_eqb _ _ c.if-w-eq-R.false, le-leb _ _ c.if-w-lt-OUT.false)))

@@ -5,12 +5,12 @@ use Rattle.tokens.specs.SingleFault.{lower}
 use Rattle.tokens.proofs.fault.lower_of.Statement.{statement}
 use Rattle.tokens.proofs.fault.lower_of.Tie as tie
 
-pub lower-of-spec : {M : Type 1} → statement M
+pub lower_of_spec : {M : Type 1} → statement M
 unfolding lower
-lower-of-spec =
+lower_of_spec =
     tie.close
     (tie.spec
-    (λ c. simp (lower, eq-eqb _ _ c.if1.true))
-    (λ c. simp (lower, ne_eqb _ _ c.before.if1.false, eq-eqb _ _ c.if2.true))
-    (λ c. simp (lower, ne_eqb _ _ c.before.before.if1.false, ne_eqb _ _ c.before.if2.false) (omega arith))
-    (λ c. simp (lower, ne_eqb _ _ c.before.before.if1.false, ne_eqb _ _ c.before.if2.false) (omega arith)))
+    (λ c. simp (lower, eq-eqb _ _ c.if-a-eq0.true))
+    (λ c. simp (lower, ne_eqb _ _ c.if-a-eq0.false, eq-eqb _ _ c.if-b-eq0.true))
+    (λ c. simp (lower, ne_eqb _ _ c.if-a-eq0.false, ne_eqb _ _ c.if-b-eq0.false) (omega arith))
+    (λ c. simp (lower, ne_eqb _ _ c.if-a-eq0.false, ne_eqb _ _ c.if-b-eq0.false) (omega arith)))

@@ -13,10 +13,10 @@ use Rattle.tokens.specs.BracketLaws.{bracket-end, bracket-deep, bracket-open, br
 use Rattle.tokens.proofs.fault.opens_too_many.Statement.{statement}
 use Rattle.tokens.proofs.fault.opens_too_many.Tie as tie
 
-abbrev invariant-loop : tie.invariant-loop
+abbrev invariant-loop : tie.invariant-loop-i
 invariant-loop tokens at open₀ i₀ «open» i = opens_too_many (drop i tokens) «open» ≡ opens_too_many (drop at tokens) 0
 
-abbrev decreases-loop : tie.decreases-loop
+abbrev decreases-loop : tie.decreases-loop-i
 decreases-loop tokens at open₀ i₀ «open» i = length tokens - i
 
 -- a bracket that is not ( is )
@@ -27,32 +27,32 @@ closes t e h f = let b = inside 12 13 t (sym e ∙ h) in omega (arith, f)
 apart : (t u : ℕ) {o : Bool} → o ≡ is_bracket t → o ≡ false → is_bracket u ≡ true → t ≡ u → ⊥
 apart t u e h f z = never (sym h ∙ e ∙ ap is_bracket z ∙ f)
 
-pub opens-too-many-spec : {M : Type 1} → statement M
-opens-too-many-spec =
+pub opens_too_many_spec : {M : Type 1} → statement M
+opens_too_many_spec =
     tie.close
     (tie.spec
     invariant-loop
     decreases-loop
     (λ c. refl)
     (λ c κs. search rules)
-    (λ c. sym (bracket-end _ _ _ _ c.before.before.loop-test.true c.before.token-at.ensures c.if1.true) ∙ c.before.before.before.loop.invariant)
+    (λ c. sym (bracket-end _ _ _ _ c.loop-i-test.true c.token_at-t.ensures c.if-t-eq-END.true) ∙ c.loop-i.invariant)
     (λ c κs. search rules)
     (λ c.
     let s = c.before.before.before.before.before in
-    sym (bracket-deep _ _ _ _ s.before.loop-test.true s.token-at.ensures c.before.if3.true (omega arith)) ∙ s.before.before.loop.invariant)
+    sym (bracket-deep _ _ _ _ s.loop-i-test.true s.token_at-t.ensures c.if-t-eq-OPEN.true (omega arith)) ∙ s.loop-i.invariant)
     (λ c. omega arith)
     (λ c. omega arith)
     (λ c. omega arith)
     (λ c. omega arith)
     (λ c.
-    let b = c.before.is-bracket.ensures in
+    let b = c.is_bracket.ensures in
     let s = c.before.before.before in
-    let l = s.before.loop-test.true in
-    let t = s.token-at.ensures in
-    let i = s.before.before.loop.invariant in
+    let l = s.loop-i-test.true in
+    let t = s.token_at-t.ensures in
+    let i = s.loop-i.invariant in
     ⊎_elim (λ w. sym (bracket-open _ _ _ _ l t _ w.1.taken (omega (arith, w.2.left)) w.3) ∙ i)
     (⊎_elim (λ w. sym (bracket-close _ _ _ _ l t _ (closes _ b w.0.taken w.1.left) w.3) ∙ i)
     (⊎_elim (λ w. sym (bracket-close _ _ _ _ l t _ (closes _ b w.0.taken w.1.left) (omega (arith, w.2.left, w.3))) ∙ i)
-    (λ w. sym (bracket-other _ _ _ _ l t _ c.before.before.if1.false (apart _ 12 b w.0.left refl) (apart _ 13 b w.0.left refl) w.1) ∙ i)))
-    c.if2.branch)
-    (λ c. sym (bracket-none _ _ _ c.loop-test.false) ∙ c.before.loop.invariant))
+    (λ w. sym (bracket-other _ _ _ _ l t _ c.if-t-eq-END.false (apart _ 12 b w.0.left refl) (apart _ 13 b w.0.left refl) w.1) ∙ i)))
+    c.if-is_bracket.branch)
+    (λ c. sym (bracket-none _ _ _ c.loop-i-test.false) ∙ c.loop-i.invariant))

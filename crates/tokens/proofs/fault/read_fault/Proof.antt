@@ -12,18 +12,18 @@ use Rattle.tokens.specs.SingleFaultLaws.{none_first, outside-first}
 use Rattle.tokens.proofs.fault.read_fault.Statement.{statement}
 use Rattle.tokens.proofs.fault.read_fault.Tie as tie
 
-pub read-fault-spec : {M : Type 1} → statement M
+pub read_fault_spec : {M : Type 1} → statement M
 unfolding read_fault
-read-fault-spec =
+read_fault_spec =
     tie.close
     (tie.spec
     (λ c κs. search rules)
-    (λ c. sym (simp (read_fault, sym c.before.is-inside.ensures ∙ not-true _ c.if1.true) (outside-first (not (is_fifo c.before.before.args.w && eqb c.before.before.args.i 0)) read_only (omega arith))))
-    (λ c. simp (read_fault, sym c.before.before.is-inside.ensures ∙ not-false _ c.before.if1.false, ne_eqb _ _ c.if2.true, and-false, none_first))
+    (λ c. sym (simp (read_fault, sym c.is_inside.ensures ∙ not-true _ c.if-not-is_inside.true-raw) (outside-first (not (is_fifo c.args.w && eqb c.args.i 0)) read_only (omega arith))))
+    (λ c. simp (read_fault, sym c.is_inside.ensures ∙ not-false _ c.if-not-is_inside.false-raw, ne_eqb _ _ c.if-i-ne0.true, and-false, none_first))
     (λ c κs. search rules)
     (λ c.
     let s = c.before.before.before in
-    simp (read_fault, sym s.before.is-inside.ensures ∙ not-false _ s.if1.false, sym c.before.is-fifo.ensures ∙ c.if3.true, eq-eqb _ _ c.before.before.if2.false, none_first))
+    simp (read_fault, sym s.is_inside.ensures ∙ not-false _ s.if-not-is_inside.false-raw, sym c.is_fifo.ensures ∙ c.if-is_fifo.true, eq-eqb _ _ c.if-i-ne0.false, none_first))
     (λ c.
     let s = c.before.before.before in
-    simp (read_fault, sym s.before.is-inside.ensures ∙ not-false _ s.if1.false, sym c.before.is-fifo.ensures ∙ c.if3.false, none_first)))
+    simp (read_fault, sym s.is_inside.ensures ∙ not-false _ s.if-not-is_inside.false-raw, sym c.is_fifo.ensures ∙ c.if-is_fifo.false, none_first)))

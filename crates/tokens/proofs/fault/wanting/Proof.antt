@@ -3,6 +3,6 @@ use Rattle.tokens.specs.SingleFault.{wanting_fault}
 use Rattle.tokens.proofs.fault.wanting.Statement.{statement}
 use Rattle.tokens.proofs.fault.wanting.Tie as tie
 
-pub wanting-spec : {M : Type 1} → statement M
+pub wanting_spec : {M : Type 1} → statement M
 unfolding wanting_fault
-wanting-spec = tie.close (tie.spec (λ c. simp (wanting_fault, c.if1.true)) (λ c. simp (wanting_fault, c.if1.false)))
+wanting_spec = tie.close (tie.spec (λ c. simp (wanting_fault, c.if-wanted-truth.true)) (λ c. simp (wanting_fault, c.if-wanted-truth.false)))

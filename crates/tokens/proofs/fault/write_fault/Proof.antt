@@ -9,13 +9,13 @@ use Rattle.tokens.specs.SingleFaultLaws.{none_first, outside-first}
 use Rattle.tokens.proofs.fault.write_fault.Statement.{statement}
 use Rattle.tokens.proofs.fault.write_fault.Tie as tie
 
-pub write-fault-spec : {M : Type 1} → statement M
+pub write_fault_spec : {M : Type 1} → statement M
 unfolding write_fault
-write-fault-spec =
+write_fault_spec =
     tie.close
     (tie.spec
     (λ c κs. search rules)
-    (λ c. sym (simp (write_fault, sym c.before.is-inside.ensures ∙ not-true _ c.if1.true) (outside-first (is_writable c.before.before.args.w c.before.before.args.i) read_only (omega arith))))
+    (λ c. sym (simp (write_fault, sym c.is_inside.ensures ∙ not-true _ c.if-not-is_inside.true-raw) (outside-first (is_writable c.args.w c.args.i) read_only (omega arith))))
     (λ c κs. search rules)
-    (λ c. simp (write_fault, sym c.before.before.before.is-inside.ensures ∙ not-false _ c.before.before.if1.false, sym c.before.is-writable.ensures ∙ c.if2.true, none_first))
-    (λ c. simp (write_fault, sym c.before.before.before.is-inside.ensures ∙ not-false _ c.before.before.if1.false, sym c.before.is-writable.ensures ∙ c.if2.false, none_first)))
+    (λ c. simp (write_fault, sym c.is_inside.ensures ∙ not-false _ c.if-not-is_inside.false-raw, sym c.is_writable.ensures ∙ c.if-is_writable.true, none_first))
+    (λ c. simp (write_fault, sym c.is_inside.ensures ∙ not-false _ c.if-not-is_inside.false-raw, sym c.is_writable.ensures ∙ c.if-is_writable.false, none_first)))

@@ -5,10 +5,10 @@ use Rattle.tokens.specs.BetweenLaws.{is-inside, outside}
 use Rattle.tokens.proofs.index.first_index.Statement.{statement}
 use Rattle.tokens.proofs.index.first_index.Tie as tie
 
-pub first-index-spec : {M : Type 1} → statement M
-first-index-spec =
+pub first_index_spec : {M : Type 1} → statement M
+first_index_spec =
     tie.close
     (tie.spec
-    (λ c. simp (outside MARKER FIFO4 c.before.args.w (λ l h. omega (arith, c.if1.true))))
-    (λ c. simp (outside MARKER FIFO4 c.before.before.args.w (λ l h. omega (arith, c.if2.true))))
-    (λ c. simp (is-inside MARKER FIFO4 c.before.before.args.w c.before.if1.false c.if2.false)))
+    (λ c. simp (outside MARKER FIFO4 c.args.w (λ l h. omega (arith, c.if-w-lt-MARKER.true))))
+    (λ c. simp (outside MARKER FIFO4 c.args.w (λ l h. omega (arith, c.if-w-gt-FIFO4.true))))
+    (λ c. simp (is-inside MARKER FIFO4 c.args.w c.if-w-lt-MARKER.false c.if-w-gt-FIFO4.false)))

@@ -5,12 +5,12 @@ use Rattle.tokens.specs.Index.{is_inside}
 use Rattle.tokens.proofs.index.is_inside.Statement.{statement}
 use Rattle.tokens.proofs.index.is_inside.Tie as tie
 
-pub is-inside-spec : {M : Type 1} → statement M
+pub is_inside_spec : {M : Type 1} → statement M
 unfolding is_inside
-is-inside-spec =
+is_inside_spec =
     tie.close
     (tie.spec
     (λ c κs. search rules)
-    (λ c. rw (← c.before.first-index.ensures, lt-leb _ _ c.if1.true))
+    (λ c. rw (← c.first_index.ensures, lt-leb _ _ c.if-i-first_index.true))
     (λ c κs. search rules)
-    (λ c. rw (← c.before.before.first-index.ensures, le-leb _ _ c.before.if1.false, ← c.last-index.ensures)))
+    (λ c. rw (← c.first_index.ensures, le-leb _ _ c.if-i-first_index.false, ← c.last_index.ensures)))

@@ -5,22 +5,22 @@ use Rattle.tokens.specs.IndexLaws.{last-other, last-fifo}
 use Rattle.tokens.proofs.index.last_index.Statement.{statement}
 use Rattle.tokens.proofs.index.last_index.Tie as tie
 
-pub last-index-spec : {M : Type 1} → statement M
-last-index-spec =
+pub last_index_spec : {M : Type 1} → statement M
+last_index_spec =
     tie.close
     (tie.spec
-    (λ c. rw c.if1.true)
-    (λ c. rw c.if2.true)
-    (λ c. rw c.if3.true)
-    (λ c. rw c.if4.true)
+    (λ c. rw c.if-w-eq-R.true)
+    (λ c. rw c.if-w-eq-MARKER.true)
+    (λ c. rw c.if-w-eq-PARAM.true)
+    (λ c. rw c.if-w-eq-TIMER.true)
     (λ c κs. search rules)
-    (λ c. sym (last-fifo c.before.before.before.before.before.before.args.w (sym c.before.is-fifo.ensures ∙ c.if5.true)))
-    (λ c. rw c.if6.true)
-    (λ c. rw c.if7.true)
-    (λ c. rw c.if8.true)
-    (λ c. rw c.if9.true)
+    (λ c. sym (last-fifo c.args.w (sym c.is_fifo.ensures ∙ c.if-is_fifo.true)))
+    (λ c. rw c.if-w-eq-INA.true)
+    (λ c. rw c.if-w-eq-IM.true)
+    (λ c. rw c.if-w-eq-IN.true)
+    (λ c. rw c.if-w-eq-OUT.true)
     (λ c.
     let b = c.before.before in
     let d = b.before.before.before in
     let e = d.before.before in
-    sym (last-other e.before.before.before.args.w e.before.before.if1.false e.before.if2.false e.if3.false d.before.if4.false (sym d.is-fifo.ensures ∙ b.before.before.if5.false) b.before.if6.false b.if7.false c.before.if8.false c.if9.false)))
+    sym (last-other e.args.w e.if-w-eq-R.false e.if-w-eq-MARKER.false e.if-w-eq-PARAM.false d.if-w-eq-TIMER.false (sym d.is_fifo.ensures ∙ b.if-is_fifo.false) b.if-w-eq-INA.false b.if-w-eq-IM.false c.if-w-eq-IN.false c.if-w-eq-OUT.false)))

@@ -7,14 +7,14 @@ use Rattle.tokens.specs.Descent.{index_of, index_at}
 use Rattle.tokens.proofs.token.index_at.Statement.{statement}
 use Rattle.tokens.proofs.token.index_at.Tie as tie
 
-pub index-at-spec : {M : Type 1} → statement M
+pub index_at_spec : {M : Type 1} → statement M
 unfolding index_at
-index-at-spec =
+index_at_spec =
     tie.close
     (tie.spec
     (λ c κs. search rules)
-    (λ c. c.index_of.ensures ∙ ap (index_of _) (sym (get_or-eq_default c.before.before.before.args.set.now 0 (omega arith))))
+    (λ c. c.index_of.ensures ∙ ap (index_of _) (sym (get_or-eq_default c.args.set.now 0 (omega arith))))
     (λ c. search rules)
     (λ c κs. search rules)
     (λ c κs. search rules)
-    (λ c. c.index-of2.ensures ∙ ap (index_of _) c.before.token-at.ensures))
+    (λ c. c.index_of-2.ensures ∙ ap (index_of _) c.token_at.ensures))

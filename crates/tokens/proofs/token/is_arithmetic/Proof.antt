@@ -5,5 +5,5 @@ use Rattle.tokens.specs.BetweenLaws.{arithmetic-range}
 use Rattle.tokens.proofs.token.is_arithmetic.Statement.{statement}
 use Rattle.tokens.proofs.token.is_arithmetic.Tie as tie
 
-pub is-arithmetic-spec : {M : Type 1} → statement M
-is-arithmetic-spec = tie.close (tie.spec (λ c κs. search rules) (λ c. c.is-between.ensures ∙ arithmetic-range c.before.args.t))
+pub is_arithmetic_spec : {M : Type 1} → statement M
+is_arithmetic_spec = tie.close (tie.spec (λ c κs. search rules) (λ c. c.is_between.ensures ∙ arithmetic-range c.args.t))

@@ -3,5 +3,5 @@ use borrow.Author.Tests.{le-leb, lt-leb}
 use Rattle.tokens.proofs.token.is_between.Statement.{statement}
 use Rattle.tokens.proofs.token.is_between.Tie as tie
 
-pub is-between-spec : {M : Type 1} → statement M
-is-between-spec = tie.close (tie.spec (λ c. simp (lt-leb _ _ c.if1.true)) (λ c. simp (le-leb _ _ c.if1.false)))
+pub is_between_spec : {M : Type 1} → statement M
+is_between_spec = tie.close (tie.spec (λ c. simp (lt-leb _ _ c.if-t-low.true)) (λ c. simp (le-leb _ _ c.if-t-low.false)))

@@ -5,12 +5,12 @@ use Rattle.tokens.specs.Descent.{is_index}
 use Rattle.tokens.proofs.token.is_index.Statement.{statement}
 use Rattle.tokens.proofs.token.is_index.Tie as tie
 
-pub is-index-spec : {M : Type 1} → statement M
+pub is_index_spec : {M : Type 1} → statement M
 unfolding is_index
-is-index-spec =
+is_index_spec =
     tie.close
     (tie.spec
     (λ c κs. search rules)
-    (λ c. simp (le-leb _ _ c.before.if1.true) c.is-axis.ensures)
+    (λ c. simp (le-leb _ _ c.if-w-ge-IM.true) c.is_axis.ensures)
     (λ c κs. search rules)
-    (λ c. simp (lt-leb _ _ c.before.if1.false) c.is-whole.ensures))
+    (λ c. simp (lt-leb _ _ c.if-w-ge-IM.false) c.is_whole.ensures))

@@ -9,22 +9,22 @@ use Rattle.tokens.specs.Descent.{is_index, is_indexed}
 use Rattle.tokens.proofs.token.is_indexed.Statement.{statement}
 use Rattle.tokens.proofs.token.is_indexed.Tie as tie
 
-pub is-indexed-spec : {M : Type 1} → statement M
+pub is_indexed_spec : {M : Type 1} → statement M
 unfolding is_indexed
-is-indexed-spec =
+is_indexed_spec =
     tie.close
     (tie.spec
-    (λ c. rw (get_or-eq_default c.before.before.args.set.now 0 {n = c.before.before.args.at + 1} (omega arith)))
+    (λ c. rw (get_or-eq_default c.args.set.now 0 {n = c.args.at + 1} (omega arith)))
     (λ c. search rules)
     (λ c κs. search rules)
-    (λ c. simp (ne_eqb _ _ (λ e. c.if2.true (c.before.token-at.ensures ∙ e))))
+    (λ c. simp (ne_eqb _ _ (λ e. c.if-token_at-ne-LEFT.true (c.token_at.ensures ∙ e))))
     (λ c. search rules)
     (λ c κs. search rules)
-    (λ c. simp (eq-eqb _ _ (sym c.before.before.before.token-at.ensures ∙ c.before.before.if2.false), ne_eqb _ _ (λ e. c.if3.true (c.before.token-at2.ensures ∙ e))))
+    (λ c. simp (eq-eqb _ _ (sym c.token_at.ensures ∙ c.if-token_at-ne-LEFT.false), ne_eqb _ _ (λ e. c.if-token_at-ne-RIGHT.true (c.token_at-2.ensures ∙ e))))
     (λ c. search rules)
     (λ c κs. search rules)
     (λ c κs. search rules)
     (λ c.
     let s = c.before.before.before in
-    simp (eq-eqb _ _ (sym s.before.before.token-at.ensures ∙ s.before.if2.false), eq-eqb _ _ (sym s.token-at2.ensures ∙ c.before.before.if3.false))
-    (c.is-index.ensures ∙ ap (is_index _) c.before.token-at3.ensures)))
+    simp (eq-eqb _ _ (sym s.token_at.ensures ∙ s.if-token_at-ne-LEFT.false), eq-eqb _ _ (sym s.token_at-2.ensures ∙ c.if-token_at-ne-RIGHT.false))
+    (c.is_index.ensures ∙ ap (is_index _) c.token_at-3.ensures)))

@@ -17,5 +17,5 @@ drive-moves t n =
     (λ e. rw (eqb-true t POS e))
     (λ e. let p = eqb-false t POS e in decide _ (eqb t MOV) (λ f. rw (eqb-true t MOV f)) (λ f. let m = eqb-false t MOV f in rw (e, f) (outside POS MOV t (λ l h. omega (arith, n, p, m)))))
 
-pub is-move-spec : {M : Type 1} → statement M
-is-move-spec = tie.close (tie.spec (λ c. rw c.if1.true) (λ c κs. search rules) (λ c. c.is-drive.ensures ∙ drive-moves _ c.before.if1.false))
+pub is_move_spec : {M : Type 1} → statement M
+is_move_spec = tie.close (tie.spec (λ c. rw c.if-t-eq-FA.true) (λ c κs. search rules) (λ c. c.is_drive.ensures ∙ drive-moves _ c.if-t-eq-FA.false))

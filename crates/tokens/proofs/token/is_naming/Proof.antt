@@ -4,10 +4,10 @@ use mathlib.Core.Path.{sym, ◌∙◌}
 use Rattle.tokens.proofs.token.is_naming.Statement.{statement}
 use Rattle.tokens.proofs.token.is_naming.Tie as tie
 
-pub is-naming-spec : {M : Type 1} → statement M
-is-naming-spec =
+pub is_naming_spec : {M : Type 1} → statement M
+is_naming_spec =
     tie.close
     (tie.spec
     (λ c κs. search rules)
-    (λ c. rw (sym c.before.is-lock.ensures ∙ c.if1.true))
-    (λ c. rw (sym c.before.is-lock.ensures ∙ c.if1.false)))
+    (λ c. rw (sym c.is_lock.ensures ∙ c.if-is_lock.true))
+    (λ c. rw (sym c.is_lock.ensures ∙ c.if-is_lock.false)))

@@ -4,10 +4,10 @@ use mathlib.Core.Path.{sym, ◌∙◌}
 use Rattle.tokens.proofs.token.is_row.Statement.{statement}
 use Rattle.tokens.proofs.token.is_row.Tie as tie
 
-pub is-row-spec : {M : Type 1} → statement M
-is-row-spec =
+pub is_row_spec : {M : Type 1} → statement M
+is_row_spec =
     tie.close
     (tie.spec
     (λ c κs. search rules)
-    (λ c. rw (sym c.before.is-logic.ensures ∙ c.if1.true))
-    (λ c. rw (sym c.before.is-logic.ensures ∙ c.if1.false)))
+    (λ c. rw (sym c.is_logic.ensures ∙ c.if-is_logic.true))
+    (λ c. rw (sym c.is_logic.ensures ∙ c.if-is_logic.false)))

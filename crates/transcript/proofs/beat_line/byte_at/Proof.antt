@@ -5,5 +5,5 @@ use lib.ListN.{get_or-eq_default}
 use Rattle.transcript.proofs.beat_line.byte_at.Statement.{statement}
 use Rattle.transcript.proofs.beat_line.byte_at.Tie as tie
 
-pub byte-at-spec : {M : Type 1} → statement M
-byte-at-spec = tie.close (tie.spec (λ c. search rules) (λ c. search rules) (λ c. sym (get_or-eq_default c.before.args.part.now 0 c.if1.false)))
+pub byte_at_spec : {M : Type 1} → statement M
+byte_at_spec = tie.close (tie.spec (λ c. search rules) (λ c. search rules) (λ c. sym (get_or-eq_default c.args.part.now 0 c.if-at-part.false)))

@@ -11,7 +11,7 @@ close_spec =
     tie.close
     (tie.spec
     (λ c κs. search rules)
-    (λ c. simp (closed, ne_eqb _ _ c.before.if1.true, c.ill-formed.ensures))
-    (λ c. simp (closed, eq-eqb _ _ c.before.if1.false, eq-eqb _ _ c.if2.true))
+    (λ c. simp (closed, ne_eqb _ _ c.if-stage-ne-ENDABLE.true, c.ill_formed.ensures))
+    (λ c. simp (closed, eq-eqb _ _ c.if-stage-ne-ENDABLE.false, eq-eqb _ _ c.if-field-eq0.true))
     (λ c κs. search rules)
-    (λ c. simp (closed, eq-eqb _ _ c.before.before.if1.false, ne_eqb _ _ c.before.if2.false, c.with-field.ensures)))
+    (λ c. simp (closed, eq-eqb _ _ c.if-stage-ne-ENDABLE.false, ne_eqb _ _ c.if-field-eq0.false, c.with_field.ensures)))

@@ -6,9 +6,9 @@ use Rattle.transcript.specs.HalfLine.{digit_byte}
 use Rattle.transcript.proofs.beat_line.digit_byte.Statement.{statement}
 use Rattle.transcript.proofs.beat_line.digit_byte.Tie as tie
 
-pub digit-byte-spec : {M : Type 1} → statement M
+pub digit_byte_spec : {M : Type 1} → statement M
 unfolding digit_byte
-digit-byte-spec =
+digit_byte_spec =
     tie.close
     (tie.spec
     (λ c. omega (arith, inside 48 57 c.args.b c.requires))

@@ -4,6 +4,6 @@ use Rattle.transcript.specs.HalfLine.{digits_so_far}
 use Rattle.transcript.proofs.beat_line.digits_so_far.Statement.{statement}
 use Rattle.transcript.proofs.beat_line.digits_so_far.Tie as tie
 
-pub digits-so-far-spec : {M : Type 1} → statement M
+pub digits_so_far_spec : {M : Type 1} → statement M
 unfolding digits_so_far
-digits-so-far-spec = tie.close (tie.spec (λ c. simp (digits_so_far, eq-eqb _ _ c.if1.true)) (λ c. simp (digits_so_far, ne_eqb _ _ c.if1.false)))
+digits_so_far_spec = tie.close (tie.spec (λ c. simp (digits_so_far, eq-eqb _ _ c.if-stage-eq-NOTHING.true)) (λ c. simp (digits_so_far, ne_eqb _ _ c.if-stage-eq-NOTHING.false)))

@@ -3,5 +3,5 @@ use borrow.Author.Tests.{eq-eqb, ne_eqb}
 use Rattle.transcript.proofs.beat_line.follow.Statement.{statement}
 use Rattle.transcript.proofs.beat_line.follow.Tie as tie
 
-pub follow-spec : {M : Type 1} → statement M
-follow-spec = tie.close (tie.spec (λ c. rw (eq-eqb _ _ c.if1.true)) (λ c. rw (ne_eqb _ _ c.if1.false)))
+pub follow_spec : {M : Type 1} → statement M
+follow_spec = tie.close (tie.spec (λ c. rw (eq-eqb _ _ c.if-b-wanted.true)) (λ c. rw (ne_eqb _ _ c.if-b-wanted.false)))

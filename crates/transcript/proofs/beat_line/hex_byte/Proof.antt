@@ -7,22 +7,22 @@ use Rattle.transcript.specs.HalfLine.{eight_digits, digits_so_far, hex_byte}
 use Rattle.transcript.proofs.beat_line.hex_byte.Statement.{statement}
 use Rattle.transcript.proofs.beat_line.hex_byte.Tie as tie
 
-many : (c : tie.Then1) → eight_digits ≤ digits_so_far c.before.before.args.r
-many c = rw (← c.before.digits-so-far.ensures) c.if1.true
+many : (c : tie.Then-v-ge-EIGHT_DIGITS) → eight_digits ≤ digits_so_far c.args.r
+many c = rw (← c.digits_so_far-v.ensures) c.if-v-ge-EIGHT_DIGITS.true
 
-few : (c : tie.Else1) → digits_so_far c.before.before.args.r < eight_digits
-few c = rw (← c.before.digits-so-far.ensures) c.if1.false
+few : (c : tie.Else-v-ge-EIGHT_DIGITS) → digits_so_far c.args.r < eight_digits
+few c = rw (← c.digits_so_far-v.ensures) c.if-v-ge-EIGHT_DIGITS.false
 
-pub hex-byte-spec : {M : Type 1} → statement M
+pub hex_byte_spec : {M : Type 1} → statement M
 unfolding hex_byte
-hex-byte-spec =
+hex_byte_spec =
     tie.close
     (tie.spec
     (λ c κs. search rules)
     (λ c κs. search rules)
-    (λ c. simp (hex_byte, le-ltb _ _ (many c.before), c.ill-formed.ensures))
+    (λ c. simp (hex_byte, le-ltb _ _ (many c.before), c.ill_formed.ensures))
     (λ c. search rules)
     (λ c κs. search rules)
-    (λ c. omega (arith, c.hex-digit.ensures.1))
+    (λ c. omega (arith, c.hex_digit.ensures.1))
     (λ c κs. search rules)
-    (λ c. let h = c.before in simp (hex_byte, lt-ltb _ _ (few h.before), c.with-reading.ensures, h.before.before.digits-so-far.ensures, h.hex-digit.ensures.0)))
+    (λ c. let h = c.before in simp (hex_byte, lt-ltb _ _ (few h.before), c.with_reading.ensures, h.digits_so_far-v.ensures, h.hex_digit.ensures.0)))

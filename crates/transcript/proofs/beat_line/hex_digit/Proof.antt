@@ -9,20 +9,20 @@ use Rattle.text.specs.Byte.{is_digit}
 use Rattle.transcript.proofs.beat_line.hex_digit.Statement.{statement}
 use Rattle.transcript.proofs.beat_line.hex_digit.Tie as tie
 
-is : (c : tie.Then1) → is_digit c.before.before.args.b ≡ true
-is c = sym c.before.is_digit.ensures ∙ c.if1.true
+is : (c : tie.Then-is_digit) → is_digit c.args.b ≡ true
+is c = sym c.is_digit.ensures ∙ c.if-is_digit.true
 
-not : (c : tie.Else1) → is_digit c.before.before.args.b ≡ false
-not c = sym c.before.is_digit.ensures ∙ c.if1.false
+not : (c : tie.Else-is_digit) → is_digit c.args.b ≡ false
+not c = sym c.is_digit.ensures ∙ c.if-is_digit.false
 
-low : (c : tie.Then1) → let b = c.before.before.args.b in (48 ≤ b) × (b ≤ 57)
-low c = inside 48 57 c.before.before.args.b (is c)
+low : (c : tie.Then-is_digit) → let b = c.args.b in (48 ≤ b) × (b ≤ 57)
+low c = inside 48 57 c.args.b (is c)
 
-high : (c : tie.Else1) → let b = c.before.before.args.b in (65 ≤ b) × (b ≤ 70)
-high c = inside 65 70 c.before.before.args.b (rw (not c) at c.before.before.requires)
+high : (c : tie.Else-is_digit) → let b = c.args.b in (65 ≤ b) × (b ≤ 70)
+high c = inside 65 70 c.args.b (rw (not c) at c.requires)
 
-pub hex-digit-spec : {M : Type 1} → statement M
-hex-digit-spec =
+pub hex_digit_spec : {M : Type 1} → statement M
+hex_digit_spec =
     tie.close
     (tie.spec
     (λ c κs. search rules)

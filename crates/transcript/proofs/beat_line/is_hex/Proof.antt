@@ -5,11 +5,11 @@ use mathlib.Core.Path.{sym, ◌∙◌}
 use Rattle.transcript.proofs.beat_line.is_hex.Statement.{statement}
 use Rattle.transcript.proofs.beat_line.is_hex.Tie as tie
 
-pub is-hex-spec : {M : Type 1} → statement M
-is-hex-spec =
+pub is_hex_spec : {M : Type 1} → statement M
+is_hex_spec =
     tie.close
     (tie.spec
     (λ c κs. search rules)
-    (λ c. rw (sym c.before.is_digit.ensures ∙ c.if1.true))
-    (λ c. rw (sym c.before.before.is_digit.ensures ∙ c.before.if1.false, lt-leb _ _ c.if2.true))
-    (λ c. rw (sym c.before.before.is_digit.ensures ∙ c.before.if1.false, le-leb _ _ c.if2.false)))
+    (λ c. rw (sym c.is_digit.ensures ∙ c.if-is_digit.true))
+    (λ c. rw (sym c.is_digit.ensures ∙ c.if-is_digit.false, lt-leb _ _ c.if-b-lt65.true))
+    (λ c. rw (sym c.is_digit.ensures ∙ c.if-is_digit.false, le-leb _ _ c.if-b-lt65.false)))

@@ -4,10 +4,10 @@ use Rattle.transcript.specs.HalfLine.{is_untouched}
 use Rattle.transcript.proofs.beat_line.is_untouched.Statement.{statement}
 use Rattle.transcript.proofs.beat_line.is_untouched.Tie as tie
 
-pub is-untouched-spec : {M : Type 1} → statement M
+pub is_untouched_spec : {M : Type 1} → statement M
 unfolding is_untouched
-is-untouched-spec =
+is_untouched_spec =
     tie.close
     (tie.spec
-    (λ c. simp (ne_eqb _ _ c.if1.true))
-    (λ c. simp (eq-eqb _ _ c.if1.false)))
+    (λ c. simp (ne_eqb _ _ c.if-field-ne0.true))
+    (λ c. simp (eq-eqb _ _ c.if-field-ne0.false)))

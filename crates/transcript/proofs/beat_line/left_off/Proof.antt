@@ -5,5 +5,5 @@ use Rattle.transcript.specs.BeatLine.{sending}
 use Rattle.transcript.proofs.beat_line.left_off.Statement.{statement}
 use Rattle.transcript.proofs.beat_line.left_off.Tie as tie
 
-pub left-off-spec : {M : Type 1} → statement M
-left-off-spec = tie.close (tie.spec (λ c κs. search rules) (λ c. ap sending c.reading-of.ensures))
+pub left_off_spec : {M : Type 1} → statement M
+left_off_spec = tie.close (tie.spec (λ c κs. search rules) (λ c. ap sending c.reading_of-r.ensures))

@@ -4,11 +4,11 @@ use Rattle.transcript.specs.HalfLine.{letter_stage}
 use Rattle.transcript.proofs.beat_line.letter_stage.Statement.{statement}
 use Rattle.transcript.proofs.beat_line.letter_stage.Tie as tie
 
-pub letter-stage-spec : {M : Type 1} → statement M
+pub letter_stage_spec : {M : Type 1} → statement M
 unfolding letter_stage
-letter-stage-spec =
+letter_stage_spec =
     tie.close
     (tie.spec
-    (λ c. simp (letter_stage, eq-eqb _ _ c.if1.true))
-    (λ c. simp (letter_stage, ne_eqb _ _ c.before.if1.false, eq-eqb _ _ c.if2.true))
-    (λ c. simp (letter_stage, ne_eqb _ _ c.before.if1.false, ne_eqb _ _ c.if2.false)))
+    (λ c. simp (letter_stage, eq-eqb _ _ c.if-b-eq-P.true))
+    (λ c. simp (letter_stage, ne_eqb _ _ c.if-b-eq-P.false, eq-eqb _ _ c.if-b-eq-R.true))
+    (λ c. simp (letter_stage, ne_eqb _ _ c.if-b-eq-P.false, ne_eqb _ _ c.if-b-eq-R.false)))

@@ -5,5 +5,5 @@ use Rattle.transcript.proofs.BeatLineLaws.{flipped}
 use Rattle.transcript.proofs.beat_line.negated.Statement.{statement}
 use Rattle.transcript.proofs.beat_line.negated.Tie as tie
 
-pub negated-spec : {M : Type 1} → statement M
-negated-spec = tie.close (tie.spec (λ c. rw c.if1.true) (λ c. search rules) (λ c. search rules) (λ c. flipped c.before.args.n (omega (arith, c.if1.false)) c.before.requires))
+pub negated_spec : {M : Type 1} → statement M
+negated_spec = tie.close (tie.spec (λ c. rw c.if-n-eq0.true) (λ c. search rules) (λ c. search rules) (λ c. flipped c.args.n (omega (arith, c.if-n-eq0.false)) c.requires))

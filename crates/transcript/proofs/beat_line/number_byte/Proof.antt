@@ -6,15 +6,15 @@ use Rattle.transcript.specs.HalfLine.{number_byte}
 use Rattle.transcript.proofs.beat_line.number_byte.Statement.{statement}
 use Rattle.transcript.proofs.beat_line.number_byte.Tie as tie
 
-pub number-byte-spec : {M : Type 1} → statement M
+pub number_byte_spec : {M : Type 1} → statement M
 unfolding number_byte
-number-byte-spec =
+number_byte_spec =
     tie.close
     (tie.spec
     (λ c κs. search rules)
-    (λ c κs. sym c.before.is_digit.ensures ∙ c.if1.true)
-    (λ c. simp (number_byte, sym c.before.before.is_digit.ensures ∙ c.before.if1.true, c.digit-byte.ensures))
+    (λ c κs. sym c.is_digit.ensures ∙ c.if-is_digit.true)
+    (λ c. simp (number_byte, sym c.is_digit.ensures ∙ c.if-is_digit.true, c.digit_byte.ensures))
     (λ c κs. search rules)
-    (λ c. simp (number_byte, sym c.before.before.before.is_digit.ensures ∙ c.before.before.if1.false, eq-eqb _ _ c.before.if2.true, c.minus-byte.ensures))
+    (λ c. simp (number_byte, sym c.is_digit.ensures ∙ c.if-is_digit.false, eq-eqb _ _ c.if-b-eq-MINUS.true, c.minus_byte.ensures))
     (λ c κs. search rules)
-    (λ c. simp (number_byte, sym c.before.before.before.is_digit.ensures ∙ c.before.before.if1.false, ne_eqb _ _ c.before.if2.false, c.ill-formed.ensures)))
+    (λ c. simp (number_byte, sym c.is_digit.ensures ∙ c.if-is_digit.false, ne_eqb _ _ c.if-b-eq-MINUS.false, c.ill_formed.ensures)))

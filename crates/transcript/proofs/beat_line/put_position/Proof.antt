@@ -5,5 +5,5 @@ use lib.Seq.{set_out}
 use Rattle.transcript.proofs.beat_line.put_position.Statement.{statement}
 use Rattle.transcript.proofs.beat_line.put_position.Tie as tie
 
-pub put-position-spec : {M : Type 1} → statement M
-put-position-spec = tie.close (tie.spec (λ c. search rules) (λ c. search rules) (λ c. search rules) (λ c. search rules) (λ c. sym (set_out _ _ _ c.if1.false)))
+pub put_position_spec : {M : Type 1} → statement M
+put_position_spec = tie.close (tie.spec (λ c. search rules) (λ c. search rules) (λ c. search rules) (λ c. search rules) (λ c. sym (set_out _ _ _ c.if-at-positions.false)))

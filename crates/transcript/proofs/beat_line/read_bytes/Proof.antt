@@ -9,14 +9,14 @@ use Rattle.transcript.proofs.BeatLineLaws.{read_next, read_none}
 use Rattle.transcript.proofs.beat_line.read_bytes.Statement.{statement}
 use Rattle.transcript.proofs.beat_line.read_bytes.Tie as tie
 
-abbrev invariant-loop : tie.invariant-loop
+abbrev invariant-loop : tie.invariant-loop-i
 invariant-loop part x₀ i₀ x i = (read_on x (drop i part) ≡ read_on x₀ part) × (i ≤ length part)
 
-abbrev decreases-loop : tie.decreases-loop
+abbrev decreases-loop : tie.decreases-loop-i
 decreases-loop part x₀ i₀ x i = length part - i
 
-pub read-bytes-spec : {M : Type 1} → statement M
-read-bytes-spec =
+pub read_bytes_spec : {M : Type 1} → statement M
+read_bytes_spec =
     tie.close
     (tie.spec
     invariant-loop
@@ -26,10 +26,10 @@ read-bytes-spec =
     (λ c κs. search rules)
     (λ c. omega arith)
     (λ c κs. omega arith)
-    (λ c. omega (arith, c.before.read-run.ensures.0))
+    (λ c. omega (arith, c.read_run-f.ensures.0))
     (λ c.
     let u = c.before in
     let b = u.before in
     let l = b.before.before.before in
-    (u.read-run.ensures.1 ∙ read_next _ _ l.loop.i (omega arith) b.read_byte.ensures ∙ l.loop.invariant.0, u.read-run.ensures.0.1))
-    (λ c. let b = c.before in sym (read_none _ _ b.loop.i (omega arith)) ∙ b.loop.invariant.0))
+    (u.read_run-f.ensures.1 ∙ read_next _ _ l.loop-i.i (omega arith) b.read_byte.ensures ∙ l.loop-i.invariant.0, u.read_run-f.ensures.0.1))
+    (λ c. let b = c.before in sym (read_none _ _ b.loop-i.i (omega arith)) ∙ b.loop-i.invariant.0))

@@ -6,13 +6,13 @@ use Rattle.transcript.proofs.BeatLineLaws.{unended, no_word, lends}
 use Rattle.transcript.proofs.beat_line.read_lent.Statement.{statement}
 use Rattle.transcript.proofs.beat_line.read_lent.Tie as tie
 
-pub read-lent-spec : {M : Type 1} → statement M
-read-lent-spec =
+pub read_lent_spec : {M : Type 1} → statement M
+read_lent_spec =
     tie.close
     (tie.spec
     (λ c κs. search rules)
     (λ c κs. search rules)
-    (λ c. c.nothing_lent.ensures ∙ ap maybe_lent (sym (unended _ c.before.before.close.ensures c.before.if1.true)))
+    (λ c. c.nothing_lent.ensures ∙ ap maybe_lent (sym (unended _ c.close-c.ensures c.if-stage-ne-ENDABLE.true)))
     (λ c κs. search rules)
-    (λ c. c.nothing-lent2.ensures ∙ ap maybe_lent (sym (no_word _ c.before.before.before.close.ensures c.before.if2.true)))
-    (λ c. ap maybe_lent (sym (lends _ c.before.before.before.before.close.ensures c.before.before.before.if1.false c.before.before.if2.false))))
+    (λ c. c.nothing_lent-then-field-lt1.ensures ∙ ap maybe_lent (sym (no_word _ c.close-c.ensures c.if-field-lt1.true)))
+    (λ c. ap maybe_lent (sym (lends _ c.close-c.ensures c.if-stage-ne-ENDABLE.false c.if-field-lt1.false))))

@@ -5,18 +5,18 @@ use mathlib.Core.Path.{refl, sym, ◌∙◌}
 use Rattle.transcript.proofs.beat_line.read_run.Statement.{statement}
 use Rattle.transcript.proofs.beat_line.read_run.Tie as tie
 
-pub read-run-spec : {M : Type 1} → statement M
-read-run-spec =
+pub read_run_spec : {M : Type 1} → statement M
+read_run_spec =
     tie.close
     (tie.spec
-    (λ c. ((omega arith, c.before.before.requires), refl))
-    (λ c. ((omega arith, c.before.before.before.requires), refl))
+    (λ c. ((omega arith, c.requires), refl))
+    (λ c. ((omega arith, c.requires), refl))
     (λ c κs. search rules)
     (λ c κs.
     let i = c.before.before.before in
-    (record { kind = sym c.before.is-reading.ensures ∙ c.if3.true; goes_on = omega (arith, i.if1.false) }, i.before.before.requires))
-    (λ c. c.reading-run.ensures)
+    (record { kind = sym c.is_reading.ensures ∙ c.if-is_reading.true; goes_on = omega (arith, i.if-stage-ge-ILL.false) }, i.requires))
+    (λ c. c.reading_run.ensures)
     (λ c κs.
     let i = c.before.before.before in
-    (record { behind_mode = omega (arith, c.before.before.if2.false); kind = sym c.before.is-reading.ensures ∙ c.if3.false; goes_on = omega (arith, i.if1.false) }, i.before.before.requires))
-    (λ c. c.number-run.ensures))
+    (record { behind_mode = omega (arith, c.if-field-eq0.false); kind = sym c.is_reading.ensures ∙ c.if-is_reading.false; goes_on = omega (arith, i.if-stage-ge-ILL.false) }, i.requires))
+    (λ c. c.number_run.ensures))

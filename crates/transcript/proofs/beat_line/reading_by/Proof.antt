@@ -5,13 +5,13 @@ use Rattle.transcript.specs.HalfLine.{reading_by}
 use Rattle.transcript.proofs.beat_line.reading_by.Statement.{statement}
 use Rattle.transcript.proofs.beat_line.reading_by.Tie as tie
 
-pub reading-by-spec : {M : Type 1} → statement M
+pub reading_by_spec : {M : Type 1} → statement M
 unfolding reading_by
-reading-by-spec =
+reading_by_spec =
     tie.close
     (tie.spec
-    (λ c. simp (reading_by, eq-eqb _ _ c.if1.true))
-    (λ c. simp (reading_by, ne_eqb _ _ c.before.if1.false, le-leb _ _ c.if2.true))
+    (λ c. simp (reading_by, eq-eqb _ _ c.if-v-eq-BREAK_VALUE.true))
+    (λ c. simp (reading_by, ne_eqb _ _ c.if-v-eq-BREAK_VALUE.false, le-leb _ _ c.if-v-ge-SHORT_VALUE.true))
     (λ c. search rules)
     (λ c κs. search rules)
-    (λ c. simp (reading_by, ne_eqb _ _ c.before.before.if1.false, lt-leb _ _ c.before.if2.false, c.reading-of.ensures)))
+    (λ c. simp (reading_by, ne_eqb _ _ c.if-v-eq-BREAK_VALUE.false, lt-leb _ _ c.if-v-ge-SHORT_VALUE.false, c.reading_of.ensures)))

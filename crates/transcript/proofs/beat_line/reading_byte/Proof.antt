@@ -6,17 +6,17 @@ use Rattle.transcript.specs.HalfLine.{reading_byte}
 use Rattle.transcript.proofs.beat_line.reading_byte.Statement.{statement}
 use Rattle.transcript.proofs.beat_line.reading_byte.Tie as tie
 
-pub reading-byte-spec : {M : Type 1} → statement M
+pub reading_byte_spec : {M : Type 1} → statement M
 unfolding reading_byte
-reading-byte-spec =
+reading_byte_spec =
     tie.close
     (tie.spec
     (λ c κs. search rules)
-    (λ c κs. sym c.before.is-hex.ensures ∙ c.if1.true)
-    (λ c. simp (reading_byte, sym c.before.before.is-hex.ensures ∙ c.before.if1.true, c.hex-byte.ensures))
+    (λ c κs. sym c.is_hex.ensures ∙ c.if-is_hex.true)
+    (λ c. simp (reading_byte, sym c.is_hex.ensures ∙ c.if-is_hex.true, c.hex_byte.ensures))
     (λ c κs. search rules)
-    (λ c. simp (reading_byte, sym c.before.before.before.is-hex.ensures ∙ c.before.before.if1.false, ne_eqb _ _ c.before.if2.true, c.ill-formed.ensures))
+    (λ c. simp (reading_byte, sym c.is_hex.ensures ∙ c.if-is_hex.false, ne_eqb _ _ c.if-b-ne-S.true, c.ill_formed.ensures))
     (λ c κs. search rules)
-    (λ c. simp (reading_byte, sym c.before.before.before.before.is-hex.ensures ∙ c.before.before.before.if1.false, eq-eqb _ _ c.before.before.if2.false, ne_eqb _ _ c.before.if3.true, c.ill-formed2.ensures))
+    (λ c. simp (reading_byte, sym c.is_hex.ensures ∙ c.if-is_hex.false, eq-eqb _ _ c.if-b-ne-S.false, ne_eqb _ _ c.if-stage-ne-NOTHING.true, c.ill_formed-then-stage-ne-NOTHING.ensures))
     (λ c κs. search rules)
-    (λ c. simp (reading_byte, sym c.before.before.before.before.is-hex.ensures ∙ c.before.before.before.if1.false, eq-eqb _ _ c.before.before.if2.false, eq-eqb _ _ c.before.if3.false, c.with-reading.ensures)))
+    (λ c. simp (reading_byte, sym c.is_hex.ensures ∙ c.if-is_hex.false, eq-eqb _ _ c.if-b-ne-S.false, eq-eqb _ _ c.if-stage-ne-NOTHING.false, c.with_reading.ensures)))

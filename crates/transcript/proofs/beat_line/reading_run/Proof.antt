@@ -8,22 +8,22 @@ use Rattle.transcript.proofs.BeatLineLaws.{read_as}
 use Rattle.transcript.proofs.beat_line.reading_run.Statement.{statement}
 use Rattle.transcript.proofs.beat_line.reading_run.Tie as tie
 
-pub reading-run-spec : {M : Type 1} → statement M
-reading-run-spec =
+pub reading_run_spec : {M : Type 1} → statement M
+reading_run_spec =
     tie.close
     (tie.spec
     (λ c κs. search rules)
     (λ c κs. search rules)
-    (λ c. ((omega arith, c.before.before.before.before.requires.1), refl))
+    (λ c. ((omega arith, c.requires.1), refl))
     (λ c κs. search rules)
-    (λ c. ((omega arith, c.before.before.before.before.before.before.requires.1), refl))
+    (λ c. ((omega arith, c.requires.1), refl))
     (λ c κs.
     let i = c.before.before in
-    (ap is_hex (sym i.before.before.byte_at.ensures) ∙ sym i.before.is-hex.ensures ∙ not-false _ i.if1.false, c.if2.false))
+    (ap is_hex (sym i.byte_at-b.ensures) ∙ sym i.is_hex.ensures ∙ not-false _ i.if-not-is_hex.false-raw, c.if-before-ge-EIGHT_DIGITS.false))
     (λ c κs. search rules)
     (λ c.
     let h = c.before in
     let d = h.before.before in
     let s = d.before.before.before.before.before in
-    let e = h.read-hex.ensures in
-    ((omega (arith, e.0), e.0.1), read_as s.args.part.now h.read-hex.result.end c.with-reading.ensures (e.1 s.args.r s.requires.0 (sym d.digits-so-far.ensures)))))
+    let e = h.read_hex-d.ensures in
+    ((omega (arith, e.0), e.0.1), read_as s.args.part.now h.read_hex-d.result.end c.with_reading.ensures (e.1 s.args.r s.requires.0 (sym d.digits_so_far-before.ensures)))))

@@ -4,11 +4,11 @@ use Rattle.transcript.specs.HalfLine.{reading_stage}
 use Rattle.transcript.proofs.beat_line.reading_stage.Statement.{statement}
 use Rattle.transcript.proofs.beat_line.reading_stage.Tie as tie
 
-pub reading-stage-spec : {M : Type 1} → statement M
+pub reading_stage_spec : {M : Type 1} → statement M
 unfolding reading_stage
-reading-stage-spec =
+reading_stage_spec =
     tie.close
     (tie.spec
-    (λ c. simp (reading_stage, eq-eqb _ _ c.if1.true))
-    (λ c. simp (reading_stage, ne_eqb _ _ c.before.if1.false, le-leb _ _ c.if2.true))
-    (λ c. simp (reading_stage, ne_eqb _ _ c.before.if1.false, lt-leb _ _ c.if2.false)))
+    (λ c. simp (reading_stage, eq-eqb _ _ c.if-v-eq-BREAK_VALUE.true))
+    (λ c. simp (reading_stage, ne_eqb _ _ c.if-v-eq-BREAK_VALUE.false, le-leb _ _ c.if-v-ge-EIGHT_DIGITS.true))
+    (λ c. simp (reading_stage, ne_eqb _ _ c.if-v-eq-BREAK_VALUE.false, lt-leb _ _ c.if-v-ge-EIGHT_DIGITS.false)))

@@ -9,11 +9,11 @@ use Rattle.transcript.specs.HalfLine.{signed}
 use Rattle.transcript.proofs.beat_line.signed_value.Statement.{statement}
 use Rattle.transcript.proofs.beat_line.signed_value.Tie as tie
 
-pub signed-value-spec : {M : Type 1} → statement M
-signed-value-spec =
+pub signed_value_spec : {M : Type 1} → statement M
+signed_value_spec =
     tie.close
     (tie.spec
-    (λ c κs. c.before.requires.0 c.if1.true)
-    (λ c. back w32 (record { sfits = c.negated.type-inv }) ∙ c.negated.ensures ∙ ap (λ (b : Bool). signed b c.before.before.args.n) (sym c.before.if1.true))
-    (λ c. omega (arith, c.before.requires.1 c.if1.false))
-    (λ c. to_z_pos w32 _ (c.before.requires.1 c.if1.false) ∙ ap (λ (b : Bool). signed b c.before.args.n) (sym c.if1.false)))
+    (λ c κs. c.requires.0 c.if-negative.true)
+    (λ c. back w32 (record { sfits = c.negated.type_inv }) ∙ c.negated.ensures ∙ ap (λ (b : Bool). signed b c.args.n) (sym c.if-negative.true))
+    (λ c. omega (arith, c.requires.1 c.if-negative.false))
+    (λ c. to_z_pos w32 _ (c.requires.1 c.if-negative.false) ∙ ap (λ (b : Bool). signed b c.args.n) (sym c.if-negative.false)))

@@ -5,14 +5,14 @@ use Rattle.transcript.specs.HalfLine.{space_after}
 use Rattle.transcript.proofs.beat_line.space_after.Statement.{statement}
 use Rattle.transcript.proofs.beat_line.space_after.Tie as tie
 
-pub space-after-spec : {M : Type 1} → statement M
+pub space_after_spec : {M : Type 1} → statement M
 unfolding space_after
-space-after-spec =
+space_after_spec =
     tie.close
     (tie.spec
     (λ c κs. search rules)
-    (λ c. simp (space_after, ne_eqb _ _ c.before.if1.true, c.ill-formed.ensures))
+    (λ c. simp (space_after, ne_eqb _ _ c.if-stage-ne-ENDABLE.true, c.ill_formed.ensures))
     (λ c κs. search rules)
-    (λ c. simp (space_after, eq-eqb _ _ c.before.before.if1.false, le-ltb _ _ c.before.if2.true, c.ill-formed2.ensures))
+    (λ c. simp (space_after, eq-eqb _ _ c.if-stage-ne-ENDABLE.false, le-ltb _ _ c.if-field-ge-LAST_FIELD.true, c.ill_formed-then-field-ge-LAST_FIELD.ensures))
     (λ c. search rules)
-    (λ c. simp (space_after, eq-eqb _ _ c.before.if1.false, lt-ltb _ _ c.if2.false)))
+    (λ c. simp (space_after, eq-eqb _ _ c.if-stage-ne-ENDABLE.false, lt-ltb _ _ c.if-field-ge-LAST_FIELD.false)))

@@ -12,28 +12,28 @@ use Rattle.transcript.proofs.BeatLineLaws.{word_bound, negative-bound, positive-
 use Rattle.transcript.proofs.beat_line.with_field.Statement.{statement}
 use Rattle.transcript.proofs.beat_line.with_field.Tie as tie
 
-beyond : (c : tie.Then1) → greatest c.before.before.args.r < c.before.before.args.r.value
-beyond c = rw (← c.before.greatest-value.ensures c.before.before.args.r refl refl) c.if1.true
+beyond : (c : tie.Then-greatest_value-value) → greatest c.args.r < c.args.r.value
+beyond c = rw (← c.greatest_value.ensures c.args.r refl refl) c.if-greatest_value-value.true
 
-within : (c : tie.Else1) → c.before.before.args.r.value ≤ greatest c.before.before.args.r
-within c = rw (← c.before.greatest-value.ensures c.before.before.args.r refl refl) c.if1.false
+within : (c : tie.Else-greatest_value-value) → c.args.r.value ≤ greatest c.args.r
+within c = rw (← c.greatest_value.ensures c.args.r refl refl) c.if-greatest_value-value.false
 
-is : (c : tie.Then3) → is_reading c.before.before.before.before.before.args.r.field ≡ true
-is c = sym c.before.is-reading.ensures ∙ c.if3.true
+is : (c : tie.Then-is_reading) → is_reading c.args.r.field ≡ true
+is c = sym c.is_reading.ensures ∙ c.if-is_reading.true
 
-not : (c : tie.Else3) → is_reading c.before.before.before.before.before.args.r.field ≡ false
-not c = sym c.before.is-reading.ensures ∙ c.if3.false
+not : (c : tie.Else-is_reading) → is_reading c.args.r.field ≡ false
+not c = sym c.is_reading.ensures ∙ c.if-is_reading.false
 
-pub with-field-spec : {M : Type 1} → statement M
+pub with_field_spec : {M : Type 1} → statement M
 unfolding with_field
-with-field-spec =
+with_field_spec =
     tie.close
     (tie.spec
     (λ c κs. search rules)
     (λ c κs. search rules)
-    (λ c. simp (with_field, lt-leb _ _ (beyond c.before), c.ill-formed.ensures))
-    (λ c. omega (arith, word_bound _ (within c.before) c.if2.true))
-    (λ c. simp (with_field, le-leb _ _ (within c.before), eq-eqb _ _ c.if2.true))
+    (λ c. simp (with_field, lt-leb _ _ (beyond c.before), c.ill_formed.ensures))
+    (λ c. omega (arith, word_bound _ (within c.before) c.if-field-eq1.true))
+    (λ c. simp (with_field, le-leb _ _ (within c.before), eq-eqb _ _ c.if-field-eq1.true))
     (λ c κs. search rules)
     (λ c. search rules)
     (λ c. search rules)
@@ -42,20 +42,20 @@ with-field-spec =
     (λ c.
     let d = c.before.before.before in
     let i = d.before.before in
-    with-sent _ (within i.before) i.if2.false (is d) c.before.reading-by.ensures c.with-sent.ensures)
+    with-sent _ (within i.before) i.if-field-eq1.false (is d) c.reading_by.ensures c.with_sent-next.ensures)
     (λ c. search rules)
     (λ c.
     let d = c.before.before in
     let i = d.before.before in
-    position_from _ i.before.before.before.requires i.if2.false (not d))
+    position_from _ i.requires i.if-field-eq1.false (not d))
     (λ c. search rules)
     (λ c κs.
     let d = c.before.before in
     let i = d.before.before in
-    (negative-bound _ (within i.before) i.if2.false (not d), positive-bound _ (within i.before) i.if2.false (not d)))
+    (negative-bound _ (within i.before) i.if-field-eq1.false (not d), positive-bound _ (within i.before) i.if-field-eq1.false (not d)))
     (λ c κs. search rules)
     (λ c.
     let s = c.before.before in
     let d = s.before.before.before in
     let i = d.before.before in
-    with-position _ (within i.before) i.if2.false (not d) refl (back w32 (record { sfits = s.signed-value.type-inv }) ∙ s.signed-value.ensures) c.before.put-position.ensures))
+    with-position _ (within i.before) i.if-field-eq1.false (not d) refl (back w32 (record { sfits = s.signed_value.type_inv }) ∙ s.signed_value.ensures) c.put_position.ensures))

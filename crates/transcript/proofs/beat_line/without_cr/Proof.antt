@@ -6,16 +6,16 @@ use Rattle.transcript.proofs.BeatLineLaws.{no_return}
 use Rattle.transcript.proofs.beat_line.without_cr.Statement.{statement}
 use Rattle.transcript.proofs.beat_line.without_cr.Tie as tie
 
-pub without-cr-spec : {M : Type 1} → statement M
+pub without_cr_spec : {M : Type 1} → statement M
 unfolding without_cr
-without-cr-spec =
+without_cr_spec =
     tie.close
     (tie.spec
-    (λ c. no_return _ c.if1.true)
+    (λ c. no_return _ c.if-stage-lt-RETURN.true)
     (λ c κs. search rules)
-    (λ c. simp (without_cr, eq-eqb _ _ c.before.if2.true, c.with-stage.ensures))
+    (λ c. simp (without_cr, eq-eqb _ _ c.if-stage-eq-RETURN.true, c.with_stage.ensures))
     (λ c κs. search rules)
-    (λ c. let i = c.before in simp (without_cr, ne_eqb _ _ i.before.if2.false, eq-eqb _ _ i.if3.true, c.with-stage2.ensures))
+    (λ c. let i = c.before in simp (without_cr, ne_eqb _ _ i.if-stage-eq-RETURN.false, eq-eqb _ _ i.if-stage-eq-PROGRAM_END_RETURN.true, c.with_stage-then-stage-eq-PROGRAM_END_RETURN.ensures))
     (λ c κs. search rules)
-    (λ c. let i = c.before in let j = i.before in simp (without_cr, ne_eqb _ _ j.before.if2.false, ne_eqb _ _ j.if3.false, eq-eqb _ _ i.if4.true, c.with-stage3.ensures))
-    (λ c. let j = c.before in simp (without_cr, ne_eqb _ _ j.before.if2.false, ne_eqb _ _ j.if3.false, ne_eqb _ _ c.if4.false)))
+    (λ c. let i = c.before in let j = i.before in simp (without_cr, ne_eqb _ _ j.if-stage-eq-RETURN.false, ne_eqb _ _ j.if-stage-eq-PROGRAM_END_RETURN.false, eq-eqb _ _ i.if-stage-eq-CONTROL_RESET_RETURN.true, c.with_stage-then-stage-eq-CONTROL_RESET_RETURN.ensures))
+    (λ c. let j = c.before in simp (without_cr, ne_eqb _ _ j.if-stage-eq-RETURN.false, ne_eqb _ _ j.if-stage-eq-PROGRAM_END_RETURN.false, ne_eqb _ _ c.if-stage-eq-CONTROL_RESET_RETURN.false)))

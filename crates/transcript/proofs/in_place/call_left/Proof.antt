@@ -7,11 +7,11 @@ use Rattle.transcript.specs.InPlace.{call_left}
 use Rattle.transcript.proofs.in_place.call_left.Statement.{statement}
 use Rattle.transcript.proofs.in_place.call_left.Tie as tie
 
-pub call-left-spec : {M : Type 1} → statement M
-call-left-spec =
+pub call_left_spec : {M : Type 1} → statement M
+call_left_spec =
     tie.close
     (tie.spec
     (λ c κs. search rules)
-    (λ c. rw c.before.before.if1.true (ap (λ (y : Called). y.state) c.before.control-reset.ensures))
+    (λ c. rw c.if-reset.true (ap (λ (y : Called). y.state) c.control_reset-c.ensures))
     (λ c κs. search rules)
-    (λ c. rw c.before.before.if1.false (ap (λ (y : Called). y.state) c.before.program-end.ensures)))
+    (λ c. rw c.if-reset.false (ap (λ (y : Called). y.state) c.program_end-c.ensures)))

@@ -5,11 +5,11 @@ use Rattle.engine.specs.HeldLaws.{state-apart}
 use Rattle.transcript.proofs.in_place.hold.Statement.{statement}
 use Rattle.transcript.proofs.in_place.hold.Tie as tie
 
-pub hold-spec : {M : Type 1} → statement M
-hold-spec =
+pub hold_spec : {M : Type 1} → statement M
+hold_spec =
     tie.close
     (tie.spec
     (λ c κs. search rules)
     (λ c kept e.
     let s = c.before.before.before.before.before in
-    rw e (state-apart s.before.before.before.before.args.state [] s.spread-cells.ensures)))
+    rw e (state-apart s.args.state [] s.spread_cells.ensures)))

@@ -8,20 +8,20 @@ use Rattle.transcript.proofs.StepLaws.{fed-as, line-told, line_as, line-totals}
 use Rattle.transcript.proofs.in_place.line_end.Statement.{statement}
 use Rattle.transcript.proofs.in_place.line_end.Tie as tie
 
-pub line-end-spec : {M : Type 1} → statement M
-line-end-spec =
+pub line_end_spec : {M : Type 1} → statement M
+line_end_spec =
     tie.close
     (tie.spec
-    (λ c κs. (c.before.before.requires.1.0 power_on).intake)
+    (λ c κs. (c.requires.1.0 power_on).intake)
     (λ c κs.
     let l = c.before.before.before.before.before.before.before.before.before.before.before.before.before in
     let s = l.before.before.before in
     let v = s.requires.1.0 power_on in
-    let b = l.end_line.ensures.0 in
+    let b = l.end_line-b.ensures.0 in
     (s.requires.0, (record { kept = line-told s.args.intake v.intake b; counts = λ h. fit-counts s.args.counts (line-totals {x = session_in s.args.intake s.args.counts power_on} v b h) }, s.requires.1.1)))
     (λ c. search rules)
     (λ c.
     let w = c.before.before in
     let l = w.before.before.before.before.before.before.before.before.before.before.before.before.before.before in
     let s = l.before.before.before in
-    (w.work-arrival.ensures.0, fed-as (line_as _ _ _ l.end_line.ensures.1) (w.work-arrival.ensures.1 (line_over s.args.intake) l.end_line.ensures.0))))
+    (w.work_arrival.ensures.0, fed-as (line_as _ _ _ l.end_line-b.ensures.1) (w.work_arrival.ensures.1 (line_over s.args.intake) l.end_line-b.ensures.0))))

@@ -21,4 +21,4 @@ look_spec =
     let e : length a.set.now ≡ set_size = search rules in
     let r : length a.r.now ≡ r_count = search rules in
     let h : length a.cells.now ≡ input_count + state_cells = search rules in
-    record { read = s.requires; told = c.is-sound-over.ensures ∙ sound-by-lines _ _ s.requires; sized = (omega (arith, e), (r, omega (arith, length-drop input_count a.cells.now, h))) }))
+    record { read = s.requires; told = c.is_sound_over.ensures ∙ sound-by-lines _ _ s.requires; sized = (omega (arith, e), (r, omega (arith, length-drop input_count a.cells.now, h))) }))

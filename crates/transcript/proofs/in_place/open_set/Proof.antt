@@ -6,8 +6,8 @@ use Rattle.values.specs.PutLaws.{put-nothing}
 use Rattle.transcript.proofs.in_place.open_set.Statement.{statement}
 use Rattle.transcript.proofs.in_place.open_set.Tie as tie
 
-pub open-set-spec : {M : Type 1} → statement M
-open-set-spec =
+pub open_set_spec : {M : Type 1} → statement M
+open_set_spec =
     tie.close
     (tie.spec
     (λ c κs. search rules)
@@ -18,13 +18,13 @@ open-set-spec =
     let p = c.before.before.before in
     let i = p.before.before in
     let l = i.before in
-    let e = l.load-lines.ensures in
-    let a = l.before.before.before.before.before.args in (
+    let e = l.load_lines-l.ensures in
+    let a = l.args in (
       e.1.1,
-      λ m s n. fed (opens_not m s (session_of a.intake n) _ e.0 e.1.0 i.if1.true c.stop.ensures) p.Load-Line.ensures,
+      λ m s n. fed (opens_not m s (session_of a.intake n) _ e.0 e.1.0 i.if-code-ne0.true c.stop.ensures) p.Load-Line.ensures,
     ))
     (λ c.
     let l = c.before in
-    let e = l.load-lines.ensures in
-    let a = l.before.before.before.before.before.args in
-    (e.1.1, λ m s n. fed (opens m s (session_of a.intake n) _ e.0 e.1.0 c.if1.false) put-nothing)))
+    let e = l.load_lines-l.ensures in
+    let a = l.args in
+    (e.1.1, λ m s n. fed (opens m s (session_of a.intake n) _ e.0 e.1.0 c.if-code-ne0.false) put-nothing)))

@@ -3,9 +3,9 @@ use borrow.Author.Rules.{rules}
 use Rattle.transcript.proofs.in_place.state_in.Statement.{statement}
 use Rattle.transcript.proofs.in_place.state_in.Tie as tie
 
-pub state-in-spec : {M : Type 1} → statement M
-state-in-spec =
+pub state_in_spec : {M : Type 1} → statement M
+state_in_spec =
     tie.close
     (tie.spec
     (λ c κs. search rules)
-    (λ c. rw c.before.before.before.before.before.before.kept-cells.ensures))
+    (λ c. rw c.kept_cells-kept.ensures))

@@ -12,8 +12,8 @@ use Rattle.values.specs.PutLaws.{put-nothing}
 use Rattle.transcript.proofs.in_place.work_arrival.Statement.{statement}
 use Rattle.transcript.proofs.in_place.work_arrival.Tie as tie
 
-pub work-arrival-spec : {M : Type 1} → statement M
-work-arrival-spec =
+pub work_arrival_spec : {M : Type 1} → statement M
+work_arrival_spec =
     tie.close
     (tie.spec
     (λ c. search rules)
@@ -27,46 +27,46 @@ work-arrival-spec =
     (λ c κs. search rules)
     (λ c. search rules)
     (λ c κs.
-    let m = c.before.before.before.before.before.before.before.before.before.before.before.before in
-    let p = m.before.before.before.before.requires in
-    (p.0, (p.1.0.counts (beat-comes m.enum-told3.given.1), p.1.1)))
+    let m = c.before.before.before.before.before.before.before.before.before.before.before in
+    let p = m.requires in
+    (p.0, (p.1.0.counts (beat-comes m.in-Beat.is), p.1.1)))
     (λ c. search rules)
     (λ c κs.
     let m = c.before.before.before.before.before.before.before.before.before in
-    let p = m.before.before.before.before.requires in
-    (p.1.0.counts (call-comes false m.enum-told4.given.1), p.1.1))
+    let p = m.requires in
+    (p.1.0.counts (call-comes false m.in-ProgramEnd.is), p.1.1))
     (λ c. search rules)
     (λ c κs.
     let m = c.before.before.before.before.before.before.before.before.before in
-    let p = m.before.before.before.before.requires in
-    (p.1.0.counts (call-comes true m.enum-told5.given.1), p.1.1))
-    (λ c. (c.before.before.before.before.requires.0, λ a e. fed (came-nothing _ _ _ a e c.enum_told.given.1) put-nothing))
+    let p = m.requires in
+    (p.1.0.counts (call-comes true m.in-ControlReset.is), p.1.1))
+    (λ c. (c.requires.0, λ a e. fed (came-nothing _ _ _ a e c.in-Nothing.is) put-nothing))
     (λ c. search rules)
     (λ c.
     let k = c.before in
-    let o = k.before.before.before.before.before.before.before.before.before.before.before.before.before in
-    (k.look.ensures, λ a e. fed-as (came-text _ _ _ a e o.before.before.before.before.before.before.enum-told2.given.1) (o.open-set.ensures.1 _ _ _)))
+    let o = k.before.before.before.before.before.before.before.before.before.before.before.before in
+    (k.look.ensures, λ a e. fed-as (came-text _ _ _ a e o.in-Text.is) (o.open_set-o.ensures.1 _ _ _)))
     (λ c. search rules)
     (λ c.
     let b = c.before.before in
-    let m = b.before.before.before.before.before.before.before.before.before.before.before.before.before in
+    let m = b.before.before.before.before.before.before.before.before.before.before.before.before in
     let s = m.before.before.before.before in (
-      said-beside [] _ _ _ (b.beat-end.ensures []) s.requires.0,
-      λ a e. fed-as (came-beat _ _ _ a e m.enum-told3.given.1) (b.beat-end.ensures _),
+      said-beside [] _ _ _ (b.beat_end.ensures []) s.requires.0,
+      λ a e. fed-as (came-beat _ _ _ a e m.in-Beat.is) (b.beat_end.ensures _),
     ))
     (λ c. search rules)
     (λ c.
     let w = c.before.before in
     let m = w.before.before.before.before.before.before.before.before.before.before in
     let s = m.before.before.before.before in (
-      call-beside [] _ _ false (w.work-call.ensures []) s.requires.0,
-      λ a e. fed-as (came-call _ _ _ a e false m.enum-told4.given.1) (w.work-call.ensures _),
+      call-beside [] _ _ false (w.work_call.ensures []) s.requires.0,
+      λ a e. fed-as (came-call _ _ _ a e false m.in-ProgramEnd.is) (w.work_call.ensures _),
     ))
     (λ c. search rules)
     (λ c.
     let w = c.before.before in
     let m = w.before.before.before.before.before.before.before.before.before.before in
     let s = m.before.before.before.before in (
-      call-beside [] _ _ true (w.work-call2.ensures []) s.requires.0,
-      λ a e. fed-as (came-call _ _ _ a e true m.enum-told5.given.1) (w.work-call2.ensures _),
+      call-beside [] _ _ true (w.work_call-in-ControlReset.ensures []) s.requires.0,
+      λ a e. fed-as (came-call _ _ _ a e true m.in-ControlReset.is) (w.work_call-in-ControlReset.ensures _),
     )))

@@ -13,8 +13,8 @@ use Rattle.transcript.proofs.in_place.work_beat.Tie as tie
 abbrev before : tie.Start → Session
 before s = let a = s.args in session_in a.intake a.counts (state_in a.r.now a.cells.now a.runs.now a.counts.channels a.locked.now a.cancelled.now a.memory.now a.acts.now)
 
-pub work-beat-spec : {M : Type 1} → statement M
-work-beat-spec =
+pub work_beat_spec : {M : Type 1} → statement M
+work_beat_spec =
     tie.close
     (tie.spec
     (λ c κs. search rules)
@@ -22,19 +22,19 @@ work-beat-spec =
     (λ c κs.
     let b = c.before.before.before.before.before.before.before.before.before.before.before.before.before.before in
     let s = b.before.before.before.before.before.before.before.before.before.before in
-    end-near s.args.set.now (before s).totals (lent_in s.args.lent) s.requires.1.1 b.tally-beat.ensures.1)
+    end-near s.args.set.now (before s).totals (lent_in s.args.lent) s.requires.1.1 b.tally_beat-t.ensures.1)
     (λ c κs. search rules)
-    (λ c. let e = c.before.before.before in e.put-end.auto.1.1.1.0 ∙ e.before.before.before.before.before.before.before.before.before.before.before.before.before.before.before.tally-beat.auto.1.1.1.1.1.1.1.1.1.1.1.1.1.0)
+    (λ c. let e = c.before.before.before in e.put_end-end.auto.1.1.1.0 ∙ e.tally_beat-t.auto.1.1.1.1.1.1.1.1.1.1.1.1.1.0)
     (λ c t.
     let e = c.before.before.before in
     let y = e.before.before in
     let i = y.before.before.before.before.before.before.before.before in
     let b = i.before.before.before.before.before in
     let s = b.before.before.before.before.before.before.before.before.before.before in
-    fed (beat-last t s.args.set.now (before s) (lent_in s.args.lent) b.tally-beat.ensures.0 i.if1.true c.stop.ensures)
-    (put_both b.tally-beat.ensures.1 (ended-in s.args.set.now b.tally-beat.result.counts y.state-in.ensures e.put-end.ensures)))
+    fed (beat-last t s.args.set.now (before s) (lent_in s.args.lent) b.tally_beat-t.ensures.0 i.if-next-eq-LAST_LINE.true c.stop.ensures)
+    (put_both b.tally_beat-t.ensures.1 (ended-in s.args.set.now b.tally_beat-t.result.counts y.state_in-state.ensures e.put_end-end.ensures)))
     (λ c. search rules)
     (λ c t.
     let b = c.before.before.before.before.before in
     let s = b.before.before.before.before.before.before.before.before.before.before in
-    fed (beat-more t s.args.set.now (before s) (lent_in s.args.lent) b.tally-beat.ensures.0 c.if1.false) b.tally-beat.ensures.1))
+    fed (beat-more t s.args.set.now (before s) (lent_in s.args.lent) b.tally_beat-t.ensures.0 c.if-next-eq-LAST_LINE.false) b.tally_beat-t.ensures.1))

@@ -15,15 +15,15 @@ use Rattle.transcript.proofs.in_place.work_call.Tie as tie
 abbrev before : tie.Start → Session
 before s = let a = s.args in session_in a.intake a.counts (state_in a.r.now a.cells.now a.runs.now a.counts.channels a.locked.now a.cancelled.now a.memory.now a.acts.now)
 
-pub work-call-spec : {M : Type 1} → statement M
-work-call-spec =
+pub work_call_spec : {M : Type 1} → statement M
+work_call_spec =
     tie.close
     (tie.spec
     (λ c κs. search rules)
     (λ c κs. search rules)
     (λ c κs. search rules)
-    (λ c κs. c.before.before.before.before.before.before.before.before.before.before.before.before.before.before.before.before.before.before.before.before.requires.0)
-    (λ c κs. omega (arith, c.before.before.before.before.before.before.before.before.before.before.before.before.before.before.before.before.before.before.before.before.before.before.before.before.requires.1))
+    (λ c κs. c.requires.0)
+    (λ c κs. omega (arith, c.requires.1))
     (λ c κs. search rules)
     (λ c. search rules)
     (λ c t.
@@ -35,9 +35,9 @@ work-call-spec =
     let y = l.before in
     let s = y.before.before.before.before.before.before.before.before.before.before in
     let a = s.args in
-    let held = h.hold.ensures _ (ap (λ (k : Counts). k.channels) n.count-call.ensures) in
-    let totals = held-called a.counts n.count-call.ensures held (before s).totals.state ∙ ap (calling (before s).totals) (l.call-left.ensures ∙ ap (call_left a.reset a.set.now) y.state-in.ensures) in
-    fed (call-last t a.set.now (before s) a.reset totals i.if1.true c.stop.ensures) (ended-in a.set.now n.count-call.result (sym held) e.put-end.ensures))
+    let held = h.hold.ensures _ (ap (λ (k : Counts). k.channels-1) n.count_call-next.ensures) in
+    let totals = held-called a.counts n.count_call-next.ensures held (before s).totals.state ∙ ap (calling (before s).totals) (l.call_left-left.ensures ∙ ap (call_left a.reset a.set.now) y.state_in-before.ensures) in
+    fed (call-last t a.set.now (before s) a.reset totals i.if-next-eq-LAST_LINE.true c.stop.ensures) (ended-in a.set.now n.count_call-next.result (sym held) e.put_end-end.ensures))
     (λ c t.
     let n = c.before.before in
     let h = n.before.before in
@@ -45,6 +45,6 @@ work-call-spec =
     let y = l.before in
     let s = y.before.before.before.before.before.before.before.before.before.before in
     let a = s.args in
-    let held = h.hold.ensures _ (ap (λ (k : Counts). k.channels) n.count-call.ensures) in
-    let totals = held-called a.counts n.count-call.ensures held (before s).totals.state ∙ ap (calling (before s).totals) (l.call-left.ensures ∙ ap (call_left a.reset a.set.now) y.state-in.ensures) in
-    fed (call-more t a.set.now (before s) a.reset totals c.if1.false) put-nothing))
+    let held = h.hold.ensures _ (ap (λ (k : Counts). k.channels-1) n.count_call-next.ensures) in
+    let totals = held-called a.counts n.count_call-next.ensures held (before s).totals.state ∙ ap (calling (before s).totals) (l.call_left-left.ensures ∙ ap (call_left a.reset a.set.now) y.state_in-before.ensures) in
+    fed (call-more t a.set.now (before s) a.reset totals c.if-next-eq-LAST_LINE.false) put-nothing))

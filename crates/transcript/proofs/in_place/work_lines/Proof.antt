@@ -12,46 +12,46 @@ use Rattle.transcript.proofs.WorkLaws.{work-is, taken_in, end-within, Going, set
 use Rattle.transcript.proofs.in_place.work_lines.Statement.{statement}
 use Rattle.transcript.proofs.in_place.work_lines.Tie as tie
 
-abbrev invariant-loop : tie.invariant-loop
+abbrev invariant-loop : tie.invariant-loop-at
 invariant-loop text₀ set₀ lines₀ r₀ cells₀ runs₀ locked₀ cancelled₀ memory₀ acts₀ orders₀ input out₀ known₀ kept₀ n₀ i₀ at₀ text set lines r cells runs locked cancelled memory acts orders out known kept n i at =
     Going input (worked (machine_of text₀ set₀ (session_in kept₀ n₀ (state_in r₀ cells₀ runs₀ n₀.channels locked₀ cancelled₀ memory₀ acts₀))) input) out₀ (machine_of text set (session_in kept n (state_in r cells runs n.channels locked cancelled memory acts))) i out at × KeptBeside set (state_in r cells runs n.channels locked cancelled memory acts) lines known
 
-abbrev decreases-loop : tie.decreases-loop
+abbrev decreases-loop : tie.decreases-loop-at
 decreases-loop text₀ set₀ lines₀ r₀ cells₀ runs₀ locked₀ cancelled₀ memory₀ acts₀ orders₀ input out₀ known₀ kept₀ n₀ i₀ at₀ text set lines r cells runs locked cancelled memory acts orders out known kept n i at = length input - i
 
-pub work-lines-spec : {M : Type 1} → statement M
-work-lines-spec =
+pub work_lines_spec : {M : Type 1} → statement M
+work_lines_spec =
     tie.close
     (tie.spec
     invariant-loop
     decreases-loop
-    (λ c κs. c.before.before.before.before.before.before.before.before.before.before.before.requires.0)
-    (λ c. let s = c.before.before.before.before.before.before.before.before.before.before.before.before in (set_out _ _ _ (s.requires.1 _), c.look.ensures))
+    (λ c κs. c.requires.0)
+    (λ c. let s = c.before.before.before.before.before.before.before.before.before.before.before.before in (set_out _ _ _ (s.requires.1 _), c.look-known.ensures))
     (λ c κs. search rules)
-    (λ c. omega (arith, c.before.run_end.ensures))
-    (λ c. omega (arith, c.before.run_end.ensures))
-    (λ c. let e = c.before in end-within _ _ _ e.run_end.ensures e.before.before.loop.invariant.0.within)
-    (λ c κs. c.before.before.before.before.loop.invariant.0.lives.intake)
+    (λ c. omega (arith, c.run_end-end.ensures))
+    (λ c. omega (arith, c.run_end-end.ensures))
+    (λ c. let e = c.before in end-within _ _ _ e.run_end-end.ensures e.loop-at.invariant.0.within)
+    (λ c κs. c.loop-at.invariant.0.lives.intake)
     (λ c.
     let t = c.before in
     let e = t.before.before.before in
-    let g = e.before.before.loop.invariant.0 in
-    work-is (going-ends g e.before.loop-test.true e.run_end.ensures (taken_in _ _ _ _ t.take_in.ensures.0 t.take_in.ensures.1) c.if1.true) g.put)
+    let g = e.loop-at.invariant.0 in
+    work-is (going-ends g e.loop-at-test.true e.run_end-end.ensures (taken_in _ _ _ _ t.take_in-kept.ensures.0 t.take_in-kept.ensures.1) c.if-input-end.true) g.put)
     (λ c κs.
     let t = c.before.before.before.before.before.before.before.before.before.before.before.before.before.before in
     let e = t.before.before.before in
     let l = e.before.before in
-    let i = l.loop.invariant in
-    let k = e.before.loop-test.true in
-    (i.1, (lives-on l.loop.n (going-lives i.0 k e.run_end.ensures (taken_in _ _ _ _ t.take_in.ensures.0 t.take_in.ensures.1)), k)))
-    (λ c. let h = c.before.before.before.before.before.before.before.before.before.before.before.before.before.before.before.before in omega (arith, h.if1.false, h.before.before.before.before.before.before.before.before.before.before.before.before.before.before.before.before.before.before.before.well-formed.1.1.1.1.1.1.1.1.1.1.1.1.1.0))
-    (λ c. let h = c.before.before.before.before.before.before.before.before.before.before.before.before.before.before.before.before in omega (arith, h.if1.false, h.before.before.before.before.run_end.ensures))
+    let i = l.loop-at.invariant in
+    let k = e.loop-at-test.true in
+    (i.1, (lives-on l.loop-at.n (going-lives i.0 k e.run_end-end.ensures (taken_in _ _ _ _ t.take_in-kept.ensures.0 t.take_in-kept.ensures.1)), k)))
+    (λ c. let h = c.before.before.before.before.before.before.before.before.before.before.before.before.before.before.before.before in omega (arith, h.if-input-end.false, h.before.before.before.before.before.before.before.before.before.before.before.before.before.before.before.before.before.before.before.well-formed.1.1.1.1.1.1.1.1.1.1.1.1.1.0))
+    (λ c. let h = c.before.before.before.before.before.before.before.before.before.before.before.before.before.before.before.before in omega (arith, h.if-input-end.false, h.run_end-end.ensures))
     (λ c.
     let l = c.before.before in
     let h = l.before.before.before.before.before.before.before.before.before.before.before.before.before.before in
     let t = h.before in
     let e = t.before.before.before in (
-      going_on e.before.before.loop.invariant.0 e.before.loop-test.true e.run_end.ensures (taken_in _ _ _ _ t.take_in.ensures.0 t.take_in.ensures.1) h.if1.false l.line-end.ensures.1,
-      l.line-end.ensures.0,
+      going_on e.loop-at.invariant.0 e.loop-at-test.true e.run_end-end.ensures (taken_in _ _ _ _ t.take_in-kept.ensures.0 t.take_in-kept.ensures.1) h.if-input-end.false l.line_end-f.ensures.1,
+      l.line_end-f.ensures.0,
     ))
-    (λ c. let g = c.before.loop.invariant.0 in work-is (going-full g c.loop-test.false) g.put))
+    (λ c. let g = c.loop-at.invariant.0 in work-is (going-full g c.loop-at-test.false) g.put))

@@ -7,20 +7,20 @@ use Rattle.transcript.specs.IntakeLaws.{text-line, text-line-kept, beats-line, e
 use Rattle.transcript.proofs.intake.end_line.Statement.{statement}
 use Rattle.transcript.proofs.intake.end_line.Tie as tie
 
-pub end-line-spec : {M : Type 1} → statement M
-end-line-spec =
+pub end_line_spec : {M : Type 1} → statement M
+end_line_spec =
     tie.close
     (tie.spec
-    (λ c κs. c.before.before.requires)
+    (λ c κs. c.requires)
     (λ c.
     let i = c.before.before in
-    let e = c.end-text-line.ensures in
-    (e.0 ∙ ap brought_by (sym (text-line _ i.if1.true)), e.1 ∙ sym (text-line-kept _ i.if1.true _)))
+    let e = c.end_text_line.ensures in
+    (e.0 ∙ ap brought_by (sym (text-line _ i.if-phase-eq-TEXT.true)), e.1 ∙ sym (text-line-kept _ i.if-phase-eq-TEXT.true _)))
     (λ c κs. search rules)
     (λ c κs. search rules)
     (λ c.
     let r = c.before in
     let i = r.before.before in
-    (c.line_read.ensures ∙ ap brought_by (ap (line_read i.before.before.args.intake) r.without-cr.ensures ∙ sym (beats-line _ i.if2.true)), sym (else-line-kept _ i.before.if1.false _)))
+    (c.line_read.ensures ∙ ap brought_by (ap (line_read i.args.intake) r.without_cr.ensures ∙ sym (beats-line _ i.if-phase-eq-BEATS.true)), sym (else-line-kept _ i.if-phase-eq-TEXT.false _)))
     (λ c κs. search rules)
-    (λ c. let i = c.before in (c.nothing-came.ensures ∙ ap brought_by (sym (else-line _ i.before.if1.false i.if2.false)), sym (else-line-kept _ i.before.if1.false _))))
+    (λ c. let i = c.before in (c.nothing_came.ensures ∙ ap brought_by (sym (else-line _ i.if-phase-eq-TEXT.false i.if-phase-eq-BEATS.false)), sym (else-line-kept _ i.if-phase-eq-TEXT.false _))))

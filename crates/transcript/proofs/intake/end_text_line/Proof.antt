@@ -8,18 +8,18 @@ use Rattle.transcript.specs.IntakeLaws.{star-line, star-line-kept, plain-line, p
 use Rattle.transcript.proofs.intake.end_text_line.Statement.{statement}
 use Rattle.transcript.proofs.intake.end_text_line.Tie as tie
 
-pub end-text-line-spec : {M : Type 1} → statement M
-end-text-line-spec =
+pub end_text_line_spec : {M : Type 1} → statement M
+end_text_line_spec =
     tie.close
     (tie.spec
     (λ c κs. search rules)
     (λ c κs. search rules)
-    (λ c. let i = c.before in let h = sym i.before.is-star.ensures ∙ i.if1.true in (c.text-whole.ensures ∙ ap brought_by (sym (star-line _ h)), sym (star-line-kept _ h _)))
+    (λ c. let i = c.before in let h = sym i.is_star.ensures ∙ i.if-is_star.true in (c.text_whole.ensures ∙ ap brought_by (sym (star-line _ h)), sym (star-line-kept _ h _)))
     (λ c κs. search rules)
-    (λ c κs. c.before.before.before.before.before.requires.size)
+    (λ c κs. c.requires.size)
     (λ c κs. search rules)
     (λ c.
     let p = c.before.before in
     let i = p.before.before in
-    let h = sym i.before.is-star.ensures ∙ i.if1.false in
-    (c.nothing-came.ensures ∙ ap brought_by (ap (λ (y : Place). nothing_came (with_place i.before.before.before.args.intake y)) c.before.place-end.ensures ∙ sym (plain-line _ h)), p.put.ensures ∙ sym (plain-line-kept _ h _))))
+    let h = sym i.is_star.ensures ∙ i.if-is_star.false in
+    (c.nothing_came.ensures ∙ ap brought_by (ap (λ (y : Place). nothing_came (with_place i.args.intake y)) c.place_end-x.ensures ∙ sym (plain-line _ h)), p.put.ensures ∙ sym (plain-line-kept _ h _))))

@@ -5,8 +5,8 @@ use Rattle.transcript.proofs.BeatLineLaws.{brought-end, brought-reset, brought-b
 use Rattle.transcript.proofs.intake.line_read.Statement.{statement}
 use Rattle.transcript.proofs.intake.line_read.Tie as tie
 
-pub line-read-spec : {M : Type 1} → statement M
-line-read-spec =
+pub line_read_spec : {M : Type 1} → statement M
+line_read_spec =
     tie.close
     (tie.spec
     (λ c κs. search rules)
@@ -14,19 +14,19 @@ line-read-spec =
     (λ c.
     let l = c.before in
     let i = l.before in
-    let a = i.before.args in
-    c.came.ensures ∙ brought-end a.intake a.half i.if1.true l.nothing_lent.ensures)
+    let a = i.args in
+    c.came.ensures ∙ brought-end a.intake a.half i.if-stage-eq-PROGRAM_END.true l.nothing_lent.ensures)
     (λ c κs. search rules)
     (λ c κs. search rules)
     (λ c.
     let l = c.before in
     let i = l.before in
-    let a = i.before.before.args in
-    c.came2.ensures ∙ brought-reset a.intake a.half i.if2.true l.nothing-lent2.ensures)
+    let a = i.args in
+    c.came-then-stage-eq-CONTROL_RESET.ensures ∙ brought-reset a.intake a.half i.if-stage-eq-CONTROL_RESET.true l.nothing_lent-then-stage-eq-CONTROL_RESET.ensures)
     (λ c κs. search rules)
     (λ c κs. search rules)
     (λ c.
     let l = c.before in
     let i = l.before in
-    let a = i.before.before.args in
-    c.came3.ensures ∙ brought-beat a.intake a.half i.before.if1.false i.if2.false l.read-lent.ensures))
+    let a = i.args in
+    c.came-2.ensures ∙ brought-beat a.intake a.half i.if-stage-eq-PROGRAM_END.false i.if-stage-eq-CONTROL_RESET.false l.read_lent.ensures))

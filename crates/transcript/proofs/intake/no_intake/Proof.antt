@@ -3,10 +3,10 @@ use borrow.Author.Rules.{rules}
 use Rattle.transcript.proofs.intake.no_intake.Statement.{statement}
 use Rattle.transcript.proofs.intake.no_intake.Tie as tie
 
-pub no-intake-spec : {M : Type 1} → statement M
-no-intake-spec =
+pub no_intake_spec : {M : Type 1} → statement M
+no_intake_spec =
     tie.close
     (tie.spec
     (λ c κs. search rules)
     (λ c κs. search rules)
-    (λ c. rw (c.before.no_place.ensures, c.no-half-line.ensures)))
+    (λ c. rw (c.no_place.ensures, c.no_half_line.ensures)))

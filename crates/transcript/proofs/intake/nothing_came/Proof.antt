@@ -3,8 +3,8 @@ use borrow.Author.Rules.{rules}
 use Rattle.transcript.proofs.intake.nothing_came.Statement.{statement}
 use Rattle.transcript.proofs.intake.nothing_came.Tie as tie
 
-pub nothing-came-spec : {M : Type 1} → statement M
-nothing-came-spec =
+pub nothing_came_spec : {M : Type 1} → statement M
+nothing_came_spec =
     tie.close
     (tie.spec
     (λ c κs. search rules)

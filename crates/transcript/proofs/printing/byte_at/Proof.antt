@@ -6,11 +6,11 @@ use lib.ListN.{get_or-eq_default}
 use Rattle.transcript.proofs.printing.byte_at.Statement.{statement}
 use Rattle.transcript.proofs.printing.byte_at.Tie as tie
 
-pub byte-at-spec : {M : Type 1} → statement M
-byte-at-spec =
+pub byte_at_spec : {M : Type 1} → statement M
+byte_at_spec =
     tie.close
     (tie.spec
     (λ c. search rules)
-    (λ c. omega (arith, c.shared-slice-known.given c.before.before.args.at))
-    (λ c. (refl, omega (arith, c.shared-slice-known.given c.before.before.args.at)))
-    (λ c. (sym (get_or-eq_default c.before.args.bytes.now 0 c.if1.false), omega arith)))
+    (λ c. omega (arith, c.shared_slice_known-1.given c.args.at))
+    (λ c. (refl, omega (arith, c.shared_slice_known-1.given c.args.at)))
+    (λ c. (sym (get_or-eq_default c.args.bytes.now 0 c.if-at-bytes.false), omega arith)))

@@ -4,13 +4,13 @@ use Rattle.transcript.specs.Output.{end_line}
 use Rattle.transcript.proofs.printing.end_line.Statement.{statement}
 use Rattle.transcript.proofs.printing.end_line.Tie as tie
 
-pub end-line-spec : {M : Type 1} → statement M
+pub end_line_spec : {M : Type 1} → statement M
 unfolding end_line
-end-line-spec =
+end_line_spec =
     tie.close
     (tie.spec
     (λ c. search rules)
     (λ c. search rules)
     (λ c κs. search rules)
     (λ c. search rules)
-    (λ c. c.before.before.put-line.ensures))
+    (λ c. c.put_line.ensures))

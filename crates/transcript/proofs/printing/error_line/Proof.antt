@@ -4,13 +4,13 @@ use Rattle.transcript.specs.Output.{error_line}
 use Rattle.transcript.proofs.printing.error_line.Statement.{statement}
 use Rattle.transcript.proofs.printing.error_line.Tie as tie
 
-pub error-line-spec : {M : Type 1} → statement M
+pub error_line_spec : {M : Type 1} → statement M
 unfolding error_line
-error-line-spec =
+error_line_spec =
     tie.close
     (tie.spec
     (λ c. search rules)
     (λ c. search rules)
     (λ c κs. search rules)
     (λ c. search rules)
-    (λ c. c.before.before.put-line.ensures))
+    (λ c. c.put_line.ensures))

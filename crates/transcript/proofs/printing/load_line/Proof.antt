@@ -4,13 +4,13 @@ use Rattle.transcript.specs.Output.{load_line}
 use Rattle.transcript.proofs.printing.load_line.Statement.{statement}
 use Rattle.transcript.proofs.printing.load_line.Tie as tie
 
-pub load-line-spec : {M : Type 1} → statement M
+pub load_line_spec : {M : Type 1} → statement M
 unfolding load_line
-load-line-spec =
+load_line_spec =
     tie.close
     (tie.spec
     (λ c. search rules)
     (λ c. search rules)
     (λ c κs. search rules)
     (λ c. search rules)
-    (λ c. c.before.before.put-line.ensures))
+    (λ c. c.put_line.ensures))

@@ -11,36 +11,36 @@ use Rattle.transcript.proofs.OutLaws.{orders_left, all_left, none_left, one_less
 use Rattle.transcript.proofs.printing.order_lines.Statement.{statement}
 use Rattle.transcript.proofs.printing.order_lines.Tie as tie
 
-abbrev invariant-loop : tie.invariant-loop
+abbrev invariant-loop : tie.invariant-loop-k
 invariant-loop out₀ at orders n p₀ count k₀ out p k =
     Left out₀ at (order_lines n orders) out p (orders_left n orders k) × (length out ≡ length out₀) × (k ≤ n) × (p ≤ at + order_room * k)
 
-abbrev decreases-loop : tie.decreases-loop
+abbrev decreases-loop : tie.decreases-loop-k
 decreases-loop out₀ at orders n p₀ count k₀ out p k = n - k
 
-loop-again : tie.Need-loop-preserved invariant-loop decreases-loop
+loop-again : tie.Need-loop-k-preserved invariant-loop decreases-loop
 loop-again c =
-    let o = c.before.before.order-line in
+    let o = c.order_line-p in
     let b = c.before.before.before.before.before in
-    let a = b.before.before.before.args in
-    let r = order-room (drop (b.loop.k * order_size) a.orders.now) in (
-      left_after (orders_left a.n a.orders.now (b.loop.k + 1)) b.loop.invariant.0 (one_less a.n a.orders.now b.loop.k (omega arith)) o.ensures,
-      o.auto.0 ∙ b.loop.invariant.1,
+    let a = b.args in
+    let r = order-room (drop (b.loop-k.k * order_size) a.orders.now) in (
+      left_after (orders_left a.n a.orders.now (b.loop-k.k + 1)) b.loop-k.invariant.0 (one_less a.n a.orders.now b.loop-k.k (omega arith)) o.ensures,
+      o.auto.0 ∙ b.loop-k.invariant.1,
       omega arith,
-      omega (arith, o.ensures.behind, b.loop.invariant.3),
+      omega (arith, o.ensures.behind, b.loop-k.invariant.3),
     )
 
-pub order-lines-spec : {M : Type 1} → statement M
-order-lines-spec =
+pub order_lines_spec : {M : Type 1} → statement M
+order_lines_spec =
     tie.close
     (tie.spec
     invariant-loop
     decreases-loop
-    (λ c. let a = c.before.before.args in (left-all (all_left a.n a.orders.now), refl, omega arith, omega arith))
+    (λ c. let a = c.args in (left-all (all_left a.n a.orders.now), refl, omega arith, omega arith))
     (λ c. omega arith)
     (λ c κs. (omega arith, omega arith))
     (λ c. omega arith)
     (λ c. omega arith)
     loop-again
-    (λ c. c.before.loop.invariant.1)
-    (λ c. let b = c.before in let a = b.before.before.before.args in left-none b.loop.invariant.0 (none_left a.n a.orders.now b.loop.k (omega arith))))
+    (λ c. c.loop-k.invariant.1)
+    (λ c. let b = c.before in let a = b.args in left-none b.loop-k.invariant.0 (none_left a.n a.orders.now b.loop-k.k (omega arith))))

@@ -8,8 +8,8 @@ use Rattle.transcript.proofs.OutLaws.{field-alone}
 use Rattle.transcript.proofs.printing.put_field.Statement.{statement}
 use Rattle.transcript.proofs.printing.put_field.Tie as tie
 
-pub put-field-spec : {M : Type 1} → statement M
-put-field-spec =
+pub put_field_spec : {M : Type 1} → statement M
+put_field_spec =
     tie.close
     (tie.spec
     (λ c κs. search rules)
@@ -18,10 +18,10 @@ put-field-spec =
     (λ c.
     let m = c.before.before in
     let s = m.before.before.before.before.before.before.before in
-    omega (arith, s.requires, m.put-number.ensures.0, decimal-room s.args.n))
+    omega (arith, s.requires, m.put_number.ensures.0, decimal-room s.args.n))
     (λ c. search rules)
     (λ c.
     let m = c.before.before in
     let p = m.before.before.before.before in
-    let n = p.before.before.before.args.n in
-    put_as (field-alone (decimal n)) (put_both (put_byte p.put.ensures) (put-sized (decimal n) m.put-number.ensures.1 m.put-number.ensures.0))))
+    let n = p.args.n in
+    put_as (field-alone (decimal n)) (put_both (put_byte p.put.ensures) (put-sized (decimal n) m.put_number.ensures.1 m.put_number.ensures.0))))

@@ -5,8 +5,8 @@ use Rattle.values.specs.PutLaws.{put-sized, put_both}
 use Rattle.transcript.proofs.printing.put_fields.Statement.{statement}
 use Rattle.transcript.proofs.printing.put_fields.Tie as tie
 
-pub put-fields-spec : {M : Type 1} → statement M
-put-fields-spec =
+pub put_fields_spec : {M : Type 1} → statement M
+put_fields_spec =
     tie.close
     (tie.spec
     (λ c κs. search rules)
@@ -16,4 +16,4 @@ put-fields-spec =
     (λ c.
     let n = c.before.before in
     let b = n.before.before.before.before in
-    put_both (put-sized b.before.before.before.before.before.args.word.now b.put-bytes.ensures refl) n.put-numbers.ensures))
+    put_both (put-sized b.args.word.now b.put_bytes.ensures refl) n.put_numbers.ensures))

@@ -9,15 +9,15 @@ use Rattle.transcript.specs.Output.{spaced}
 use Rattle.transcript.proofs.printing.put_kind.Statement.{statement}
 use Rattle.transcript.proofs.printing.put_kind.Tie as tie
 
-pub put-kind-spec : {M : Type 1} → statement M
-put-kind-spec =
+pub put_kind_spec : {M : Type 1} → statement M
+put_kind_spec =
     tie.close
     (tie.spec
     (λ c. search rules)
     (λ c κs. search rules)
     (λ c. search rules)
-    (λ c. let w = c.before.before in put_as (ap (λ (b : Bool). spaced (cond b (bytes "IDS") (bytes "ID") ∷ [])) w.before.before.before.if1.true) w.put_word.ensures)
+    (λ c. let w = c.before.before in put_as (ap (λ (b : Bool). spaced (cond b (bytes "IDS") (bytes "ID") ∷ [])) w.if-ids.true) w.put_word.ensures)
     (λ c. search rules)
     (λ c κs. search rules)
     (λ c. search rules)
-    (λ c. let w = c.before.before in put_as (ap (λ (b : Bool). spaced (cond b (bytes "IDS") (bytes "ID") ∷ [])) w.before.before.before.if1.false) w.put-word2.ensures))
+    (λ c. let w = c.before.before in put_as (ap (λ (b : Bool). spaced (cond b (bytes "IDS") (bytes "ID") ∷ [])) w.if-ids.false) w.put_word-2.ensures))

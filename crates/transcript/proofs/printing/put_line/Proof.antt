@@ -9,18 +9,18 @@ use Rattle.transcript.proofs.OutLaws.{line-is}
 use Rattle.transcript.proofs.printing.put_line.Statement.{statement}
 use Rattle.transcript.proofs.printing.put_line.Tie as tie
 
-pub put-line-spec : {M : Type 1} → statement M
-put-line-spec =
+pub put_line_spec : {M : Type 1} → statement M
+put_line_spec =
     tie.close
     (tie.spec
     (λ c κs. search rules)
     (λ c κs. search rules)
     (λ c.
     let f = c.before.before.before.before.before.before in
-    let a = f.before.before.before.before.before.args in
-    omega (arith, f.put-fields.ensures.behind, length-append a.word.now (spaced (decimals a.numbers.now)), fields-room a.numbers.now))
+    let a = f.args in
+    omega (arith, f.put_fields-p.ensures.behind, length-append a.word.now (spaced (decimals a.numbers.now)), fields-room a.numbers.now))
     (λ c. search rules)
     (λ c.
     let f = c.before.before.before.before.before.before in
-    let a = f.before.before.before.before.before.args in
-    put_as (line-is a.word.now (decimals a.numbers.now)) (put_both f.put-fields.ensures (put_byte c.before.before.put.ensures))))
+    let a = f.args in
+    put_as (line-is a.word.now (decimals a.numbers.now)) (put_both f.put_fields-p.ensures (put_byte c.put.ensures))))

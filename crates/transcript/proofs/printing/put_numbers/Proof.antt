@@ -11,27 +11,27 @@ use Rattle.transcript.proofs.OutLaws.{field_next, fields-over}
 use Rattle.transcript.proofs.printing.put_numbers.Statement.{statement}
 use Rattle.transcript.proofs.printing.put_numbers.Tie as tie
 
-abbrev invariant-loop : tie.invariant-loop
+abbrev invariant-loop : tie.invariant-loop-i
 invariant-loop out₀ at numbers p₀ i₀ out p i =
     Left out₀ at (spaced (decimals numbers)) out p (spaced (decimals (drop i numbers))) × (length out ≡ length out₀) × (i ≤ length numbers) × (p ≤ at + 11 * i)
 
-abbrev decreases-loop : tie.decreases-loop
+abbrev decreases-loop : tie.decreases-loop-i
 decreases-loop out₀ at numbers p₀ i₀ out p i = length numbers - i
 
-loop-again : tie.Need-loop-preserved invariant-loop decreases-loop
+loop-again : tie.Need-loop-i-preserved invariant-loop decreases-loop
 loop-again c =
     let f = c.before.before in
     let b = f.before.before.before.before in
-    let ns = b.before.before.before.args.numbers.now in
-    let n = get_or ns b.loop.i 0 in (
-      left_after (spaced (decimals (drop (b.loop.i + 1) ns))) b.loop.invariant.0 (field_next ns b.loop.i (omega arith)) f.put-field.ensures,
-      f.put-field.auto.0 ∙ b.loop.invariant.1,
+    let ns = b.args.numbers.now in
+    let n = get_or ns b.loop-i.i 0 in (
+      left_after (spaced (decimals (drop (b.loop-i.i + 1) ns))) b.loop-i.invariant.0 (field_next ns b.loop-i.i (omega arith)) f.put_field-p.ensures,
+      f.put_field-p.auto.0 ∙ b.loop-i.invariant.1,
       omega arith,
-      omega (arith, f.put-field.ensures.behind, fields-room (n ∷ []), b.loop.invariant.3),
+      omega (arith, f.put_field-p.ensures.behind, fields-room (n ∷ []), b.loop-i.invariant.3),
     )
 
-pub put-numbers-spec : {M : Type 1} → statement M
-put-numbers-spec =
+pub put_numbers_spec : {M : Type 1} → statement M
+put_numbers_spec =
     tie.close
     (tie.spec
     invariant-loop
@@ -43,5 +43,5 @@ put-numbers-spec =
     (λ c. omega arith)
     (λ c. omega arith)
     loop-again
-    (λ c. c.before.loop.invariant.1)
-    (λ c. let b = c.before in left-none b.loop.invariant.0 (fields-over b.before.before.before.args.numbers.now b.loop.i (omega arith))))
+    (λ c. c.loop-i.invariant.1)
+    (λ c. let b = c.before in left-none b.loop-i.invariant.0 (fields-over b.args.numbers.now b.loop-i.i (omega arith))))

@@ -8,8 +8,8 @@ use Rattle.transcript.specs.Output.{spaced, standing_word}
 use Rattle.transcript.proofs.printing.put_standing.Statement.{statement}
 use Rattle.transcript.proofs.printing.put_standing.Tie as tie
 
-pub put-standing-spec : {M : Type 1} → statement M
-put-standing-spec =
+pub put_standing_spec : {M : Type 1} → statement M
+put_standing_spec =
     tie.close
     (tie.spec
     (λ c. search rules)
@@ -22,8 +22,8 @@ put-standing-spec =
     (λ c. search rules)
     (λ c κs. search rules)
     (λ c. search rules)
-    (λ c. let w = c.before.before in put_as (ap (λ (x : Standing). spaced (standing_word x ∷ [])) w.before.before.before.enum_told.given.1) w.put_word.ensures)
+    (λ c. let w = c.before.before in put_as (ap (λ (x : Standing). spaced (standing_word x ∷ [])) w.in-Locked.is) w.put_word.ensures)
     (λ c. search rules)
-    (λ c. let w = c.before.before in put_as (ap (λ (x : Standing). spaced (standing_word x ∷ [])) w.before.before.before.enum-told2.given.1) w.put-word2.ensures)
+    (λ c. let w = c.before.before in put_as (ap (λ (x : Standing). spaced (standing_word x ∷ [])) w.in-Cancelled.is) w.put_word-in-Cancelled.ensures)
     (λ c. search rules)
-    (λ c. let w = c.before.before in put_as (ap (λ (x : Standing). spaced (standing_word x ∷ [])) w.before.before.before.enum-told3.given.1) w.put-word3.ensures))
+    (λ c. let w = c.before.before in put_as (ap (λ (x : Standing). spaced (standing_word x ∷ [])) w.in-Waiting.is) w.put_word-in-Waiting.ensures))

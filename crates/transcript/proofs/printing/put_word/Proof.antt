@@ -6,8 +6,8 @@ use Rattle.transcript.proofs.OutLaws.{field-alone}
 use Rattle.transcript.proofs.printing.put_word.Statement.{statement}
 use Rattle.transcript.proofs.printing.put_word.Tie as tie
 
-pub put-word-spec : {M : Type 1} → statement M
-put-word-spec =
+pub put_word_spec : {M : Type 1} → statement M
+put_word_spec =
     tie.close
     (tie.spec
     (λ c κs. search rules)
@@ -18,5 +18,5 @@ put-word-spec =
     (λ c.
     let b = c.before.before in
     let p = b.before.before.before.before in
-    let word = p.before.before.before.before.args.word.now in
-    put_as (field-alone word) (put_both (put_byte p.put.ensures) (put-sized word b.put-bytes.ensures refl))))
+    let word = p.args.word.now in
+    put_as (field-alone word) (put_both (put_byte p.put.ensures) (put-sized word b.put_bytes.ensures refl))))

@@ -11,37 +11,37 @@ use Rattle.transcript.proofs.OutLaws.{row_near, rows_left, all-rows, no_row, row
 use Rattle.transcript.proofs.printing.status_rows.Statement.{statement}
 use Rattle.transcript.proofs.printing.status_rows.Tie as tie
 
-abbrev invariant-loop : tie.invariant-loop
+abbrev invariant-loop : tie.invariant-loop-k
 invariant-loop out₀ at count rows p₀ k₀ out p k =
     Left out₀ at (status_rows count 0 rows) out p (rows_left count rows k) × (length out ≡ length out₀) × (k ≤ count) × (p ≤ at + status_room * k)
 
-abbrev decreases-loop : tie.decreases-loop
+abbrev decreases-loop : tie.decreases-loop-k
 decreases-loop out₀ at count rows p₀ k₀ out p k = count - k
 
-loop-again : tie.Need-loop-preserved invariant-loop decreases-loop
+loop-again : tie.Need-loop-k-preserved invariant-loop decreases-loop
 loop-again c =
     let o = c.before.before in
     let b = o.before.before.before.before in
-    let a = b.before.before.args in
+    let a = b.args in
     let w : length a.t3 ≡ max_lines = search rules in (
-      left_after (rows_left a.count a.t3 (b.loop.k + 1)) b.loop.invariant.0 (row-less a.count a.t3 b.loop.k _ (omega arith) (omega arith)) o.status-line.ensures,
-      o.status-line.auto.0 ∙ b.loop.invariant.1,
+      left_after (rows_left a.count a.t3 (b.loop-k.k + 1)) b.loop-k.invariant.0 (row-less a.count a.t3 b.loop-k.k _ (omega arith) (omega arith)) o.status_line-p.ensures,
+      o.status_line-p.auto.0 ∙ b.loop-k.invariant.1,
       omega arith,
-      omega (arith, row_near _ o.status-line.ensures, b.loop.invariant.3),
+      omega (arith, row_near _ o.status_line-p.ensures, b.loop-k.invariant.3),
     )
 
-pub status-rows-spec : {M : Type 1} → statement M
-status-rows-spec =
+pub status_rows_spec : {M : Type 1} → statement M
+status_rows_spec =
     tie.close
     (tie.spec
     invariant-loop
     decreases-loop
-    (λ c. let a = c.before.args in (left-all (all-rows a.count a.t3), refl, omega arith, omega arith))
+    (λ c. let a = c.args in (left-all (all-rows a.count a.t3), refl, omega arith, omega arith))
     (λ c. omega arith)
     (λ c. omega arith)
     (λ c κs. omega arith)
     (λ c. omega arith)
     (λ c. omega arith)
     loop-again
-    (λ c. c.before.loop.invariant.1)
-    (λ c. let b = c.before in let a = b.before.before.args in left-none b.loop.invariant.0 (no_row a.count a.t3 b.loop.k (omega arith))))
+    (λ c. c.loop-k.invariant.1)
+    (λ c. let b = c.before in let a = b.args in left-none b.loop-k.invariant.0 (no_row a.count a.t3 b.loop-k.k (omega arith))))

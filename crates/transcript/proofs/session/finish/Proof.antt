@@ -15,18 +15,18 @@ use Rattle.transcript.proofs.WorkLaws.{put_whole, put-after, end-has-room, end-i
 use Rattle.transcript.proofs.session.finish.Statement.{statement}
 use Rattle.transcript.proofs.session.finish.Tie as tie
 
-fit : (c : tie.Else1) → is_fit c.before.before.args.session ≡ true
-fit c = sym c.before.is-fit.ensures ∙ not-false _ c.if1.false
+fit : (c : tie.Else-not-is_fit) → is_fit c.args.session ≡ true
+fit c = sym c.is_fit.ensures ∙ not-false _ c.if-not-is_fit.false-raw
 
 pub finish_spec : {M : Type 1} → statement M
 finish_spec =
     tie.close
     (tie.spec
     (λ c κs. search rules)
-    (λ c. put_whole (finish-unfit _ _ _ (sym c.before.is-fit.ensures ∙ not-true _ c.if1.true)) put-nothing)
+    (λ c. put_whole (finish-unfit _ _ _ (sym c.is_fit.ensures ∙ not-true _ c.if-not-is_fit.true-raw)) put-nothing)
     (λ c κs. search rules)
     (λ c κs. search rules)
-    (λ c κs. c.before.before.before.before.before.before.before.before.before.before.before.before.before.before.before.before.before.before.before.before.before.before.read-lines.ensures)
+    (λ c κs. c.read_lines.ensures)
     (λ c κs. search rules)
     (λ c κs. search rules)
     (λ c κs.
@@ -36,12 +36,12 @@ finish_spec =
     let l = q.before.before.before.before.before.before.before.before.before.before.before.before.before.before.before.before.before.before.before.before.before.before.before in
     let i = l.before.before.before.before in
     let f = fit_parts _ (fit i) in
-    (rw k.Counts-of.ensures q.look.ensures, (record { kept = input-told _ f.intake b.end-input.ensures; counts = λ h y. rw k.Counts-of.ensures (fit-counts (counts_of i.before.before.args.session.totals) f.totals y) }, omega arith)))
+    (rw k.Counts-of.ensures q.look-known.ensures, (record { kept = input-told _ f.intake-1 b.end_input.ensures; counts = λ h y. rw k.Counts-of.ensures (fit-counts (counts_of i.args.session.totals) f.totals-1 y) }, omega arith)))
     (λ c κs. search rules)
     (λ c κs.
     let w = c.before.before.before.before.before.before.before.before.before.before.before.before.before in
     let b = w.before.before.before.before.before.before.before.before.before.before.before.before.before in
-    end-has-room (w.work-arrival.ensures.1 (input_over b.before.before.before.before.before.before.before.before.before.before.before.before.before.before.before.before.before.before.before.before.before.before.before.before.before.before.before.before.before.before.before.args.session.intake) b.end-input.ensures) (arrival-room _ _))
+    end-has-room (w.work_arrival-f.ensures.1 (input_over b.args.session.intake) b.end_input.ensures) (arrival-room _ _))
     (λ c.
     let y = c.before.before.before in
     let w = y.before.before.before.before.before.before.before.before.before.before.before in
@@ -49,6 +49,6 @@ finish_spec =
     let b = k.before in
     let p = b.before.before.before.before.before.before.before.before.before.before.before.before.before.before.before.before.before.before.before in
     let i = p.before.before.before.before.before.before.before.before.before.before in
-    let x = i.before.before.args.session in
-    put-after (finish-fit _ _ _ (fit i) (totals-apart x.totals k.Counts-of.ensures p.spread-cells.ensures))
-    (w.work-arrival.ensures.1 (input_over x.intake) b.end-input.ensures) (end-in _ _ w.work-arrival.result.counts y.state-in.ensures c.put_last.ensures)))
+    let x = i.args.session in
+    put-after (finish-fit _ _ _ (fit i) (totals-apart x.totals-1 k.Counts-of.ensures p.spread_cells-cells.ensures))
+    (w.work_arrival-f.ensures.1 (input_over x.intake-1) b.end_input.ensures) (end-in _ _ w.work_arrival-f.result.counts y.state_in-last.ensures c.put_last.ensures)))

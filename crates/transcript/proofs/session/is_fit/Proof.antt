@@ -6,11 +6,11 @@ use Rattle.transcript.proofs.StepLaws.{unfit-intake, fit-but-totals}
 use Rattle.transcript.proofs.session.is_fit.Statement.{statement}
 use Rattle.transcript.proofs.session.is_fit.Tie as tie
 
-pub is-fit-spec : {M : Type 1} → statement M
-is-fit-spec =
+pub is_fit_spec : {M : Type 1} → statement M
+is_fit_spec =
     tie.close
     (tie.spec
     (λ c κs. search rules)
-    (λ c. unfit-intake _ (sym c.before.intake-fits.ensures ∙ not-true _ c.if1.true))
+    (λ c. unfit-intake _ (sym c.intake_fits.ensures ∙ not-true _ c.if-not-intake_fits.true-raw))
     (λ c κs. search rules)
-    (λ c. let i = c.before.before in c.are-fit.ensures ∙ fit-but-totals _ (sym i.before.intake-fits.ensures ∙ not-false _ i.if1.false)))
+    (λ c. let i = c.before.before in c.are_fit.ensures ∙ fit-but-totals _ (sym i.intake_fits.ensures ∙ not-false _ i.if-not-intake_fits.false-raw)))

@@ -14,7 +14,7 @@ step_spec =
     tie.close
     (tie.spec
     (λ c κs. search rules)
-    (λ c. step_is (work-is (unfit-work _ _ (sym c.before.is-fit.ensures ∙ not-true _ c.if1.true)) put-nothing))
+    (λ c. step_is (work-is (unfit-work _ _ (sym c.is_fit.ensures ∙ not-true _ c.if-not-is_fit.true-raw)) put-nothing))
     (λ c κs. search rules)
     (λ c κs. search rules)
     (λ c κs. search rules)
@@ -23,9 +23,9 @@ step_spec =
     let l = k.before.before.before.before.before.before.before.before.before.before.before.before.before in
     let i = l.before.before.before in
     let f = i.before in
-    let x = f.before.before.args.session in
-    let h = sym f.is-fit.ensures ∙ not-false _ i.if1.false in
-    (l.read-lines.ensures, λ y. rw k.Counts-of.ensures (fit_on x.intake (counts_of x.totals) x.totals.state h y)))
+    let x = f.args.session in
+    let h = sym f.is_fit.ensures ∙ not-false _ i.if-not-is_fit.false in
+    (l.read_lines.ensures, λ y. rw k.Counts-of.ensures (fit_on x.intake-1 (counts_of x.totals-1) x.totals-1.state h y)))
     (λ c κs. search rules)
     (λ c κs. search rules)
     (λ c.
@@ -33,6 +33,6 @@ step_spec =
     let w = y.before.before.before.before.before.before.before.before.before in
     let k = w.before.before.before.before.before.before.before.before.before.before.before.before.before in
     let p = k.before.before.before.before.before.before.before in
-    let a = p.before.before.before.before.before.before.before.before.before.before.before.before.args in
+    let a = p.args in
     let x = a.session in
-    step_is (step-as a.text.now a.set.now a.input.now x.intake (totals-apart x.totals k.Counts-of.ensures p.spread-cells.ensures) (c.totals-of.ensures ∙ ap (totals_of w.work-lines.result.counts) y.state-in.ensures) w.work-lines.ensures)))
+    step_is (step-as a.text.now a.set.now a.input.now x.intake-1 (totals-apart x.totals-1 k.Counts-of.ensures p.spread_cells-cells.ensures) (c.totals_of.ensures ∙ ap (totals_of w.work_lines-w.result.counts) y.state_in-next.ensures) w.work_lines-w.ensures)))

@@ -3,9 +3,9 @@ use borrow.Author.Tests.{eq-eqb, ne_eqb}
 use Rattle.transcript.proofs.set_text.is_star.Statement.{statement}
 use Rattle.transcript.proofs.set_text.is_star.Tie as tie
 
-pub is-star-spec : {M : Type 1} → statement M
-is-star-spec =
+pub is_star_spec : {M : Type 1} → statement M
+is_star_spec =
     tie.close
     (tie.spec
-    (λ c. simp (eq-eqb _ _ c.if1.true))
-    (λ c. simp (ne_eqb _ _ c.if1.false)))
+    (λ c. simp (eq-eqb _ _ c.if-star-eq1.true))
+    (λ c. simp (ne_eqb _ _ c.if-star-eq1.false)))

@@ -4,10 +4,10 @@ use Rattle.transcript.specs.SetText.{place_end}
 use Rattle.transcript.proofs.set_text.place_end.Statement.{statement}
 use Rattle.transcript.proofs.set_text.place_end.Tie as tie
 
-pub place-end-spec : {M : Type 1} → statement M
+pub place_end_spec : {M : Type 1} → statement M
 unfolding place_end
-place-end-spec =
+place_end_spec =
     tie.close
     (tie.spec
     (λ c κs. search rules)
-    (λ c. rw c.size-with.ensures))
+    (λ c. rw c.size_with-size.ensures))

@@ -4,11 +4,11 @@ use Rattle.transcript.specs.SetText.{place_on}
 use Rattle.transcript.proofs.set_text.place_on.Statement.{statement}
 use Rattle.transcript.proofs.set_text.place_on.Tie as tie
 
-pub place-on-spec : {M : Type 1} → statement M
+pub place_on_spec : {M : Type 1} → statement M
 unfolding place_on
-place-on-spec =
+place_on_spec =
     tie.close
     (tie.spec
     (λ c κs. search rules)
     (λ c κs. search rules)
-    (λ c. rw (c.before.size-with.ensures, c.star-on.ensures)))
+    (λ c. rw (c.size_with-size.ensures, c.star_on-star.ensures)))

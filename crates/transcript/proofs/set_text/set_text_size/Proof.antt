@@ -15,10 +15,10 @@ use Rattle.transcript.specs.StarLaws.{text-empty, size-last-star, size-last, siz
 use Rattle.transcript.proofs.set_text.set_text_size.Statement.{statement}
 use Rattle.transcript.proofs.set_text.set_text_size.Tie as tie
 
-abbrev invariant-loop : tie.invariant-loop
+abbrev invariant-loop : tie.invariant-loop-at
 invariant-loop input at₀ at = (at ≤ length input) × (at + length (input_of (drop at input)).text ≡ length (input_of input).text)
 
-abbrev decreases-loop : tie.decreases-loop
+abbrev decreases-loop : tie.decreases-loop-at
 decreases-loop input at₀ at = length input - at
 
 -- the line from `at` to `end`
@@ -57,56 +57,56 @@ module _ (t : List ℕ) {at end : ℕ} (inv : invariant-loop t 0 at) (e : end �
         let k : length (input_of (drop (end - at + 1) (drop at t))).text ≡ length (input_of (drop (end + 1) t)).text = ap (λ (l : List ℕ). length (input_of l).text) r ∙ ap (λ (i : ℕ). length (input_of (drop i t)).text) q in
         (omega (arith, h, within.1), omega (arith, inv.1, n, k, within.0))
 
-pub set-text-size-spec : {M : Type 1} → statement M
-set-text-size-spec =
+pub set_text_size_spec : {M : Type 1} → statement M
+set_text_size_spec =
     tie.close
     (tie.spec
     invariant-loop
     decreases-loop
     (λ c. (omega arith, omega arith))
     (λ c κs. search rules)
-    (λ c. let b = c.before.before in let w = within b.before.before.args.input.now b.loop.invariant c.run_end.ensures in omega (arith, w.0))
-    (λ c. let b = c.before.before in let w = within b.before.before.args.input.now b.loop.invariant c.run_end.ensures in search (rules, w.0, w.1))
-    (λ c. let b = c.before.before in let w = within b.before.before.args.input.now b.loop.invariant c.run_end.ensures in search (rules, w.0, w.1))
+    (λ c. let b = c.before.before in let w = within b.args.input.now b.loop-at.invariant c.run_end-end.ensures in omega (arith, w.0))
+    (λ c. let b = c.before.before in let w = within b.args.input.now b.loop-at.invariant c.run_end-end.ensures in search (rules, w.0, w.1))
+    (λ c. let b = c.before.before in let w = within b.args.input.now b.loop-at.invariant c.run_end-end.ensures in search (rules, w.0, w.1))
     (λ c κs. search rules)
     (λ c.
     let s = c.before.before in
     let r = s.before.before in
     let b = r.before.before in
-    ends-star b.before.before.args.input.now b.loop.invariant r.run_end.ensures s.star-on.ensures c.before.if1.true c.if2.true)
+    ends-star b.args.input.now b.loop-at.invariant r.run_end-end.ensures s.star_on-star.ensures c.if-end-input.true c.if-star-eq1.true)
     (λ c.
     let s = c.before.before in
     let r = s.before.before in
     let b = r.before.before in
-    ends_last b.before.before.args.input.now b.loop.invariant r.run_end.ensures s.star-on.ensures c.before.if1.true c.if2.false)
+    ends_last b.args.input.now b.loop-at.invariant r.run_end-end.ensures s.star_on-star.ensures c.if-end-input.true c.if-star-eq1.false)
     (λ c κs. search rules)
     (λ c.
     let i = c.before.before in
     let s = i.before in
     let r = s.before.before in
     let b = r.before.before in
-    ends-here b.before.before.args.input.now b.loop.invariant r.run_end.ensures s.star-on.ensures i.if1.false (sym c.before.is-star.ensures ∙ c.if3.true))
+    ends-here b.args.input.now b.loop-at.invariant r.run_end-end.ensures s.star_on-star.ensures i.if-end-input.false (sym c.is_star.ensures ∙ c.if-is_star.true))
     (λ c.
     let i = c.before.before in
     let r = i.before.before.before in
     let b = r.before.before in
-    let w = within b.before.before.args.input.now b.loop.invariant r.run_end.ensures in
+    let w = within b.args.input.now b.loop-at.invariant r.run_end-end.ensures in
     search (rules, w.1))
     (λ c.
     let i = c.before.before in
     let r = i.before.before.before in
     let b = r.before.before in
-    let w = within b.before.before.args.input.now b.loop.invariant r.run_end.ensures in
+    let w = within b.args.input.now b.loop-at.invariant r.run_end-end.ensures in
     omega (arith, w.0, w.1))
     (λ c.
     let i = c.before.before in
     let s = i.before in
     let r = s.before.before in
     let b = r.before.before in
-    goes_on_lem b.before.before.args.input.now b.loop.invariant r.run_end.ensures s.star-on.ensures i.if1.false (sym c.before.is-star.ensures ∙ c.if3.false))
+    goes_on_lem b.args.input.now b.loop-at.invariant r.run_end-end.ensures s.star_on-star.ensures i.if-end-input.false (sym c.is_star.ensures ∙ c.if-is_star.false))
     (λ c.
     let b = c.before in
-    let t = b.before.before.args.input.now in
-    let h : length t ≤ b.loop.at = omega arith in
-    let n : length (input_of (drop b.loop.at t)).text ≡ 0 = ap (λ (l : List ℕ). length (input_of l).text) (drop_of_length-le t h) ∙ ap (λ (l : List ℕ). length l) text-empty in
-    omega (arith, b.loop.invariant.1, n)))
+    let t = b.args.input.now in
+    let h : length t ≤ b.loop-at.at = omega arith in
+    let n : length (input_of (drop b.loop-at.at t)).text ≡ 0 = ap (λ (l : List ℕ). length (input_of l).text) (drop_of_length-le t h) ∙ ap (λ (l : List ℕ). length l) text-empty in
+    omega (arith, b.loop-at.invariant.1, n)))

@@ -9,14 +9,14 @@ use Rattle.transcript.proofs.SetTextLaws.{star-next, star-none}
 use Rattle.transcript.proofs.set_text.star_on.Statement.{statement}
 use Rattle.transcript.proofs.set_text.star_on.Tie as tie
 
-abbrev invariant-loop : tie.invariant-loop
+abbrev invariant-loop : tie.invariant-loop-i
 invariant-loop part star s₀ i₀ s i = (star_on s (drop i part) ≡ star_on star part) × (i ≤ length part)
 
-abbrev decreases-loop : tie.decreases-loop
+abbrev decreases-loop : tie.decreases-loop-i
 decreases-loop part star s₀ i₀ s i = length part - i
 
-pub star-on-spec : {M : Type 1} → statement M
-star-on-spec =
+pub star_on_spec : {M : Type 1} → statement M
+star_on_spec =
     tie.close
     (tie.spec
     invariant-loop
@@ -28,5 +28,5 @@ star-on-spec =
     (λ c. omega arith)
     (λ c.
     let b = c.before.before.before in
-    (star-next _ _ b.loop.i (omega arith) c.star-after.ensures ∙ b.loop.invariant.0, omega arith))
-    (λ c. sym (star-none _ _ c.before.loop.i (omega arith)) ∙ c.before.loop.invariant.0))
+    (star-next _ _ b.loop-i.i (omega arith) c.star_after-s.ensures ∙ b.loop-i.invariant.0, omega arith))
+    (λ c. sym (star-none _ _ c.loop-i.i (omega arith)) ∙ c.loop-i.invariant.0))

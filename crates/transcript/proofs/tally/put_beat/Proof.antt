@@ -6,14 +6,14 @@ use Rattle.transcript.proofs.TallyBeatLaws.{code-near, seen}
 use Rattle.transcript.proofs.tally.put_beat.Statement.{statement}
 use Rattle.transcript.proofs.tally.put_beat.Tie as tie
 
-pub put-beat-spec : {M : Type 1} → statement M
-put-beat-spec =
+pub put_beat_spec : {M : Type 1} → statement M
+put_beat_spec =
     tie.close
     (tie.spec
     (λ c. search rules)
     (λ c κs. search rules)
-    (λ c κs. let l = c.before.before.before in let p = l.before.before.before.before.before.before.requires in (omega (arith, code-near _ _ _ l.code-line.ensures, p.0, p.1), p.1))
+    (λ c κs. let l = c.before.before.before in let p = l.requires in (omega (arith, code-near _ _ _ l.code_line-p.ensures, p.0, p.1), p.1))
     (λ c. search rules)
     (λ c. search rules)
-    (λ c. let o = c.before.before in let l = o.before.before.before.before in put_as (seen _ l.before.before.enum_told.given.1) (put_both l.code-line.ensures o.order-lines.ensures))
-    (λ c. put_as (seen _ c.enum-told2.given.1) put-nothing))
+    (λ c. let o = c.before.before in let l = o.before.before.before.before in put_as (seen _ l.in-Run.is) (put_both l.code_line-p.ensures o.order_lines.ensures))
+    (λ c. put_as (seen _ c.in-Status.is) put-nothing))

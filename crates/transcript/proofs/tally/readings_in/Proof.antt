@@ -15,14 +15,14 @@ use Rattle.transcript.proofs.tally.readings_in.Tie as tie
 abbrev no_sent : Sent
 no_sent = record { reading = no_reading }
 
-abbrev invariant-loop : tie.invariant-loop
+abbrev invariant-loop : tie.invariant-loop-i
 invariant-loop sent x₀ i₀ x i = (i ≤ 8) × (length x ≡ 8) × (take i x ≡ take i (readings_in sent))
 
-abbrev decreases-loop : tie.decreases-loop
+abbrev decreases-loop : tie.decreases-loop-i
 decreases-loop sent x₀ i₀ x i = 8 - i
 
-pub readings-in-spec : {M : Type 1} → statement M
-readings-in-spec =
+pub readings_in_spec : {M : Type 1} → statement M
+readings_in_spec =
     tie.close
     (tie.spec
     invariant-loop
@@ -37,13 +37,13 @@ readings-in-spec =
     (λ c. omega arith)
     (λ c.
     let b = c.before.before in
-    let l = b.loop in
-    let s = b.before.before.args.t1 in
+    let l = b.loop-i in
+    let s = b.args.t1 in
     let e : length s ≡ 8 = search rules in
     (omega arith, length-set l.x l.i (get_or s l.i no_sent).reading ∙ l.invariant.1, readings-next s l.x l.i e l.invariant.1 (omega arith) l.invariant.2 no_sent))
     (λ c.
-    let l = c.before.loop in
-    let s = c.before.before.before.args.t1 in
+    let l = c.loop-i in
+    let s = c.args.t1 in
     let e : length s ≡ 8 = search rules in
     let k : l.i ≡ 8 = omega (arith, l.invariant.0) in
     readings-all s l.x e l.invariant.1 (rw k at l.invariant.2)))

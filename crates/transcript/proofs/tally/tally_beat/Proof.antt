@@ -17,26 +17,26 @@ use Rattle.transcript.proofs.tally.tally_beat.Tie as tie
 abbrev held : tie.Start → Held
 held s = let a = s.args in held_in a.r.now a.cells.now a.runs.now a.counts.channels a.locked.now a.memory.now a.acts.now a.orders.now
 
-size : (c : tie.After-beat-known) → length c.before.before.before.before.before.before.before.before.before.before.before.before.before.before.args.orders.now ≡ buffer_size
+size : (c : tie.After-beat_known-b) → length c.args.orders.now ≡ buffer_size
 size c = search rules
 
-few : (c : tie.After-beat-known) → c.beat-known.result.orders ≤ max_orders
+few : (c : tie.After-beat_known-b) → c.beat_known-b.result.orders ≤ max_orders
 few c =
     let r = c.before.before.before.before.before.before.before.before.before.before.before in
     let s = r.before.before.before in
     let a = s.args in
-    few-orders a.set.now a.counts (lent_in a.lent) a.cancelled.now (held s) s.requires.0 (size c) r.readings-in.ensures c.beat-known.ensures
+    few-orders a.set.now a.counts (lent_in a.lent) a.cancelled.now (held s) s.requires.0 (size c) r.readings_in-readings.ensures c.beat_known-b.ensures
 
-pub tally-beat-spec : {M : Type 1} → statement M
-tally-beat-spec =
+pub tally_beat_spec : {M : Type 1} → statement M
+tally_beat_spec =
     tie.close
     (tie.spec
     (λ c κs. search rules)
     (λ c. search (rules, c.before.before.before.before.before.before.before.before.before.before.before.before.well-formed.1.1.1.1.1.1.1.1.1.1.1.1.0))
     (λ c κs. search rules)
-    (λ c. let f = c.before.before.before.before.before.before.before.before.before.before.before.before.before.before.before.requires.1.0 power_on in omega (arith, f.beats))
-    (λ c κs. let b = c.before.before.before.before in (b.before.before.before.before.before.before.before.before.before.before.before.before.before.before.requires.1.1, few b))
-    (λ c κs. let b = c.before.before.before.before.before.before.before.before in (b.before.before.before.before.before.before.before.before.before.before.before.before.before.before.requires.1.0, few b))
+    (λ c. let f = c.requires.1.0 power_on in omega (arith, f.beats))
+    (λ c κs. let b = c.before.before.before.before in (b.requires.1.1, few b))
+    (λ c κs. let b = c.before.before.before.before.before.before.before.before in (b.requires.1.0, few b))
     (λ c. search rules)
     (λ c.
     let p = c.before.before.before.before in
@@ -44,6 +44,6 @@ tally-beat-spec =
     let r = b.before.before.before.before.before.before.before.before.before.before.before in
     let s = r.before.before.before in
     let a = s.args in (
-      beat-counted a.set.now a.counts (lent_in a.lent) a.cancelled.now (held s) s.requires.0 (size b) r.readings-in.ensures b.beat-known.ensures c.count.ensures,
-      beat-put a.set.now a.counts (lent_in a.lent) a.cancelled.now (held s) s.requires.0 (size b) r.readings-in.ensures b.beat-known.ensures p.put-beat.ensures,
+      beat-counted a.set.now a.counts (lent_in a.lent) a.cancelled.now (held s) s.requires.0 (size b) r.readings_in-readings.ensures b.beat_known-b.ensures c.count.ensures,
+      beat-put a.set.now a.counts (lent_in a.lent) a.cancelled.now (held s) s.requires.0 (size b) r.readings_in-readings.ensures b.beat_known-b.ensures p.put_beat-end.ensures,
     )))

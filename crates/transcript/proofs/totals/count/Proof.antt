@@ -10,8 +10,8 @@ count_spec =
     tie.close
     (tie.spec
     (λ c κs. search rules)
-    (λ c. let f = c.before.before.requires.0 power_on in omega (arith, f.lines))
-    (λ c. let f = c.before.before.requires.0 power_on in omega (arith, f.beats, f.lines))
-    (λ c. let o = c.before.before in let f = o.before.requires.0 power_on in omega (arith, f.beats, f.lines, f.coded, o.one-if.ensures.1))
+    (λ c. let f = c.requires.0 power_on in omega (arith, f.lines))
+    (λ c. let f = c.requires.0 power_on in omega (arith, f.beats, f.lines))
+    (λ c. let o = c.before.before in let f = o.requires.0 power_on in omega (arith, f.beats, f.lines, f.coded, o.one_if-coded.ensures.1))
     (λ c. let s = c.before.before.before.before in let f = s.requires.0 power_on in omega (arith, f.beats, f.lines, f.orders, s.requires.1))
-    (λ c. rw c.before.before.before.one-if.ensures.0))
+    (λ c. rw c.one_if-coded.ensures.0))

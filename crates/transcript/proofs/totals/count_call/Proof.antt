@@ -5,5 +5,5 @@ use Rattle.engine.specs.State.{power_on}
 use Rattle.transcript.proofs.totals.count_call.Statement.{statement}
 use Rattle.transcript.proofs.totals.count_call.Tie as tie
 
-pub count-call-spec : {M : Type 1} → statement M
-count-call-spec = tie.close (tie.spec (λ c. omega (arith, (c.before.before.requires power_on).lines)) (λ c. refl))
+pub count_call_spec : {M : Type 1} → statement M
+count_call_spec = tie.close (tie.spec (λ c. omega (arith, (c.requires power_on).lines)) (λ c. refl))

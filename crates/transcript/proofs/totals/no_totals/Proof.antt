@@ -3,9 +3,9 @@ use borrow.Author.Rules.{rules}
 use Rattle.transcript.proofs.totals.no_totals.Statement.{statement}
 use Rattle.transcript.proofs.totals.no_totals.Tie as tie
 
-pub no-totals-spec : {M : Type 1} → statement M
-no-totals-spec =
+pub no_totals_spec : {M : Type 1} → statement M
+no_totals_spec =
     tie.close
     (tie.spec
     (λ c κs. search rules)
-    (λ c. rw c.power-on.ensures))
+    (λ c. rw c.power_on.ensures))

@@ -5,9 +5,9 @@ use Rattle.transcript.proofs.TestLaws.{one-other}
 use Rattle.transcript.proofs.totals.one_if.Statement.{statement}
 use Rattle.transcript.proofs.totals.one_if.Tie as tie
 
-pub one-if-spec : {M : Type 1} → statement M
-one-if-spec =
+pub one_if_spec : {M : Type 1} → statement M
+one_if_spec =
     tie.close
     (tie.spec
     (λ c. search rules)
-    (λ c. (one-other _ c.if1.false, omega arith)))
+    (λ c. (one-other _ c.if-code-eq0.false, omega arith)))

@@ -6,8 +6,8 @@ use Rattle.transcript.proofs.TestLaws.{ended_by_lem}
 use Rattle.transcript.proofs.totals.put_end.Statement.{statement}
 use Rattle.transcript.proofs.totals.put_end.Tie as tie
 
-pub put-end-spec : {M : Type 1} → statement M
-put-end-spec =
+pub put_end_spec : {M : Type 1} → statement M
+put_end_spec =
     tie.close
     (tie.spec
     (λ c. search rules)
@@ -15,6 +15,6 @@ put-end-spec =
     (λ c. search rules)
     (λ c κs. search rules)
     (λ c. search rules)
-    (λ c. let p = c.before.before in let a = p.before.before.before.before.before.args in put_as (ended_by_lem _ (totals_of a.counts a.state) p.before.before.enum_told.given.1) p.end_line.ensures)
+    (λ c. let p = c.before.before in let a = p.args in put_as (ended_by_lem _ (totals_of a.counts a.state) p.in-Run.is) p.end_line.ensures)
     (λ c. search rules)
-    (λ c. let p = c.before.before in let a = p.before.before.before.before.before.args in put_as (ended_by_lem _ (totals_of a.counts a.state) p.before.before.enum-told2.given.1) p.put-picture.ensures))
+    (λ c. let p = c.before.before in let a = p.args in put_as (ended_by_lem _ (totals_of a.counts a.state) p.in-Status.is) p.put_picture.ensures))

@@ -7,10 +7,10 @@ use Rattle.values.specs.SignedLaws.{back}
 use Rattle.values.proofs.arithmetic.feed.Statement.{statement}
 use Rattle.values.proofs.arithmetic.feed.Tie as tie
 
-pub feed-spec : {M : Type 1} → statement M
+pub feed_spec : {M : Type 1} → statement M
 unfolding less_than feed_of
-feed-spec =
+feed_spec =
     tie.close
     (tie.spec
-    (λ c. let b = back w32 c.before.ranges.v in rw (rw b at c.if1.true) (ap Value b))
-    (λ c. rw (rw (back w32 c.before.ranges.v) at c.if1.false)))
+    (λ c. let b = back w32 c.ranges.v in rw (rw b at c.if-v-gt0.true) (ap Value b))
+    (λ c. rw (rw (back w32 c.ranges.v) at c.if-v-gt0.false)))

@@ -6,11 +6,11 @@ use Rattle.values.specs.SignedLaws.{back, too-low, too-high, between}
 use Rattle.values.proofs.arithmetic.in_range.Statement.{statement}
 use Rattle.values.proofs.arithmetic.in_range.Tie as tie
 
-pub in-range-spec : {M : Type 1} → statement M
-in-range-spec =
+pub in_range_spec : {M : Type 1} → statement M
+in_range_spec =
     tie.close
     (tie.spec
     (λ c. search rules)
-    (λ c. let b = back w32 c.before.ranges.v in sym (too-low _ (rw b at c.if1.true)))
-    (λ c. let b = back w32 c.before.before.ranges.v in sym (too-high _ (rw b at c.if2.true)))
-    (λ c. let b = back w32 c.before.before.ranges.v in sym (between _ (rw b at c.before.if1.false) (rw b at c.if2.false))))
+    (λ c. let b = back w32 c.ranges.v in sym (too-low _ (rw b at c.if-v.true)))
+    (λ c. let b = back w32 c.ranges.v in sym (too-high _ (rw b at c.if-v-gt-TOP.true)))
+    (λ c. let b = back w32 c.ranges.v in sym (between _ (rw b at c.if-v.false) (rw b at c.if-v-gt-TOP.false))))

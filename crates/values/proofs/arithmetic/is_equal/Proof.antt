@@ -3,5 +3,5 @@ use Rattle.values.specs.SignedLaws.{equal-bits}
 use Rattle.values.proofs.arithmetic.is_equal.Statement.{statement}
 use Rattle.values.proofs.arithmetic.is_equal.Tie as tie
 
-pub is-equal-spec : {M : Type 1} → statement M
-is-equal-spec = tie.close (tie.spec (λ c. equal-bits c.ranges.a c.ranges.b))
+pub is_equal_spec : {M : Type 1} → statement M
+is_equal_spec = tie.close (tie.spec (λ c. equal-bits c.ranges.a c.ranges.b))

@@ -5,6 +5,6 @@ use Rattle.values.specs.SignedLaws.{back}
 use Rattle.values.proofs.arithmetic.is_less.Statement.{statement}
 use Rattle.values.proofs.arithmetic.is_less.Tie as tie
 
-pub is-less-spec : {M : Type 1} → statement M
+pub is_less_spec : {M : Type 1} → statement M
 unfolding less_than
-is-less-spec = tie.close (tie.spec (λ c. rw (back w32 c.ranges.a, back w32 c.ranges.b)))
+is_less_spec = tie.close (tie.spec (λ c. rw (back w32 c.ranges.a, back w32 c.ranges.b)))

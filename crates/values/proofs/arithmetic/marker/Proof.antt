@@ -12,32 +12,32 @@ use Rattle.values.specs.SignedLaws.{back, sign-back, size_is}
 use Rattle.values.proofs.arithmetic.marker.Statement.{statement}
 use Rattle.values.proofs.arithmetic.marker.Tie as tie
 
-ranged : (c : tie.After-in-range) → c.in-range.result ≡ in_range c.before.args.v
-ranged c = c.in-range.ensures ∙ ap in_range (back w32 c.before.ranges.v)
+ranged : (c : tie.After-in_range) → c.in_range.result ≡ in_range c.args.v
+ranged c = c.in_range.ensures ∙ ap in_range (back w32 c.ranges.v)
 
-inside : (c : tie.Else1) → in_range c.before.before.args.v ≡ true
-inside c = sym (ranged c.before) ∙ not-false _ c.if1.false
+inside : (c : tie.Else-not-in_range) → in_range c.args.v ≡ true
+inside c = sym (ranged c.before) ∙ not-false _ c.if-not-in_range.false-raw
 
-returns-2 : tie.Need-returns-2
+returns-2 : tie.Need-returns
 unfolding marker_of nearest_units
 returns-2 c =
     let b = c.before in
     let e = b.before in
-    let f = e.before.before.ranges.v in
-    rw (inside e, ← valued-value _ (nearest-in-range _ (inside e)), ← size_is f b.type_size.ensures.0, ← sign-back f) c.signed.ensures
+    let f = e.ranges.v in
+    rw (inside e, ← valued-value _ (nearest-in-range _ (inside e)), ← size_is f b.size_of.ensures.0, ← sign-back f) c.signed.ensures
 
-pub marker-spec : {M : Type 1} → statement M
+pub marker_spec : {M : Type 1} → statement M
 unfolding marker_of
-marker-spec =
+marker_spec =
     tie.close
     (tie.spec
     (λ c κs. search rules)
-    (λ c. rw (sym (ranged c.before) ∙ not-true _ c.if1.true))
+    (λ c. rw (sym (ranged c.before) ∙ not-true _ c.if-not-in_range.true-raw))
     (λ c κs. search rules)
-    (λ c. record { fits = omega (arith, c.type_size.ensures.1) })
+    (λ c. record { fits = omega (arith, c.size_of.ensures.1) })
     (λ c. search rules)
     (λ c. search rules)
     (λ c. search rules)
-    (λ c. record { fits = omega (arith, c.type_size.ensures.1) })
+    (λ c. record { fits = omega (arith, c.size_of.ensures.1) })
     (λ c κs. search rules)
     returns-2)

@@ -7,12 +7,12 @@ use Rattle.values.specs.SignedLaws.{cast64, zero-fits, difference-fits, work-fit
 use Rattle.values.proofs.arithmetic.negation.Statement.{statement}
 use Rattle.values.proofs.arithmetic.negation.Tie as tie
 
-pub negation-spec : {M : Type 1} → statement M
+pub negation_spec : {M : Type 1} → statement M
 unfolding negation_of
-negation-spec =
+negation_spec =
     tie.close
     (tie.spec
     (λ c. cast64 c.ranges.a)
     (λ c. let f = c.ranges.a in work-fits zero-fits f ◌-ℤ◌ (difference-fits zero-fits f))
     (λ c κs. search rules)
-    (λ c. let f = c.before.ranges.a in c.value_of_lem.ensures ∙ ap valued (worked zero-fits f ◌-ℤ◌ (difference-fits zero-fits f) ∙ +ℤ_idl (neg_ℤ c.before.args.a))))
+    (λ c. let f = c.ranges.a in c.value_of.ensures ∙ ap valued (worked zero-fits f ◌-ℤ◌ (difference-fits zero-fits f) ∙ +ℤ_idl (neg_ℤ c.args.a))))

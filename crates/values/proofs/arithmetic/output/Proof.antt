@@ -8,23 +8,23 @@ use Rattle.values.specs.SignedLaws.{back, zero-fits, unit-fits, bits-equal, bits
 use Rattle.values.proofs.arithmetic.output.Statement.{statement}
 use Rattle.values.proofs.arithmetic.output.Tie as tie
 
-returns-2 : tie.Need-returns-2
+returns-2 : tie.Need-returns-then-v-eq-UNIT
 unfolding output_of
 returns-2 c =
     let s = c.before.before in
-    rw (bits-other s.args.v (pos 0) c.before.if1.false, bits-equal s.ranges.v unit-fits c.if2.true) (ap Value (back w32 s.ranges.v))
+    rw (bits-other s.args.v (pos 0) c.if-v-eq0.false, bits-equal s.ranges.v unit-fits c.if-v-eq-UNIT.true) (ap Value (back w32 s.ranges.v))
 
-returns-3 : tie.Need-returns-3
+returns-3 : tie.Need-returns
 unfolding output_of
 returns-3 c =
-    let v = c.before.before.args.v in
-    rw (bits-other v (pos 0) c.before.if1.false, bits-other v (pos unit) c.if2.false)
+    let v = c.args.v in
+    rw (bits-other v (pos 0) c.if-v-eq0.false, bits-other v (pos unit) c.if-v-eq-UNIT.false)
 
-pub output-spec : {M : Type 1} → statement M
+pub output_spec : {M : Type 1} → statement M
 unfolding output_of
-output-spec =
+output_spec =
     tie.close
     (tie.spec
-    (λ c. let f = c.before.ranges.v in rw (bits-equal f zero-fits c.if1.true) (ap Value (back w32 f)))
+    (λ c. let f = c.ranges.v in rw (bits-equal f zero-fits c.if-v-eq0.true) (ap Value (back w32 f)))
     returns-2
     returns-3)

@@ -14,16 +14,16 @@ returns c =
     let k = c.before in
     let s = k.before.before.before in
     let f = s.ranges in
-    rw (← product-by-size s.args.a s.args.b, ← size_is f.a k.before.before.type_size.ensures.0, ← size_is f.b k.before.size-of2.ensures.0, ← sign-back f.a, ← sign-back f.b, ← k.cut.ensures)
+    rw (← product-by-size s.args.a s.args.b, ← size_is f.a k.size_of.ensures.0, ← size_is f.b k.size_of-2.ensures.0, ← sign-back f.a, ← sign-back f.b, ← k.cut-size.ensures)
     c.signed.ensures
 
-pub product-spec : {M : Type 1} → statement M
-product-spec =
+pub product_spec : {M : Type 1} → statement M
+product_spec =
     tie.close
     (tie.spec
     (λ c κs. search rules)
     (λ c κs. search rules)
-    (λ c. record { fits = omega (arith, mul-le-mul c.before.type_size.ensures.1 c.size-of2.ensures.1) })
+    (λ c. record { fits = omega (arith, mul-le-mul c.size_of.ensures.1 c.size_of-2.ensures.1) })
     (λ c. search rules)
     (λ c κs. search rules)
     (λ c κs. search rules)

@@ -12,20 +12,20 @@ use Rattle.values.specs.SignedLaws.{size_back, negative_fits, negative_back}
 use Rattle.values.proofs.arithmetic.signed.Statement.{statement}
 use Rattle.values.proofs.arithmetic.signed.Tie as tie
 
-small : (c : tie.Else1) → c.before.args.size ≤ top
-small c = omega (arith, c.if1.false)
+small : (c : tie.Else-size) → c.args.size ≤ top
+small c = omega (arith, c.if-size.false)
 
-fitting : (c : tie.Else1) → c.before.args.size < 2147483648
+fitting : (c : tie.Else-size) → c.args.size < 2147483648
 fitting c = omega (arith, small c)
 
-pub signed-spec : {M : Type 1} → statement M
+pub signed_spec : {M : Type 1} → statement M
 unfolding valued in_range
-signed-spec =
+signed_spec =
     tie.close
     (tie.spec
     (λ c. search rules)
-    (λ c. let a = c.before.args in rw (signed-size a.negative a.size, lt-leb _ _ c.if1.true))
+    (λ c. let a = c.args in rw (signed-size a.negative a.size, lt-leb _ _ c.if-size.true))
     (λ c. search rules)
     (λ c. negative_fits _ (fitting c.before))
-    (λ c. let s = small c.before in rw (c.if2.true, signed-size true c.before.before.args.size, le-leb _ _ s) (ap Value (negative_back _ (fitting c.before))))
-    (λ c. let s = small c.before in rw (c.if2.false, le-leb _ _ s) (ap Value (size_back _ (fitting c.before)))))
+    (λ c. let s = small c.before in rw (c.if-negative.true, signed-size true c.args.size, le-leb _ _ s) (ap Value (negative_back _ (fitting c.before))))
+    (λ c. let s = small c.before in rw (c.if-negative.false, le-leb _ _ s) (ap Value (size_back _ (fitting c.before)))))

@@ -8,19 +8,19 @@ use Rattle.values.specs.SignedLaws.{back, cast64, turned-fits, turned-back, size
 use Rattle.values.proofs.arithmetic.size_of.Statement.{statement}
 use Rattle.values.proofs.arithmetic.size_of.Tie as tie
 
-below : (c : tie.Then1) → let v = c.before.args.v in neg_ℤ v ≡ pos (nat_abs v)
-below c = negative-size c.before.args.v (sym (sign-back c.before.ranges.v) ∙ c.if1.true)
+below : (c : tie.Then-v-lt0) → let v = c.args.v in neg_ℤ v ≡ pos (nat_abs v)
+below c = negative-size c.args.v (sym (sign-back c.ranges.v) ∙ c.if-v-lt0.true)
 
-other : (c : tie.Else1) → let v = c.before.args.v in v ≡ pos (nat_abs v)
-other c = other-size c.before.args.v (sym (sign-back c.before.ranges.v) ∙ c.if1.false)
+other : (c : tie.Else-v-lt0) → let v = c.args.v in v ≡ pos (nat_abs v)
+other c = other-size c.args.v (sym (sign-back c.ranges.v) ∙ c.if-v-lt0.false)
 
-pub size-of-spec : {M : Type 1} → statement M
-size-of-spec =
+pub size_of_spec : {M : Type 1} → statement M
+size_of_spec =
     tie.close
     (tie.spec
-    (λ c. cast64 c.before.ranges.v)
-    (λ c. turned-fits c.before.ranges.v)
-    (λ c. let f = c.before.ranges.v in size-cast _ _ (turned-back f ∙ below c) (abs32 f))
-    (λ c. let f = c.before.ranges.v in rw (ap nat_abs (turned-back f ∙ below c)) (refl, abs32 f))
-    (λ c. let f = c.before.ranges.v in size-cast _ _ (back w32 f ∙ other c) (abs32 f))
-    (λ c. let f = c.before.ranges.v in rw (ap nat_abs (back w32 f)) (refl, abs32 f)))
+    (λ c. cast64 c.ranges.v)
+    (λ c. turned-fits c.ranges.v)
+    (λ c. let f = c.ranges.v in size-cast _ _ (turned-back f ∙ below c) (abs32 f))
+    (λ c. let f = c.ranges.v in rw (ap nat_abs (turned-back f ∙ below c)) (refl, abs32 f))
+    (λ c. let f = c.ranges.v in size-cast _ _ (back w32 f ∙ other c) (abs32 f))
+    (λ c. let f = c.ranges.v in rw (ap nat_abs (back w32 f)) (refl, abs32 f)))

@@ -10,21 +10,21 @@ use Rattle.values.specs.SignedLaws.{back, too-low, too-high, between}
 use Rattle.values.proofs.arithmetic.value_of.Statement.{statement}
 use Rattle.values.proofs.arithmetic.value_of.Tie as tie
 
-inside : (c : tie.Else2) → in_range c.before.before.args.x ≡ true
-inside c = let b = back w64 c.before.before.ranges.x in between _ (rw b at c.before.if1.false) (rw b at c.if2.false)
+inside : (c : tie.Else-x-2) → in_range c.args.x ≡ true
+inside c = let b = back w64 c.ranges.x in between _ (rw b at c.if-x.false) (rw b at c.if-x-2.false)
 
-cast-x : tie.Need-overflow-cast-t5
-cast-x c = rw (back w64 c.before.before.ranges.x) (range-fits _ (inside c))
+cast-x : tie.Need-overflow_cast-result
+cast-x c = rw (back w64 c.ranges.x) (range-fits _ (inside c))
 
-pub value-of-spec : {M : Type 1} → statement M
+pub value_of_spec : {M : Type 1} → statement M
 unfolding valued
-value-of-spec =
+value_of_spec =
     tie.close
     (tie.spec
     (λ c. search rules)
     (λ c. search rules)
-    (λ c. rw (too-low _ (rw (back w64 c.before.ranges.x) at c.if1.true)))
+    (λ c. rw (too-low _ (rw (back w64 c.ranges.x) at c.if-x.true)))
     (λ c. search rules)
-    (λ c. rw (too-high _ (rw (back w64 c.before.before.ranges.x) at c.if2.true)))
+    (λ c. rw (too-high _ (rw (back w64 c.ranges.x) at c.if-x-2.true)))
     cast-x
-    (λ c. rw (inside c) (ap Value (back w32 (cast-x c) ∙ back w64 c.before.before.ranges.x))))
+    (λ c. rw (inside c) (ap Value (back w32 (cast-x c) ∙ back w64 c.ranges.x))))

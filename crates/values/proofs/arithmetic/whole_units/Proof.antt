@@ -17,9 +17,9 @@ quotient_fits {v} h = fits-abs w32 _ (omega (arith, abs-quot v (pos unit), abs32
 whole-fits : {v : ℤ} → SFits w32 v → SFits w32 (quot_z v (pos unit) *ℤ pos unit)
 whole-fits {v} h = fits-abs w32 _ (omega (arith, abs-mul (quot_z v (pos unit)) (pos unit), abs-quot v (pos unit), abs32 h))
 
-pub whole-units-spec : {M : Type 1} → statement M
+pub whole_units_spec : {M : Type 1} → statement M
 unfolding whole_units
-whole-units-spec =
+whole_units_spec =
     tie.close
     (tie.spec
     (λ c. let f = c.ranges.v in (lit< tt, rw (back w32 f) (quotient_fits f)))

@@ -33,21 +33,21 @@ unfolding twos_complement
 other-is (pos n) h = (tt, refl)
 other-is (negsuc n) h = clash (cc)
 
-minus : (c : tie.Then1) → lt_z c.before.args.v (pos 0) ≡ true
-minus c = rw (back w32 c.before.ranges.v) at c.if1.true
+minus : (c : tie.Then-v-lt0) → lt_z c.args.v (pos 0) ≡ true
+minus c = rw (back w32 c.ranges.v) at c.if-v-lt0.true
 
-other : (c : tie.Else1) → T (non_neg c.before.args.v) × (nat_abs c.before.args.v ≡ twos_complement c.before.args.v)
-other c = other-is c.before.args.v (rw (back w32 c.before.ranges.v) at c.if1.false)
+other : (c : tie.Else-v-lt0) → T (non_neg c.args.v) × (nat_abs c.args.v ≡ twos_complement c.args.v)
+other c = other-is c.args.v (rw (back w32 c.ranges.v) at c.if-v-lt0.false)
 
-flipped : (c : tie.Then1) → to_z w32 (4294967295 - of_z w32 c.before.args.v) ≡ pos (mag c.before.args.v)
-flipped c = flipped-bits c.before.args.v c.before.ranges.v (minus c)
+flipped : (c : tie.Then-v-lt0) → to_z w32 (4294967295 - of_z w32 c.args.v) ≡ pos (mag c.args.v)
+flipped c = flipped-bits c.args.v c.ranges.v (minus c)
 
-pub twos-complement-spec : {M : Type 1} → statement M
-twos-complement-spec =
+pub twos_complement_spec : {M : Type 1} → statement M
+twos_complement_spec =
     tie.close
     (tie.spec
-    (λ c. rw (flipped c) (tt, record { fits = omega (arith, c.before.ranges.v.sfits) }))
-    (λ c. rw (flipped c) (omega (arith, c.before.ranges.v.sfits)))
-    (λ c. rw (back w32 c.before.ranges.v) ((other c).0, record { fits = omega (arith, abs32 c.before.ranges.v) }))
-    (λ c. rw (flipped c) (negative-is c.before.args.v (minus c)))
-    (λ c. rw (back w32 c.before.ranges.v) (other c).1))
+    (λ c. rw (flipped c) (tt, record { fits = omega (arith, c.ranges.v.sfits) }))
+    (λ c. rw (flipped c) (omega (arith, c.ranges.v.sfits)))
+    (λ c. rw (back w32 c.ranges.v) ((other c).0, record { fits = omega (arith, abs32 c.ranges.v) }))
+    (λ c. rw (flipped c) (negative-is c.args.v (minus c)))
+    (λ c. rw (back w32 c.ranges.v) (other c).1))

@@ -21,14 +21,14 @@ returns c =
     let second = c.before.before.before in
     let first = second.before.before.before in
     let s = first.before.before.before in
-    let part = s.struct_told.given.1.1 in
-    let x = s.before.ranges.x in
-    let linear = step ◌plus◌ (record { sfits = part.1.1.0.1 }) first.plus.ensures (first.before.before.product.ensures ∙ both product_of (record { sfits = part.1.1.1.0.1 }) x) in
-    let square = step ◌plus◌ (record { sfits = part.1.0.1 }) second.plus2.ensures (step ◌times◌ x second.before.before.times.ensures linear) in
-    step ◌plus◌ (record { sfits = part.0.1 }) c.plus3.ensures (step ◌times◌ x c.before.before.times2.ensures square)
+    let part = s.struct_told-1.given.1.1 in
+    let x = s.ranges.x in
+    let linear = step ◌plus◌ (record { sfits = part.1.1.0.1 }) first.plus-first.ensures (first.product.ensures ∙ both product_of (record { sfits = part.1.1.1.0.1 }) x) in
+    let square = step ◌plus◌ (record { sfits = part.1.0.1 }) second.plus-second.ensures (step ◌times◌ x second.times.ensures linear) in
+    step ◌plus◌ (record { sfits = part.0.1 }) c.plus.ensures (step ◌times◌ x c.times-2.ensures square)
 
-pub polynomial-spec : {M : Type 1} → statement M
-polynomial-spec =
+pub polynomial_spec : {M : Type 1} → statement M
+polynomial_spec =
     tie.close
     (tie.spec
     (λ c κs. search rules)

@@ -13,31 +13,31 @@ use Rattle.values.proofs.fifo.append.Statement.{statement}
 use Rattle.values.proofs.fifo.append.Tie as tie
 
 -- what is_fit told where there is a place
-place : (c : tie.Else2) → (length c.before.before.before.args.part.now ≡ places) × (c.before.before.before.args.count ≤ places)
-place c = bounds c.before.before.is-fit.ensures c.before.if1.false
+place : (c : tie.Else-at-eq-PLACES) → (length c.args.part.now ≡ places) × (c.args.count ≤ places)
+place c = bounds c.is_fit.ensures c.if-not-is_fit.false-raw
 
-returns-2 : tie.Need-returns-2
+returns-2 : tie.Need-returns-then-at-eq-PLACES
 unfolding append_answer appended
 returns-2 c =
-    let a = fit c.before.before.is-fit.ensures c.before.if1.false in
-    let b = eq-eqb _ _ c.if2.true in
+    let a = fit c.is_fit.ensures c.if-not-is_fit.false-raw in
+    let b = eq-eqb _ _ c.if-at-eq-PLACES.true in
     (simp (a, b), simp (a, b))
 
-returns-3 : tie.Need-returns-3
+returns-3 : tie.Need-returns
 unfolding append_answer appended
 returns-3 c =
-    let a = fit c.before.before.is-fit.ensures c.before.if1.false in
-    let b = ne_eqb _ _ c.if2.false in
-    let v = back w32 c.before.before.before.ranges.v in
+    let a = fit c.is_fit.ensures c.if-not-is_fit.false-raw in
+    let b = ne_eqb _ _ c.if-at-eq-PLACES.false in
+    let v = back w32 c.ranges.v in
     (simp (a, b, v), simp (a, b, v))
 
-pub append-spec : {M : Type 1} → statement M
+pub append_spec : {M : Type 1} → statement M
 unfolding append_answer appended
-append-spec =
+append_spec =
     tie.close
     (tie.spec
     (λ c κs. search rules)
-    (λ c. let a = unfit c.before.is-fit.ensures c.if1.true in (simp a, simp a))
+    (λ c. let a = unfit c.is_fit.ensures c.if-not-is_fit.true-raw in (simp a, simp a))
     returns-2
     (λ c. search rules)
     (λ c. let p = place c in omega arith)

@@ -15,20 +15,20 @@ use Rattle.values.proofs.Fit.{unfit, fit, bounds}
 use Rattle.values.proofs.fifo.count_value.Statement.{statement}
 use Rattle.values.proofs.fifo.count_value.Tie as tie
 
-units-fit : (c : tie.Else1) → SFits w32 (pos (c.before.before.args.count * unit))
-units-fit c = let b = bounds c.before.is-fit.ensures c.if1.false in record { sfits = omega arith }
+units-fit : (c : tie.Else-not-is_fit) → SFits w32 (pos (c.args.count * unit))
+units-fit c = let b = bounds c.is_fit.ensures c.if-not-is_fit.false-raw in record { sfits = omega arith }
 
 -- the count is the same number as an i32
-count-is : (c : tie.Else1) → to_z w32 c.before.before.args.count ≡ pos c.before.before.args.count
-count-is c = let b = bounds c.before.is-fit.ensures c.if1.false in to_z_pos w32 _ (omega arith)
+count-is : (c : tie.Else-not-is_fit) → to_z w32 c.args.count ≡ pos c.args.count
+count-is c = let b = bounds c.is_fit.ensures c.if-not-is_fit.false-raw in to_z_pos w32 _ (omega arith)
 
-pub count-value-spec : {M : Type 1} → statement M
+pub count_value_spec : {M : Type 1} → statement M
 unfolding count_of
-count-value-spec =
+count_value_spec =
     tie.close
     (tie.spec
     (λ c κs. search rules)
-    (λ c. simp (unfit c.before.is-fit.ensures c.if1.true))
+    (λ c. simp (unfit c.is_fit.ensures c.if-not-is_fit.true-raw))
     (λ c. search rules)
     (λ c. rw (count-is c) (units-fit c))
-    (λ c. rw (count-is c, fit c.before.is-fit.ensures c.if1.false) (ap S.Value (back w32 (units-fit c)))))
+    (λ c. rw (count-is c, fit c.is_fit.ensures c.if-not-is_fit.false-raw) (ap S.Value (back w32 (units-fit c)))))

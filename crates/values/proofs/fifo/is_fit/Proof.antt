@@ -5,10 +5,10 @@ use Rattle.values.specs.Numbers.{clash}
 use Rattle.values.proofs.fifo.is_fit.Statement.{statement}
 use Rattle.values.proofs.fifo.is_fit.Tie as tie
 
-pub is-fit-spec : {M : Type 1} → statement M
+pub is_fit_spec : {M : Type 1} → statement M
 unfolding fits
-is-fit-spec =
+is_fit_spec =
     tie.close
     (tie.spec
-    (λ c. (rw (ne_eqb _ _ c.if1.true), λ e. clash (cc)))
-    (λ c. (rw (eq-eqb _ _ c.if1.false), λ e. (c.if1.false, leb-true _ _ e))))
+    (λ c. (rw (ne_eqb _ _ c.if-size-ne-PLACES.true), λ e. clash (cc)))
+    (λ c. (rw (eq-eqb _ _ c.if-size-ne-PLACES.false), λ e. (c.if-size-ne-PLACES.false, leb-true _ _ e))))

@@ -6,16 +6,16 @@ use Rattle.values.proofs.Fit.{bounds, reads_none, reads-empty, reads-value}
 use Rattle.values.proofs.fifo.newest.Statement.{statement}
 use Rattle.values.proofs.fifo.newest.Tie as tie
 
-pub newest-spec : {M : Type 1} → statement M
+pub newest_spec : {M : Type 1} → statement M
 unfolding newest_of
-newest-spec =
+newest_spec =
     tie.close
     (tie.spec
     (λ c κs. search rules)
-    (λ c. reads_none c.before.is-fit.ensures _ c.if1.true)
-    (λ c. reads-empty c.before.before.is-fit.ensures _ c.before.if1.false c.if2.true)
+    (λ c. reads_none c.is_fit.ensures _ c.if-not-is_fit.true-raw)
+    (λ c. reads-empty c.is_fit.ensures _ c.if-not-is_fit.false-raw c.if-count-eq0.true)
     (λ c. search rules)
     (λ c. search rules)
     (λ c. search rules)
-    (λ c. let b = bounds c.before.before.is-fit.ensures c.before.if1.false in omega arith)
-    (λ c. let s = c.before in reads-value s.before.before.is-fit.ensures s.before.if1.false s.if2.false (record { sfits = c.t9.given })))
+    (λ c. let b = bounds c.is_fit.ensures c.if-not-is_fit.false-raw in omega arith)
+    (λ c. let s = c.before in reads-value s.is_fit.ensures s.if-not-is_fit.false-raw s.if-count-eq0.false (record { sfits = c.result-1.given })))

@@ -11,37 +11,37 @@ use Rattle.values.proofs.Fit.{unfit, fit, bounds}
 use Rattle.values.proofs.fifo.remove.Statement.{statement}
 use Rattle.values.proofs.fifo.remove.Tie as tie
 
-returns-2 : tie.Need-returns-2
+returns-2 : tie.Need-returns-then-count-eq0
 unfolding remove_answer removed
 returns-2 c =
-    let a = fit c.before.before.is-fit.ensures c.before.if1.false in
-    let b = eq-eqb _ _ c.if2.true in
+    let a = fit c.is_fit.ensures c.if-not-is_fit.false-raw in
+    let b = eq-eqb _ _ c.if-count-eq0.true in
     (simp (a, b), simp (a, b))
 
 shift-requires : tie.Need-shift-requires
 shift-requires c κs =
     let s = c.before.before in
-    let b = bounds s.before.before.is-fit.ensures s.before.if1.false in
+    let b = bounds s.is_fit.ensures s.if-not-is_fit.false-raw in
     omega arith
 
-returns-3 : tie.Need-returns-3
+returns-3 : tie.Need-returns
 unfolding remove_answer removed
 returns-3 c =
     let s = c.before.before.before.before in
-    let a = fit s.before.before.is-fit.ensures s.before.if1.false in
-    let b = ne_eqb _ _ s.if2.false in
-    let v = back w32 {z = get_or s.before.before.before.args.part.now 0 (pos 0)} (record { sfits = c.before.before.before.v.given }) in
-    (simp (a, b, v), simp (a, b) c.before.shift.ensures)
+    let a = fit s.is_fit.ensures s.if-not-is_fit.false-raw in
+    let b = ne_eqb _ _ s.if-count-eq0.false in
+    let v = back w32 {z = get_or s.args.part.now 0 (pos 0)} (record { sfits = c.v-1.given }) in
+    (simp (a, b, v), simp (a, b) c.shift.ensures)
 
-pub remove-spec : {M : Type 1} → statement M
+pub remove_spec : {M : Type 1} → statement M
 unfolding remove_answer removed
-remove-spec =
+remove_spec =
     tie.close
     (tie.spec
     (λ c κs. search rules)
-    (λ c. let a = unfit c.before.is-fit.ensures c.if1.true in (simp a, simp a))
+    (λ c. let a = unfit c.is_fit.ensures c.if-not-is_fit.true-raw in (simp a, simp a))
     returns-2
-    (λ c. let b = bounds c.before.before.is-fit.ensures c.before.if1.false in omega arith)
+    (λ c. let b = bounds c.is_fit.ensures c.if-not-is_fit.false-raw in omega arith)
     shift-requires
     (λ c. search rules)
     (λ c. search rules)

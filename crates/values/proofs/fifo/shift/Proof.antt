@@ -14,17 +14,17 @@ use Rattle.values.specs.ListLaws.{put, move_step}
 use Rattle.values.proofs.fifo.shift.Statement.{statement}
 use Rattle.values.proofs.fifo.shift.Tie as tie
 
-abbrev invariant-loop : tie.invariant-loop
+abbrev invariant-loop : tie.invariant-loop-j
 invariant-loop part₀ n last j₀ part j = (part ≡ take j (drop 1 part₀) ++ drop j part₀) × (length part ≡ length part₀) × (j ≤ last)
 
-abbrev decreases-loop : tie.decreases-loop
+abbrev decreases-loop : tie.decreases-loop-j
 decreases-loop part₀ n last j₀ part j = last - j
 
-loop-again : tie.Need-loop-preserved invariant-loop decreases-loop
+loop-again : tie.Need-loop-j-preserved invariant-loop decreases-loop
 loop-again c =
     let b = c.before.before in (
-      move_step b.before.args.part.now b.loop.j (pos 0) (omega arith) b.loop.part _ b.loop.invariant.0 (back w32 (record { sfits = c.x.given })),
-      simp length-set b.loop.invariant.1,
+      move_step b.args.part.now b.loop-j.j (pos 0) (omega arith) b.loop-j.part _ b.loop-j.invariant.0 (back w32 (record { sfits = c.x-1.given })),
+      simp length-set b.loop-j.invariant.1,
       omega arith,
     )
 
@@ -32,15 +32,15 @@ returns : tie.Need-returns invariant-loop decreases-loop
 unfolding shifted
 returns c =
     let b = c.before in
-    let d = b.before.args.part.now in
-    let n = b.before.args.n in
-    let e : b.loop.j ≡ n - 1 = omega arith in
+    let d = b.args.part.now in
+    let n = b.args.n in
+    let e : b.loop-j.j ≡ n - 1 = omega arith in
     let f : n - 1 + 1 ≡ n = omega arith in
-    let i : b.loop.part ≡ take (n - 1) (drop 1 d) ++ drop (n - 1) d = rw e at b.loop.invariant.0 in
+    let i : b.loop-j.part ≡ take (n - 1) (drop 1 d) ++ drop (n - 1) d = rw e at b.loop-j.invariant.0 in
     rw i (put (take (n - 1) (drop 1 d)) (n - 1) (length-take-le (n - 1) (drop 1 d) (rw length-drop (omega arith))) d (omega arith) (pos 0) (pos 0) ∙ rw f)
 
-pub shift-spec : {M : Type 1} → statement M
-shift-spec =
+pub shift_spec : {M : Type 1} → statement M
+shift_spec =
     tie.close
     (tie.spec
     invariant-loop
@@ -57,5 +57,5 @@ shift-spec =
     loop-again
     (λ c. search rules)
     (λ c. omega arith)
-    (λ c. simp length-set c.before.loop.invariant.1)
+    (λ c. simp length-set c.loop-j.invariant.1)
     returns)

@@ -14,31 +14,31 @@ use Rattle.values.specs.ListLaws.{sum-next, sum_bound}
 use Rattle.values.proofs.fifo.sum_first.Statement.{statement}
 use Rattle.values.proofs.fifo.sum_first.Tie as tie
 
-abbrev invariant-loop : tie.invariant-loop
+abbrev invariant-loop : tie.invariant-loop-i
 invariant-loop part n all₀ i₀ all i = (all ≡ of_z w64 (sum_first part i)) × (nat_abs (sum_first part i) ≤ i * 2147483648) × (i ≤ n)
 
-abbrev decreases-loop : tie.decreases-loop
+abbrev decreases-loop : tie.decreases-loop-i
 decreases-loop part n all₀ i₀ all i = n - i
 
 -- the local holds what has been summed
-held : (c : tie.At-loop invariant-loop decreases-loop) → to_z w64 c.loop.all ≡ sum_first c.before.args.part.now c.loop.i
-held c = rw c.loop.invariant.0 (back w64 (fits-abs w64 _ (omega arith)))
+held : (c : tie.At-loop-i invariant-loop decreases-loop) → to_z w64 c.loop-i.all-bits ≡ sum_first c.args.part.now c.loop-i.i
+held c = rw c.loop-i.invariant.0 (back w64 (fits-abs w64 _ (omega arith)))
 
-place-fits : (c : tie.After-x invariant-loop decreases-loop) → SFits w32 (get_or c.before.before.before.args.part.now c.before.before.loop.i (pos 0))
-place-fits c = record { sfits = c.x.given }
+place-fits : (c : tie.After-x-1 invariant-loop decreases-loop) → SFits w32 (get_or c.args.part.now c.loop-i.i (pos 0))
+place-fits c = record { sfits = c.x-1.given }
 
-step : (c : tie.After-x invariant-loop decreases-loop) → nat_abs (sum_first c.before.before.before.args.part.now c.before.before.loop.i +ℤ get_or c.before.before.before.args.part.now c.before.before.loop.i (pos 0)) ≤ (c.before.before.loop.i + 1) * 2147483648
-step c = sum_bound _ _ c.before.before.loop.invariant.1 (abs32 (place-fits c))
+step : (c : tie.After-x-1 invariant-loop decreases-loop) → nat_abs (sum_first c.args.part.now c.loop-i.i +ℤ get_or c.args.part.now c.loop-i.i (pos 0)) ≤ (c.loop-i.i + 1) * 2147483648
+step c = sum_bound _ _ c.loop-i.invariant.1 (abs32 (place-fits c))
 
-loop-again : tie.Need-loop-preserved invariant-loop decreases-loop
+loop-again : tie.Need-loop-i-preserved invariant-loop decreases-loop
 loop-again c =
     let b = c.before.before in
-    let next = sum-next b.before.args.part.now b.loop.i in
+    let next = sum-next b.args.part.now b.loop-i.i in
     (rw (wide (place-fits c), held b, next), rw next (step c), omega arith)
 
-pub sum-first-spec : {M : Type 1} → statement M
+pub sum_first_spec : {M : Type 1} → statement M
 unfolding sum_first
-sum-first-spec =
+sum_first_spec =
     tie.close
     (tie.spec
     invariant-loop
@@ -51,4 +51,4 @@ sum-first-spec =
     (λ c. search rules)
     (λ c. search rules)
     loop-again
-    (λ c. let e : c.before.loop.i ≡ c.before.before.args.n = omega arith in held c.before ∙ rw e))
+    (λ c. let e : c.loop-i.i ≡ c.args.n = omega arith in held c.before ∙ rw e))

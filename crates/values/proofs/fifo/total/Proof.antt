@@ -12,22 +12,22 @@ use Rattle.values.proofs.Fit.{unfit, fit, bounds}
 use Rattle.values.proofs.fifo.total.Statement.{statement}
 use Rattle.values.proofs.fifo.total.Tie as tie
 
-answer : (c : tie.After-value-of) {r : FifoValue} → r ≡ as_fifo_value c.value_of_lem.result → r ≡ total_of c.before.before.before.before.args.part.now c.before.before.before.before.args.count
+answer : (c : tie.After-value_of) {r : FifoValue} → r ≡ as_fifo_value c.value_of.result → r ≡ total_of c.args.part.now c.args.count
 unfolding total_of
 answer c e =
-    let w = c.value_of_lem.ensures ∙ ap valued (back w64 (record { sfits = c.before.sum_first.type-inv }) ∙ c.before.sum_first.ensures) in
-    simp (fit c.before.before.before.is-fit.ensures c.before.before.if1.false) (e ∙ ap as_fifo_value w)
+    let w = c.value_of.ensures ∙ ap valued (back w64 (record { sfits = c.sum_first.type_inv }) ∙ c.sum_first.ensures) in
+    simp (fit c.is_fit.ensures c.if-not-is_fit.false-raw) (e ∙ ap as_fifo_value w)
 
-pub total-spec : {M : Type 1} → statement M
+pub total_spec : {M : Type 1} → statement M
 unfolding total_of
-total-spec =
+total_spec =
     tie.close
     (tie.spec
     (λ c κs. search rules)
-    (λ c. simp (unfit c.before.is-fit.ensures c.if1.true))
-    (λ c κs. let b = bounds c.before.is-fit.ensures c.if1.false in (omega arith, omega arith))
+    (λ c. simp (unfit c.is_fit.ensures c.if-not-is_fit.true-raw))
+    (λ c κs. let b = bounds c.is_fit.ensures c.if-not-is_fit.false-raw in (omega arith, omega arith))
     (λ c κs. search rules)
     (λ c. search rules)
     (λ c. search rules)
-    (λ c. answer c.before.before.before (ap S.Value (back w32 (record { sfits = c.known-told.given.0.1 })) ∙ ap as_fifo_value (sym c.before.v.given.1)))
-    (λ c. answer c.before.before.before (ap as_fifo_value (sym c.before.k.given.1))))
+    (λ c. answer c.before (ap S.Value (back w32 (record { sfits = c.in-Value.known_told-1-own.given.0.1 })) ∙ ap as_fifo_value (sym c.in-Value.is)))
+    (λ c. answer c.before (ap as_fifo_value (sym c.in-Alarm.is))))

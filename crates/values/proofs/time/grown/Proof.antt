@@ -40,40 +40,40 @@ within-fits {z = pos n} f h = record { sfits = omega (arith, ltb-false 999999996
 within-fits {z = negsuc n} f h = below-fits n (ltb 4 (suc n)) f.sfits
 
 -- the local `step` is one beat
-one-beat : (c : tie.After-millis-of) → c.millis-of.result.0 ≡ pos 4
+one-beat : (c : tie.After-millis_of-step) → c.millis_of-step.result.0 ≡ pos 4
 unfolding millis_of
-one-beat c = ap (λ (m : Millis). m.0) c.millis-of.ensures
+one-beat c = ap (λ (m : Millis). m.0) c.millis_of-step.ensures
 
-time-fits : (c : tie.After-millis-of) → SFits w32 c.before.before.before.args.timer.time.0
-time-fits c = record { sfits = c.before.struct_told.given.0.1.1.0.1 }
+time-fits : (c : tie.After-millis_of-step) → SFits w32 c.args.timer.time.0
+time-fits c = record { sfits = c.struct_told-1.given.0.1.1.0.1 }
 
-left : (c : tie.Else2) → lt_z (pos 999999996) c.before.before.before.before.before.args.timer.time.0 ≡ false
-left c = rw (one-beat c.before.before, back w32 (time-fits c.before.before)) at c.if2.false
+left : (c : tie.Else-step-time) → lt_z (pos 999999996) c.args.timer.time.0 ≡ false
+left c = rw (one-beat c.before.before, back w32 (time-fits c.before.before)) at c.if-step-time.false
 
-on : (c : tie.Else1) → c.before.args.timer.runs ≡ true
-on c = not-false c.before.args.timer.runs c.if1.false
+on : (c : tie.Else-not-runs) → c.args.timer.runs ≡ true
+on c = not-false c.args.timer.runs c.if-not-runs.false-raw
 
-returns-2 : tie.Need-returns-2
+returns-2 : tie.Need-returns-then-step-time
 unfolding less_than millis_of
 returns-2 c =
     let s = c.before.before in
-    let t = s.before.before.before.args.timer in
-    let e = past t.time.0 (rw (one-beat s, back w32 (time-fits s)) at c.if2.true) in
+    let t = s.args.timer in
+    let e = past t.time.0 (rw (one-beat s, back w32 (time-fits s)) at c.if-step-time.true) in
     rw (running t (on s.before.before), e)
 
-returns-3 : tie.Need-returns-3
+returns-3 : tie.Need-returns
 unfolding less_than millis_of
 returns-3 c =
     let s = c.before.before in
-    let t = s.before.before.before.args.timer in
+    let t = s.args.timer in
     let f = time-fits s in
     rw (running t (on s.before.before), within t.time.0 (left c), one-beat s, back w32 f, back w32 (within-fits f (left c)))
 
-pub grown-spec : {M : Type 1} → statement M
-grown-spec =
+pub grown_spec : {M : Type 1} → statement M
+grown_spec =
     tie.close
     (tie.spec
-    (λ c. sym (stopped c.before.args.timer (not-true c.before.args.timer.runs c.if1.true)))
+    (λ c. sym (stopped c.args.timer (not-true c.args.timer.runs c.if-not-runs.true-raw)))
     (λ c κs. search rules)
     (λ c. rw (one-beat c.before) (record { sfits = lit< tt }))
     returns-2

@@ -6,10 +6,10 @@ use Rattle.values.specs.SignedLaws.{back}
 use Rattle.values.proofs.time.written.Statement.{statement}
 use Rattle.values.proofs.time.written.Tie as tie
 
-pub written-spec : {M : Type 1} → statement M
+pub written_spec : {M : Type 1} → statement M
 unfolding less_than written_timer
-written-spec =
+written_spec =
     tie.close
     (tie.spec
-    (λ c. rw (rw (back w32 c.before.before.ranges.v) at c.before.if1.true))
-    (λ c. let b = back w32 c.before.ranges.v in rw (rw b at c.if1.false, b)))
+    (λ c. rw (rw (back w32 c.ranges.v) at c.if-v-lt0.true))
+    (λ c. let b = back w32 c.ranges.v in rw (rw b at c.if-v-lt0.false, b)))

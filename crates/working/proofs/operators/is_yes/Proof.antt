@@ -7,5 +7,5 @@ use Rattle.values.specs.SignedLaws.{back}
 use Rattle.working.proofs.operators.is_yes.Statement.{statement}
 use Rattle.working.proofs.operators.is_yes.Tie as tie
 
-pub is-yes-spec : {M : Type 1} → statement M
-is-yes-spec = tie.close (tie.spec (λ c κs. search rules) (λ c. ap not (rw (back w32 c.before.ranges.v) at c.is-equal.ensures)))
+pub is_yes_spec : {M : Type 1} → statement M
+is_yes_spec = tie.close (tie.spec (λ c κs. search rules) (λ c. ap not (rw (back w32 c.ranges.v) at c.is_equal.ensures)))

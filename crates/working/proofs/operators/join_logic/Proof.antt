@@ -12,11 +12,11 @@ other true false = refl
 other false true = refl
 other false false = refl
 
-pub join-logic-spec : {M : Type 1} → statement M
+pub join_logic_spec : {M : Type 1} → statement M
 unfolding join_logic
-join-logic-spec =
+join_logic_spec =
     tie.close
     (tie.spec
-    (λ c. rw c.if1.true)
-    (λ c. rw c.if2.true)
-    (λ c. simp (join_logic, ne_eqb _ _ c.before.if1.false, ne_eqb _ _ c.if2.false) (other c.before.before.args.a c.before.before.args.b)))
+    (λ c. rw c.if-op-eq-AND.true)
+    (λ c. rw c.if-op-eq-OR.true)
+    (λ c. simp (join_logic, ne_eqb _ _ c.if-op-eq-AND.false, ne_eqb _ _ c.if-op-eq-OR.false) (other c.args.a c.args.b)))

@@ -14,28 +14,28 @@ use Rattle.working.proofs.operators.join_truths.Tie as tie
 same : (o : ℕ) {a b x y : Bool} → a ≡ x → b ≡ y → join_logic o a b ≡ join_logic o x y
 same o e f = cc
 
-pub join-truths-spec : {M : Type 1} → statement M
+pub join_truths_spec : {M : Type 1} → statement M
 unfolding join_truths
-join-truths-spec =
+join_truths_spec =
     tie.close
     (tie.spec
     (λ c κs. search rules)
-    (λ c. let f = c.before.before.ranges in rw c.before.if1.true (c.is-equal.ensures ∙ both equal_to f.a f.b))
+    (λ c. let f = c.ranges in rw c.if-op-eq-SAME.true (c.is_equal.ensures ∙ both equal_to f.a f.b))
     (λ c κs. search rules)
-    (λ c. let f = c.before.before.before.ranges in rw c.before.if2.true (ap not (c.is-equal2.ensures ∙ both equal_to f.a f.b)))
+    (λ c. let f = c.ranges in rw c.if-op-eq-OTHER.true (ap not (c.is_equal-then-op-eq-OTHER.ensures ∙ both equal_to f.a f.b)))
     (λ c κs. search rules)
-    (λ c. let f = c.before.before.before.before.ranges in rw c.before.if3.true (c.is-less.ensures ∙ both less_than f.a f.b))
+    (λ c. let f = c.ranges in rw c.if-op-eq-LESS.true (c.is_less.ensures ∙ both less_than f.a f.b))
     (λ c κs. search rules)
-    (λ c. let f = c.before.before.before.before.before.ranges in rw c.before.if4.true (c.is-less2.ensures ∙ both less_than f.b f.a))
+    (λ c. let f = c.ranges in rw c.if-op-eq-MORE.true (c.is_less-then-op-eq-MORE.ensures ∙ both less_than f.b f.a))
     (λ c κs. search rules)
-    (λ c. let f = c.before.before.before.before.before.before.ranges in rw c.before.if5.true (ap not (c.is-less3.ensures ∙ both less_than f.b f.a)))
+    (λ c. let f = c.ranges in rw c.if-op-eq-ATMOST.true (ap not (c.is_less-then-op-eq-ATMOST.ensures ∙ both less_than f.b f.a)))
     (λ c κs. search rules)
-    (λ c. let f = c.before.before.before.before.before.before.before.ranges in rw c.before.if6.true (ap not (c.is-less4.ensures ∙ both less_than f.a f.b)))
+    (λ c. let f = c.ranges in rw c.if-op-eq-ATLEAST.true (ap not (c.is_less-then-op-eq-ATLEAST.ensures ∙ both less_than f.a f.b)))
     (λ c κs. search rules)
     (λ c κs. search rules)
     (λ c κs. search rules)
     (λ c.
     let d = c.before.before.before in
     let e = d.before.before.before in
-    simp (join_truths, ne_eqb _ _ d.if6.false, ne_eqb _ _ d.before.if5.false, ne_eqb _ _ d.before.before.if4.false, ne_eqb _ _ e.if3.false, ne_eqb _ _ e.before.if2.false, ne_eqb _ _ e.before.before.if1.false)
-    (let a = e.before.before.before in c.join-logic.ensures ∙ same a.args.op (c.before.before.is-yes.ensures ∙ ap is_yes (back w32 a.ranges.a)) (c.before.is-yes2.ensures ∙ ap is_yes (back w32 a.ranges.b)))))
+    simp (join_truths, ne_eqb _ _ d.if-op-eq-ATLEAST.false, ne_eqb _ _ d.if-op-eq-ATMOST.false, ne_eqb _ _ d.if-op-eq-MORE.false, ne_eqb _ _ e.if-op-eq-LESS.false, ne_eqb _ _ e.if-op-eq-OTHER.false, ne_eqb _ _ e.if-op-eq-SAME.false)
+    (let a = e.before.before.before in c.join_logic.ensures ∙ same a.args.op (c.is_yes.ensures ∙ ap is_yes (back w32 a.ranges.a)) (c.is_yes-2.ensures ∙ ap is_yes (back w32 a.ranges.b)))))

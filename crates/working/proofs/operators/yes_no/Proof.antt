@@ -2,5 +2,5 @@
 use Rattle.working.proofs.operators.yes_no.Statement.{statement}
 use Rattle.working.proofs.operators.yes_no.Tie as tie
 
-pub yes-no-spec : {M : Type 1} → statement M
-yes-no-spec = tie.close (tie.spec (λ c. rw c.if1.true) (λ c. rw c.if1.false))
+pub yes_no_spec : {M : Type 1} → statement M
+yes_no_spec = tie.close (tie.spec (λ c. rw c.if-b.true) (λ c. rw c.if-b.false))

@@ -10,13 +10,13 @@ use Rattle.working.specs.Pair.{pair_of}
 use Rattle.working.proofs.pair.pair_of.Statement.{statement}
 use Rattle.working.proofs.pair.pair_of.Tie as tie
 
-pub pair-of-spec : {M : Type 1} → statement M
+pub pair_of_spec : {M : Type 1} → statement M
 unfolding pair_of
-pair-of-spec =
+pair_of_spec =
     tie.close
     (tie.spec
     (λ c κs. search rules)
     (λ c. search rules)
     (λ c. search rules)
     (λ c. search rules)
-    (λ c. let a = c.before.args in ap (λ (n : ℕ). n * room + a.next % room) (c.twos-complement.ensures ∙ ap twos_complement (back w32 c.before.ranges.v))))
+    (λ c. let a = c.args in ap (λ (n : ℕ). n * room + a.next % room) (c.twos_complement.ensures ∙ ap twos_complement (back w32 c.ranges.v))))

@@ -10,17 +10,17 @@ use Rattle.working.proofs.Pairs.{bits-signed}
 use Rattle.working.proofs.pair.value_of.Statement.{statement}
 use Rattle.working.proofs.pair.value_of.Tie as tie
 
-pub value-of-spec : {M : Type 1} → statement M
+pub value_of_spec : {M : Type 1} → statement M
 unfolding value_of
-value-of-spec =
+value_of_spec =
     tie.close
     (tie.spec
     (λ c. search rules)
-    (λ c. record { sfits = c.if1.true })
+    (λ c. record { sfits = c.if-n-lt2147483648.true })
     (λ c. search rules)
-    (λ c. record { sfits = omega (arith, c.if1.false) })
+    (λ c. record { sfits = omega (arith, c.if-n-lt2147483648.false) })
     (λ c. bits-signed _)
     (λ c.
-    let n = c.before.args.w / room % 4294967296 in
+    let n = c.args.w / room % 4294967296 in
     let e : 4294967295 - (4294967295 - n) ≡ n = omega arith in
     bits-signed _ ∙ ap signed e))

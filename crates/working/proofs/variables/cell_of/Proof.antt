@@ -6,14 +6,14 @@ use Rattle.working.specs.VariableLaws.{start-most}
 use Rattle.working.proofs.variables.cell_of.Statement.{statement}
 use Rattle.working.proofs.variables.cell_of.Tie as tie
 
-pub cell-of-spec : {M : Type 1} → statement M
+pub cell_of_spec : {M : Type 1} → statement M
 unfolding cell_of
-cell-of-spec =
+cell_of_spec =
     tie.close
     (tie.spec
     (λ c κs. search rules)
     (λ c κs. search rules)
     (λ c. omega arith)
     (λ c. search rules)
-    (λ c. omega (arith, start-most c.before.before.before.args.w))
+    (λ c. omega (arith, start-most c.args.w))
     (λ c. omega arith))

@@ -4,12 +4,12 @@ use Rattle.working.proofs.CountLaws.{count_fits, count-below, count-above, count
 use Rattle.working.proofs.variables.count_of.Statement.{statement}
 use Rattle.working.proofs.variables.count_of.Tie as tie
 
-pub count-of-spec : {M : Type 1} → statement M
-count-of-spec =
+pub count_of_spec : {M : Type 1} → statement M
+count_of_spec =
     tie.close
     (tie.spec
-    (λ c. count-below c.before.ranges.cell c.if1.true)
+    (λ c. count-below c.ranges.cell c.if-cell-lt0.true)
     (λ c. search rules)
-    (λ c. count-above c.before.before.ranges.cell c.if2.true)
-    (λ c. count_fits c.before.before.ranges.cell c.before.if1.false c.if2.false)
-    (λ c. count_held c.before.before.ranges.cell c.before.if1.false c.if2.false))
+    (λ c. count-above c.ranges.cell c.if-cell.true)
+    (λ c. count_fits c.ranges.cell c.if-cell-lt0.false c.if-cell.false)
+    (λ c. count_held c.ranges.cell c.if-cell-lt0.false c.if-cell.false))

@@ -25,8 +25,8 @@ module _ (r c : List ℤ) (w i n : ℕ) (h : SFits w32 (get_or c (input_count + 
   unfolding fifo_at beat_count
   reads e = rw (e, back w32 h, part-size (run_at (fifo_of w)))
 
-pub fifo-at-spec : {M : Type 1} → statement M
-fifo-at-spec =
+pub fifo_at_spec : {M : Type 1} → statement M
+fifo_at_spec =
     tie.close
     (tie.spec
     (λ c. let b = inside FIFO1 FIFO4 c.args.w c.requires in omega arith)
@@ -45,5 +45,5 @@ fifo-at-spec =
     (λ c κs. search rules)
     (λ c.
     let s = c.before.before.before in
-    let a = s.before.before.args in
-    c.fifo-value.ensures ∙ reads a.r.now a.cells.now a.w a.i _ (record { sfits = s.before.count-of-arg.given }) s.count_of.ensures))
+    let a = s.args in
+    c.fifo_value.ensures ∙ reads a.r.now a.cells.now a.w a.i _ (record { sfits = s.count_of-arg-1.given }) s.count_of-count.ensures))

@@ -8,13 +8,13 @@ use Rattle.working.specs.Variables.{from_fifo_value}
 use Rattle.working.proofs.variables.from_fifo_value.Statement.{statement}
 use Rattle.working.proofs.variables.from_fifo_value.Tie as tie
 
-pub from-fifo-value-spec : {M : Type 1} → statement M
-from-fifo-value-spec =
+pub from_fifo_value_spec : {M : Type 1} → statement M
+from_fifo_value_spec =
     tie.close
     (tie.spec
     (λ c. search rules)
     (λ c. search rules)
     (λ c. search rules)
-    (λ c. ap Value (back w32 (record { sfits = c.known-told.given.0.1 })) ∙ ap from_fifo_value (sym c.before.s.given.1))
-    (λ c. ap from_fifo_value (sym c.before.s2.given.1))
-    (λ c. ap from_fifo_value (sym c.enum_told.given.1)))
+    (λ c. ap Value (back w32 (record { sfits = c.in-Value.known_told-1-own.given.0.1 })) ∙ ap from_fifo_value (sym c.in-Value.is))
+    (λ c. ap from_fifo_value (sym c.in-Alarm.is))
+    (λ c. ap from_fifo_value (sym c.in-Unfit.is)))

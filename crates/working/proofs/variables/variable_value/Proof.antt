@@ -17,33 +17,33 @@ use Rattle.working.specs.VariableLaws.{cell-inside}
 use Rattle.working.proofs.variables.variable_value.Statement.{statement}
 use Rattle.working.proofs.variables.variable_value.Tie as tie
 
-holds : (c : tie.Else1) → is_inside c.before.before.args.w c.before.before.args.i ≡ true
-holds c = sym c.before.is-inside.ensures ∙ not-false _ c.if1.false
+holds : (c : tie.Else-not-is_inside) → is_inside c.args.w c.args.i ≡ true
+holds c = sym c.is_inside.ensures ∙ not-false _ c.if-not-is_inside.false-raw
 
-cell-fits : (c : tie.After-cell-of) → c.cell-of.result < cell_count
+cell-fits : (c : tie.After-cell_of-at) → c.cell_of-at.result < cell_count
 cell-fits c =
     let d = c.before.before.before in
-    rw c.cell-of.ensures (cell-inside _ _ d.if2.false (sym c.before.before.is-fifo.ensures ∙ c.before.if3.false) (holds d.before))
+    rw c.cell_of-at.ensures (cell-inside _ _ d.if-w-eq-R.false (sym c.is_fifo.ensures ∙ c.if-is_fifo.false) (holds d.before))
 
-pub variable-value-spec : {M : Type 1} → statement M
+pub variable_value_spec : {M : Type 1} → statement M
 unfolding variable_value
-variable-value-spec =
+variable_value_spec =
     tie.close
     (tie.spec
     (λ c κs. search rules)
-    (λ c. simp (variable_value, sym c.before.is-inside.ensures ∙ not-true _ c.if1.true))
+    (λ c. simp (variable_value, sym c.is_inside.ensures ∙ not-true _ c.if-not-is_inside.true-raw))
     (λ c. search rules)
-    (λ c. omega (arith, rw c.if2.true at (last-inside _ _ (holds c.before))))
-    (λ c. simp (variable_value, holds c.before.before, eq-eqb _ _ c.before.if2.true) (ap Value (back w32 (record { sfits = c.t12.given }))))
+    (λ c. omega (arith, rw c.if-w-eq-R.true at (last-inside _ _ (holds c.before))))
+    (λ c. simp (variable_value, holds c.before.before, eq-eqb _ _ c.if-w-eq-R.true) (ap Value (back w32 (record { sfits = c.result-1.given }))))
     (λ c κs. search rules)
-    (λ c κs. sym c.before.is-fifo.ensures ∙ c.if3.true)
+    (λ c κs. sym c.is_fifo.ensures ∙ c.if-is_fifo.true)
     (λ c.
     let d = c.before.before.before in
-    simp (variable_value, holds d.before, ne_eqb _ _ d.if2.false, sym c.before.before.is-fifo.ensures ∙ c.before.if3.true) c.fifo-at.ensures)
+    simp (variable_value, holds d.before, ne_eqb _ _ d.if-w-eq-R.false, sym c.is_fifo.ensures ∙ c.if-is_fifo.true) c.fifo_at.ensures)
     (λ c κs. search rules)
     (λ c. omega (arith, cell-fits c))
     cell-fits
     (λ c.
     let d = c.before.before.before.before in
-    simp (variable_value, holds d.before, ne_eqb _ _ d.if2.false, sym c.before.before.before.is-fifo.ensures ∙ c.before.before.if3.false)
-    (ap Value (back w32 (record { sfits = c.t17.given }) ∙ ap (λ (n : ℕ). get_or d.before.before.before.args.cells.now n (pos 0)) c.before.cell-of.ensures))))
+    simp (variable_value, holds d.before, ne_eqb _ _ d.if-w-eq-R.false, sym c.is_fifo.ensures ∙ c.if-is_fifo.false)
+    (ap Value (back w32 (record { sfits = c.result-2-1.given }) ∙ ap (λ (n : ℕ). get_or d.args.cells.now n (pos 0)) c.cell_of-at.ensures))))

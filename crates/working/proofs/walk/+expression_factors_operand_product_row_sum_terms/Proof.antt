@@ -55,18 +55,18 @@ use Rattle.working.proofs.walk.+expression_factors_operand_product_row_sum_terms
 use Rattle.working.proofs.walk.+expression_factors_operand_product_row_sum_terms.{statement}
 use Rattle.working.proofs.walk.+expression_factors_operand_product_row_sum_terms.Tie.{close}
 
-abbrev factors-Inv : factors-lts.invariant-loop
+abbrev factors-Inv : factors-lts.invariant-loop-rounds
 factors-Inv tokens r cells w left a₀ rounds₀ a rounds = Loop tokens (value_over r cells) is_factor (read_operand tokens (value_over r cells) left) said left w rounds a
 
-abbrev terms-Inv : terms-lts.invariant-loop
+abbrev terms-Inv : terms-lts.invariant-loop-rounds
 terms-Inv tokens r cells w left a₀ rounds₀ a rounds = Loop tokens (value_over r cells) is_term (product_at tokens (value_over r cells) left) said left w rounds a
 
-abbrev row-Inv : row-lts.invariant-loop
+abbrev row-Inv : row-lts.invariant-loop-rounds
 row-Inv tokens r cells first w left a₀ rounds₀ a rounds = Loop tokens (value_over r cells) (is_row first) (read_sum tokens (value_over r cells) (read_operand tokens (value_over r cells) left) left) said left w rounds a
 
-pub +expression-factors-operand-product-row-sum-terms-spec : {M : Type 1} → statement M
+pub +expression_factors_operand_product_row_sum_terms_spec : {M : Type 1} → statement M
 unfolding value_over sum_at expression_at
-+expression-factors-operand-product-row-sum-terms-spec =
++expression_factors_operand_product_row_sum_terms_spec =
     close
     (λ κs a. 8 * a.1.1.1.1.0 + 6)
     (λ κs a. 8 * a.1.1.1.1.0 + 1)
@@ -79,140 +79,140 @@ unfolding value_over sum_at expression_at
     (λ t. expression-lts.spec (_, sum.Post, _, next-of.Learnt, _, token-at.Learnt, _, is-compare.Learnt, _, value_of_lem.Learnt, _, join-compare.Learnt, _, is-logic.Learnt, _, row.Post) _ expression.Post
     (λ c κs. omega arith)
     (λ c κs. search rules)
-    (λ c. expression-stops _ _ _ _ _ c.before.before.sum.ensures (said-stop _ c.before.next-of.ensures c.if1.true))
+    (λ c. expression-stops _ _ _ _ _ c.sum-a.ensures (said-stop _ c.next_of-i.ensures c.if-i-eq0.true))
     (λ c κs. search rules)
     (λ c κs. search rules)
     (λ c κs. search rules)
-    (λ c. let d = c.before.before.before in omega (arith, lies-inside d.before.before.before.before.before.args.set.now d.before.before.before.next-of.result d.token-at.ensures (no_end SAME ATLEAST d.token-at.result (omega arith) c.before.before.is-compare.ensures c.before.if2.true)))
+    (λ c. let d = c.before.before.before in omega (arith, lies-inside d.args.set.now d.next_of-i.result d.token_at-t.ensures (no_end SAME ATLEAST d.token_at-t.result (omega arith) c.is_compare.ensures c.if-is_compare.true)))
     (λ c κs. omega arith)
-    (λ c κs. sym c.before.before.before.is-compare.ensures ∙ c.before.before.if2.true)
+    (λ c κs. sym c.is_compare.ensures ∙ c.if-is_compare.true)
     (λ c.
     let v = c.before.before in
     let d = v.before.before.before in
     let n = d.before.before.before in
-    expression-is _ _ _ _ _ n.before.sum.ensures
-    (rest-compares _ _ _ _ (said-value _ n.next-of.ensures (back w32 (record { sfits = v.value_of_lem.type-inv }) ∙ v.value_of_lem.ensures) d.before.before.if1.false) d.token-at.ensures v.before.before.is-compare.ensures v.before.if2.true c.before.sum2.ensures c.join-compare.ensures))
+    expression-is _ _ _ _ _ n.sum-a.ensures
+    (rest-compares _ _ _ _ (said-value _ n.next_of-i.ensures (back w32 (record { sfits = v.value_of.type_inv }) ∙ v.value_of.ensures) d.if-i-eq0.false) d.token_at-t.ensures v.is_compare.ensures v.if-is_compare.true c.sum.ensures c.join_compare.ensures))
     (λ c κs. search rules)
     (λ c.
     let e = c.before.before in
     let d = e.before.before in
     let n = d.before.before.before in
-    expression-is _ _ _ _ _ n.before.sum.ensures (rest-none _ _ _ _ (said-value _ n.next-of.ensures refl d.before.before.if1.false) d.token-at.ensures e.before.is-compare.ensures e.if2.false c.before.is-logic.ensures c.if3.true))
+    expression-is _ _ _ _ _ n.sum-a.ensures (rest-none _ _ _ _ (said-value _ n.next_of-i.ensures refl d.if-i-eq0.false) d.token_at-t.ensures e.is_compare.ensures e.if-is_compare.false c.is_logic.ensures c.if-not-is_logic.true-raw))
     (λ c κs. omega arith)
     (λ c.
     let e = c.before.before.before in
     let d = e.before.before in
     let n = d.before.before.before in
-    expression-is _ _ _ _ _ n.before.sum.ensures (rest-rows _ _ _ _ (said-value _ n.next-of.ensures refl d.before.before.if1.false) d.token-at.ensures e.before.is-compare.ensures e.if2.false c.row.ensures)))
+    expression-is _ _ _ _ _ n.sum-a.ensures (rest-rows _ _ _ _ (said-value _ n.next_of-i.ensures refl d.if-i-eq0.false) d.token_at-t.ensures e.is_compare.ensures e.if-is_compare.false c.row.ensures)))
     -- factors
     (λ t. factors-lts.spec (_, next-of.Learnt, _, token-at.Learnt, _, is-factor.Learnt, _, value_of_lem.Learnt, _, operand.Post, _, join-factor.Learnt) _ factors.Post factors-Inv (λ tokens r cells w left a₀ rounds₀ a rounds. rounds)
     (λ c. loop-begins)
     (λ c κs. search rules)
-    (λ c. loop-stops c.before.before.before.loop.invariant pairs-say c.before.next-of.ensures c.if1.true)
+    (λ c. loop-stops c.loop-rounds.invariant pairs-say c.next_of-i.ensures c.if-i-eq0.true)
     (λ c κs. search rules)
     (λ c κs. search rules)
-    (λ c. let d = c.before.before in let n = d.before.before.before in loop-ends n.before.before.loop.invariant pairs-say n.next-of.ensures d.before.before.if1.false d.token-at.ensures c.before.is-factor.ensures c.if2.true)
+    (λ c. let d = c.before.before in let n = d.before.before.before in loop-ends n.loop-rounds.invariant pairs-say n.next_of-i.ensures d.if-i-eq0.false d.token_at-t.ensures c.is_factor.ensures c.if-not-is_factor.true-raw)
     (λ c κs. search rules)
-    (λ c. let d = c.before.before.before in omega (arith, loop-inside d.before.before.before.before.before.loop.invariant refl d.token-at.ensures c.before.before.is-factor.ensures c.before.if2.false))
+    (λ c. let d = c.before.before.before in omega (arith, loop-inside d.loop-rounds.invariant refl d.token_at-t.ensures c.is_factor.ensures c.if-not-is_factor.false-raw))
     (λ c κs. omega arith)
-    (λ c κs. sym c.before.before.before.is-factor.ensures ∙ not-false _ c.before.before.if2.false)
+    (λ c κs. sym c.is_factor.ensures ∙ not-false _ c.if-not-is_factor.false-raw)
     (λ c. omega arith)
     (λ c. omega arith)
     (λ c.
     let v = c.before.before in
     let d = v.before.before.before in
     let n = d.before.before.before in
-    loop-goes n.before.before.loop.invariant pairs-say n.next-of.ensures d.before.before.if1.false d.token-at.ensures v.before.before.is-factor.ensures v.before.if2.false (omega arith) (back w32 (record { sfits = v.value_of_lem.type-inv }) ∙ v.value_of_lem.ensures) c.before.operand.ensures c.join-factor.ensures)
-    (λ c. loop-spent c.before.loop.invariant (omega arith)))
+    loop-goes n.loop-rounds.invariant pairs-say n.next_of-i.ensures d.if-i-eq0.false d.token_at-t.ensures v.is_factor.ensures v.if-not-is_factor.false-raw (omega arith) (back w32 (record { sfits = v.value_of.type_inv }) ∙ v.value_of.ensures) c.operand.ensures c.join_factor-a.ensures)
+    (λ c. loop-spent c.loop-rounds.invariant (omega arith)))
     -- operand
     (λ t. operand-lts.spec (_, alarm-of.Learnt, _, token-at.Learnt, _, pair_of.Learnt, _, is-variable.Learnt, _, variable.Learnt, _, expression.Post, _, closed.Learnt, _, operand.Post, _, negated-pair.Learnt, _, inverted-pair.Learnt, _, truth.Learnt) _ operand.Post
     (λ c κs. search rules)
-    (λ c. ap said c.alarm-of.ensures ∙ alarm-said _ (omega arith) ∙ sym (spent _ _ _ _ c.before.if1.true))
+    (λ c. ap said c.alarm_of.ensures ∙ alarm-said _ (omega arith) ∙ sym (spent _ _ _ _ c.if-left-eq0.true))
     (λ c κs. search rules)
     (λ c. search rules)
-    (λ c. omega (arith, lies-inside c.before.before.before.before.args.set.now c.before.before.before.before.args.at c.before.token-at.ensures (λ e. omega arith)))
+    (λ c. omega (arith, lies-inside c.args.set.now c.args.at c.token_at-t.ensures (λ e. omega arith)))
     (λ c κs. search rules)
     (λ c.
     let d = c.before.before in
-    let p = d.before.before.before.args.at + 1 in
+    let p = d.args.at + 1 in
     ap said (c.pair_of.ensures ∙ ap (λ (v : ℤ). pair_of v p) (to_z_pos w32 _ (omega arith))) ∙
-    pair-said p (record { sfits = omega arith }) (omega arith) (omega (arith, lies-inside d.before.before.before.args.set.now d.before.before.before.args.at d.token-at.ensures (λ e. omega arith))) ∙
-    number-arm _ _ _ _ _ d.before.before.if1.false d.token-at.ensures c.before.if2.true)
+    pair-said p (record { sfits = omega arith }) (omega arith) (omega (arith, lies-inside d.args.set.now d.args.at d.token_at-t.ensures (λ e. omega arith))) ∙
+    number-arm _ _ _ _ _ d.if-left-eq0.false d.token_at-t.ensures c.if-t-ge-NUMBER.true)
     (λ c κs. search rules)
-    (λ c κs. let d = c.before.before.before in omega (arith, lies-inside d.before.before.before.args.set.now d.before.before.before.args.at d.token-at.ensures (no_end IN IM d.token-at.result (omega arith) c.before.is-variable.ensures c.if3.true)))
+    (λ c κs. let d = c.before.before.before in omega (arith, lies-inside d.args.set.now d.args.at d.token_at-t.ensures (no_end IN IM d.token_at-t.result (omega arith) c.is_variable.ensures c.if-is_variable.true)))
     (λ c.
     let d = c.before.before.before.before in
-    c.variable.ensures ∙ variable-arm _ _ _ _ _ d.before.before.if1.false d.token-at.ensures c.before.before.before.if2.false (sym c.before.before.is-variable.ensures ∙ c.before.if3.true))
-    (λ c. omega (arith, lies-inside c.before.before.before.before.before.before.before.args.set.now c.before.before.before.before.before.before.before.args.at c.before.before.before.before.token-at.ensures (λ e. omega arith)))
+    c.variable.ensures ∙ variable-arm _ _ _ _ _ d.if-left-eq0.false d.token_at-t.ensures c.if-t-ge-NUMBER.false (sym c.is_variable.ensures ∙ c.if-is_variable.true))
+    (λ c. omega (arith, lies-inside c.args.set.now c.args.at c.token_at-t.ensures (λ e. omega arith)))
     (λ c. omega arith)
     (λ c κs. omega arith)
     (λ c κs. search rules)
     (λ c.
     let d = c.before.before.before.before.before.before in
-    let a = d.before.before.before.args in
-    stepped (read_close a.set.now (value_over a.r.now a.cells.now)) _ c.before.expression.ensures c.closed.ensures (open-arm _ _ _ _ _ d.before.before.if1.false d.token-at.ensures c.before.before.if4.true))
-    (λ c. omega (arith, lies-inside c.before.before.before.before.before.before.before.before.args.set.now c.before.before.before.before.before.before.before.before.args.at c.before.before.before.before.before.token-at.ensures (λ e. omega arith)))
+    let a = d.args in
+    stepped (read_close a.set.now (value_over a.r.now a.cells.now)) _ c.expression.ensures c.closed.ensures (open-arm _ _ _ _ _ d.if-left-eq0.false d.token_at-t.ensures c.if-t-eq-OPEN.true))
+    (λ c. omega (arith, lies-inside c.args.set.now c.args.at c.token_at-t.ensures (λ e. omega arith)))
     (λ c. omega arith)
     (λ c κs. omega arith)
     (λ c κs. search rules)
-    (λ c. let d = c.before.before.before.before.before.before.before in stepped negated _ c.before.operand.ensures c.negated-pair.ensures (minus-arm _ _ _ _ _ d.before.before.if1.false d.token-at.ensures c.before.before.if5.true))
-    (λ c. omega (arith, lies-inside c.before.before.before.before.before.before.before.before.before.args.set.now c.before.before.before.before.before.before.before.before.before.args.at c.before.before.before.before.before.before.token-at.ensures (λ e. omega arith)))
+    (λ c. let d = c.before.before.before.before.before.before.before in stepped negated _ c.operand.ensures c.negated_pair.ensures (minus-arm _ _ _ _ _ d.if-left-eq0.false d.token_at-t.ensures c.if-t-eq-MINUS.true))
+    (λ c. omega (arith, lies-inside c.args.set.now c.args.at c.token_at-t.ensures (λ e. omega arith)))
     (λ c. omega arith)
     (λ c κs. omega arith)
     (λ c κs. search rules)
-    (λ c. let d = c.before.before.before.before.before.before.before.before in stepped inverted _ c.before.operand2.ensures c.inverted-pair.ensures (not-arm _ _ _ _ _ d.before.before.if1.false d.token-at.ensures c.before.before.if6.true))
-    (λ c κs ne. omega (arith, lies-inside c.before.before.before.before.before.before.before.before.before.args.set.now c.before.before.before.before.before.before.before.before.before.args.at c.before.before.before.before.before.before.token-at.ensures ne))
+    (λ c. let d = c.before.before.before.before.before.before.before.before in stepped inverted _ c.operand-then-t-eq-NOT.ensures c.inverted_pair.ensures (not-arm _ _ _ _ _ d.if-left-eq0.false d.token_at-t.ensures c.if-t-eq-NOT.true))
+    (λ c κs ne. omega (arith, lies-inside c.args.set.now c.args.at c.token_at-t.ensures ne))
     (λ c.
     let i = c.before.before.before.before in
     let d = i.before.before.before in
     c.truth.ensures ∙
-    truth-arm _ _ _ _ _ d.before.before.if1.false d.token-at.ensures i.before.before.if2.false (sym i.before.is-variable.ensures ∙ i.if3.false) c.before.before.before.if4.false c.before.before.if5.false c.before.if6.false))
+    truth-arm _ _ _ _ _ d.if-left-eq0.false d.token_at-t.ensures i.if-t-ge-NUMBER.false (sym i.is_variable.ensures ∙ i.if-is_variable.false) c.if-t-eq-OPEN.false c.if-t-eq-MINUS.false c.if-t-eq-NOT.false))
     -- product
     (λ t. product-lts.spec (_, operand.Post, _, next-of.Learnt, _, token-at.Learnt, _, is-factor.Learnt, _, factors.Post) _ product.Post
     (λ c κs. omega arith)
     (λ c κs. search rules)
-    (λ c. row-stops (product-begins _ _ _ _ _ c.before.before.operand.ensures) (said-stop _ c.before.next-of.ensures c.if1.true))
+    (λ c. row-stops (product-begins _ _ _ _ _ c.operand-a.ensures) (said-stop _ c.next_of-i.ensures c.if-i-eq0.true))
     (λ c κs. search rules)
     (λ c κs. search rules)
     (λ c.
     let d = c.before.before in
     let n = d.before.before.before in
-    row_ends (product-begins _ _ _ _ _ n.before.operand.ensures) (said-value _ n.next-of.ensures refl d.before.before.if1.false) d.token-at.ensures c.before.is-factor.ensures c.if2.true)
+    row_ends (product-begins _ _ _ _ _ n.operand-a.ensures) (said-value _ n.next_of-i.ensures refl d.if-i-eq0.false) d.token_at.ensures c.is_factor.ensures c.if-not-is_factor.true-raw)
     (λ c κs. omega arith)
-    (λ c. product_is _ _ _ _ _ c.before.before.before.before.before.before.before.operand.ensures c.factors.ensures))
+    (λ c. product_is _ _ _ _ _ c.operand-a.ensures c.factors.ensures))
     -- row
     (λ t. row-lts.spec (_, next-of.Learnt, _, token-at.Learnt, _, is_row.Learnt, _, value_of_lem.Learnt, _, sum.Post, _, join-row.Learnt) _ row.Post row-Inv (λ tokens r cells first w left a₀ rounds₀ a rounds. rounds)
     (λ c. loop-begins)
     (λ c κs. search rules)
-    (λ c. loop-stops c.before.before.before.loop.invariant pairs-say c.before.next-of.ensures c.if1.true)
+    (λ c. loop-stops c.loop-rounds.invariant pairs-say c.next_of-i.ensures c.if-i-eq0.true)
     (λ c κs. search rules)
     (λ c κs. search rules)
-    (λ c. let d = c.before.before in let n = d.before.before.before in loop-ends n.before.before.loop.invariant pairs-say n.next-of.ensures d.before.before.if1.false d.token-at.ensures c.before.is_row.ensures c.if2.true)
+    (λ c. let d = c.before.before in let n = d.before.before.before in loop-ends n.loop-rounds.invariant pairs-say n.next_of-i.ensures d.if-i-eq0.false d.token_at-t.ensures c.is_row.ensures c.if-not-is_row.true-raw)
     (λ c κs. search rules)
-    (λ c. let d = c.before.before.before in omega (arith, loop-inside d.before.before.before.before.before.loop.invariant refl d.token-at.ensures c.before.before.is_row.ensures c.before.if2.false))
+    (λ c. let d = c.before.before.before in omega (arith, loop-inside d.loop-rounds.invariant refl d.token_at-t.ensures c.is_row.ensures c.if-not-is_row.false-raw))
     (λ c κs. omega arith)
-    (λ c κs. (both _ _ (sym c.before.before.before.is_row.ensures ∙ not-false _ c.before.before.if2.false)).0)
+    (λ c κs. (both _ _ (sym c.is_row.ensures ∙ not-false _ c.if-not-is_row.false-raw)).0)
     (λ c. omega arith)
     (λ c. omega arith)
     (λ c.
     let v = c.before.before in
     let d = v.before.before.before in
     let n = d.before.before.before in
-    loop-goes n.before.before.loop.invariant pairs-say n.next-of.ensures d.before.before.if1.false d.token-at.ensures v.before.before.is_row.ensures v.before.if2.false (omega arith) (back w32 (record { sfits = v.value_of_lem.type-inv }) ∙ v.value_of_lem.ensures) c.before.sum.ensures c.join-row.ensures)
-    (λ c. loop-spent c.before.loop.invariant (omega arith)))
+    loop-goes n.loop-rounds.invariant pairs-say n.next_of-i.ensures d.if-i-eq0.false d.token_at-t.ensures v.is_row.ensures v.if-not-is_row.false-raw (omega arith) (back w32 (record { sfits = v.value_of.type_inv }) ∙ v.value_of.ensures) c.sum.ensures c.join_row-a.ensures)
+    (λ c. loop-spent c.loop-rounds.invariant (omega arith)))
     -- sum
     (λ t. sum-lts.spec (_, product.Post, _, next-of.Learnt, _, token-at.Learnt, _, is-term.Learnt, _, terms.Post) _ sum.Post
     (λ c κs. omega arith)
     (λ c κs. search rules)
-    (λ c. row-stops (sum-begins _ _ _ _ _ c.before.before.product.ensures) (said-stop _ c.before.next-of.ensures c.if1.true))
+    (λ c. row-stops (sum-begins _ _ _ _ _ c.product-a.ensures) (said-stop _ c.next_of-i.ensures c.if-i-eq0.true))
     (λ c κs. search rules)
     (λ c κs. search rules)
     (λ c.
     let d = c.before.before in
     let n = d.before.before.before in
-    row_ends (sum-begins _ _ _ _ _ n.before.product.ensures) (said-value _ n.next-of.ensures refl d.before.before.if1.false) d.token-at.ensures c.before.is-term.ensures c.if2.true)
+    row_ends (sum-begins _ _ _ _ _ n.product-a.ensures) (said-value _ n.next_of-i.ensures refl d.if-i-eq0.false) d.token_at.ensures c.is_term.ensures c.if-not-is_term.true-raw)
     (λ c κs. omega arith)
-    (λ c. sum_is _ _ _ _ _ c.before.before.before.before.before.before.before.product.ensures c.terms.ensures))
+    (λ c. sum_is _ _ _ _ _ c.product-a.ensures c.terms.ensures))
     -- terms
     λ t. terms-lts.spec (_, next-of.Learnt, _, token-at.Learnt, _, is-term.Learnt, _, value_of_lem.Learnt, _, product.Post, _, join-term.Learnt) _ terms.Post terms-Inv (λ tokens r cells w left a₀ rounds₀ a rounds. rounds)
     (λ c. loop-begins)

@@ -11,25 +11,25 @@ use Rattle.tokens.specs.BetweenLaws.{lies-inside}
 use Rattle.working.proofs.walk.closed.Statement.{statement}
 use Rattle.working.proofs.walk.closed.Tie as tie
 
-pub closed-spec : {M : Type 1} → statement M
+pub closed_spec : {M : Type 1} → statement M
 unfolding value_over
-closed-spec =
+closed_spec =
     tie.close
     (tie.spec
     (λ c κs. search rules)
-    (λ c. passes _ c.before.next-of.ensures _ c.if1.true)
+    (λ c. passes _ c.next_of-i.ensures _ c.if-i-eq0.true)
     (λ c κs. search rules)
     (λ c κs. search rules)
     (λ c.
     let d = c.before.before in
     let n = d.before.before.before in
-    let a = n.before.args in
-    enters _ n.next-of.ensures refl (read_close a.set.now (value_over a.r.now a.cells.now)) d.before.before.if1.false
-    (ap said c.alarm-of.ensures ∙ alarm-said _ (omega arith) ∙ sym (closes-not _ _ _ _ _ d.token-at.ensures c.before.if2.true)))
-    (λ c. let d = c.before in record { fits = omega (arith, d.before.before.before.next-of.ensures, lies-inside d.before.before.before.before.args.set.now d.before.before.before.next-of.result d.token-at.ensures (λ e. omega arith)) })
+    let a = n.args in
+    enters _ n.next_of-i.ensures refl (read_close a.set.now (value_over a.r.now a.cells.now)) d.if-i-eq0.false
+    (ap said c.alarm_of.ensures ∙ alarm-said _ (omega arith) ∙ sym (closes-not _ _ _ _ _ d.token_at.ensures c.if-token_at-ne-CLOSE.true)))
+    (λ c. let d = c.before in record { fits = omega (arith, d.next_of-i.ensures, lies-inside d.args.set.now d.next_of-i.result d.token_at.ensures (λ e. omega arith)) })
     (λ c.
     let d = c.before in
     let n = d.before.before.before in
-    let a = n.before.args in
-    enters _ n.next-of.ensures refl (read_close a.set.now (value_over a.r.now a.cells.now)) d.before.before.if1.false
-    (next-said a.a n.next-of.ensures (omega (arith, lies-inside d.before.before.before.before.args.set.now d.before.before.before.next-of.result d.token-at.ensures (λ e. omega arith))) ∙ sym (closes _ _ _ _ _ d.token-at.ensures c.if2.false))))
+    let a = n.args in
+    enters _ n.next_of-i.ensures refl (read_close a.set.now (value_over a.r.now a.cells.now)) d.if-i-eq0.false
+    (next-said a.a n.next_of-i.ensures (omega (arith, lies-inside d.args.set.now d.next_of-i.result d.token_at.ensures (λ e. omega arith))) ∙ sym (closes _ _ _ _ _ d.token_at.ensures c.if-token_at-ne-CLOSE.false))))

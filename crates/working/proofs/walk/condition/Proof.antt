@@ -5,6 +5,6 @@ use Rattle.working.specs.Working.{told, condition_value}
 use Rattle.working.proofs.walk.condition.Statement.{statement}
 use Rattle.working.proofs.walk.condition.Tie as tie
 
-pub condition-spec : {M : Type 1} → statement M
+pub condition_spec : {M : Type 1} → statement M
 unfolding condition_value
-condition-spec = tie.close (tie.spec (λ c κs. search rules) (λ c κs. search rules) (λ c. c.value-or-alarm.ensures ∙ ap told c.before.expression.ensures))
+condition_spec = tie.close (tie.spec (λ c κs. search rules) (λ c κs. search rules) (λ c. c.value_or_alarm.ensures ∙ ap told c.expression.ensures))

@@ -11,12 +11,12 @@ use Rattle.working.proofs.Pairs.{in-room, passes, enters, pairs}
 use Rattle.working.proofs.walk.inverted_pair.Statement.{statement}
 use Rattle.working.proofs.walk.inverted_pair.Tie as tie
 
-pub inverted-pair-spec : {M : Type 1} → statement M
-inverted-pair-spec =
+pub inverted_pair_spec : {M : Type 1} → statement M
+inverted_pair_spec =
     tie.close
     (tie.spec
     (λ c κs. search rules)
-    (λ c. passes _ c.before.next-of.ensures _ c.if1.true)
+    (λ c. passes _ c.next_of-i.ensures _ c.if-i-eq0.true)
     (λ c κs. search rules)
     (λ c κs. search rules)
     (λ c κs. search rules)
@@ -25,5 +25,5 @@ inverted-pair-spec =
     let y = c.before in
     let v = y.before.before in
     let n = v.before.before in
-    enters _ n.next-of.ensures v.value_of_lem.ensures inverted v.before.if1.false
-    (pairs _ c.pair_of.ensures (record { sfits = y.yes-no.type-inv }) (y.yes-no.ensures ∙ ap (λ (b : Bool). yes_no (not b)) (y.before.is-yes.ensures ∙ ap is_yes (back w32 (record { sfits = v.value_of_lem.type-inv })))) (omega (arith, v.before.if1.false)) (in-room _ n.next-of.ensures))))
+    enters _ n.next_of-i.ensures v.value_of.ensures inverted v.if-i-eq0.false
+    (pairs _ c.pair_of.ensures (record { sfits = y.yes_no.type_inv }) (y.yes_no.ensures ∙ ap (λ (b : Bool). yes_no (not b)) (y.is_yes.ensures ∙ ap is_yes (back w32 (record { sfits = v.value_of.type_inv })))) (omega (arith, v.if-i-eq0.false)) (in-room _ n.next_of-i.ensures))))

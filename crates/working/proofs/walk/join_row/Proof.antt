@@ -14,12 +14,12 @@ use Rattle.working.proofs.walk.join_row.Tie as tie
 same : (o : ℕ) {a b x y : Bool} → a ≡ x → b ≡ y → join_logic o a b ≡ join_logic o x y
 same o e f = cc
 
-pub join-row-spec : {M : Type 1} → statement M
-join-row-spec =
+pub join_row_spec : {M : Type 1} → statement M
+join_row_spec =
     tie.close
     (tie.spec
     (λ c κs. search rules)
-    (λ c. passes _ c.before.next-of.ensures _ c.if1.true)
+    (λ c. passes _ c.next_of-i.ensures _ c.if-i-eq0.true)
     (λ c κs. search rules)
     (λ c κs. search rules)
     (λ c κs. search rules)
@@ -31,7 +31,7 @@ join-row-spec =
     let l = y.before in
     let v = l.before.before in
     let n = v.before.before.before in
-    let a = n.before.args in
-    join-told _ _ _ n.next-of.ensures v.before.before.if1.false v.value_of_lem.ensures c.pair_of.ensures (record { sfits = y.yes-no.type-inv })
-    (y.yes-no.ensures ∙ ap yes_no (l.join-logic.ensures ∙ same a.op (v.before.is-yes.ensures ∙ ap is_yes (back w32 n.before.ranges.a)) (l.before.is-yes2.ensures ∙ ap is_yes (back w32 (record { sfits = v.value_of_lem.type-inv })))))
-    (in_row a.op a.a _ n.before.requires)))
+    let a = n.args in
+    join-told _ _ _ n.next_of-i.ensures v.if-i-eq0.false v.value_of.ensures c.pair_of.ensures (record { sfits = y.yes_no.type_inv })
+    (y.yes_no.ensures ∙ ap yes_no (l.join_logic.ensures ∙ same a.op (v.is_yes.ensures ∙ ap is_yes (back w32 n.ranges.a)) (l.is_yes-2.ensures ∙ ap is_yes (back w32 (record { sfits = v.value_of.type_inv })))))
+    (in_row a.op a.a _ n.requires)))

@@ -6,23 +6,23 @@ use Rattle.working.proofs.Pairs.{passes}
 use Rattle.working.proofs.walk.join_term.Statement.{statement}
 use Rattle.working.proofs.walk.join_term.Tie as tie
 
-pub join-term-spec : {M : Type 1} → statement M
-join-term-spec =
+pub join_term_spec : {M : Type 1} → statement M
+join_term_spec =
     tie.close
     (tie.spec
     (λ c κs. search rules)
-    (λ c. passes _ c.before.next-of.ensures _ c.if1.true)
+    (λ c. passes _ c.next_of-i.ensures _ c.if-i-eq0.true)
     (λ c κs. search rules)
     (λ c κs. search rules)
     (λ c κs. search rules)
     (λ c.
     let v = c.before.before in
     let n = v.before.before.before in
-    join-worked _ _ _ n.next-of.ensures v.before.before.if1.false v.value_of_lem.ensures sum_of n.before.ranges.a (record { sfits = v.value_of_lem.type-inv }) c.before.sum.ensures c.worked-pair.ensures.1 (plus _ _ _ v.before.if2.true))
+    join-worked _ _ _ n.next_of-i.ensures v.if-i-eq0.false v.value_of.ensures sum_of n.ranges.a (record { sfits = v.value_of.type_inv }) c.sum.ensures c.worked_pair.ensures.1 (plus _ _ _ v.if-op-eq-PLUS.true))
     (λ c κs. search rules)
     (λ c κs. search rules)
     (λ c κs. search rules)
     (λ c.
     let v = c.before.before in
     let n = v.before.before.before in
-    join-worked _ _ _ n.next-of.ensures v.before.before.if1.false v.value-of2.ensures difference_of n.before.ranges.a (record { sfits = v.value-of2.type-inv }) c.before.difference.ensures c.worked-pair2.ensures.1 (minus _ _ _ n.before.requires v.before.if2.false)))
+    join-worked _ _ _ n.next_of-i.ensures v.if-i-eq0.false v.value_of-2.ensures difference_of n.ranges.a (record { sfits = v.value_of-2.type_inv }) c.difference.ensures c.worked_pair-2.ensures.1 (minus _ _ _ n.requires v.if-op-eq-PLUS.false)))

@@ -10,17 +10,17 @@ use Rattle.working.proofs.Pairs.{in-room, passes, enters, gives}
 use Rattle.working.proofs.walk.negated_pair.Statement.{statement}
 use Rattle.working.proofs.walk.negated_pair.Tie as tie
 
-pub negated-pair-spec : {M : Type 1} → statement M
-negated-pair-spec =
+pub negated_pair_spec : {M : Type 1} → statement M
+negated_pair_spec =
     tie.close
     (tie.spec
     (λ c κs. search rules)
-    (λ c. passes _ c.before.next-of.ensures _ c.if1.true)
+    (λ c. passes _ c.next_of-i.ensures _ c.if-i-eq0.true)
     (λ c κs. search rules)
     (λ c κs. search rules)
     (λ c κs. search rules)
     (λ c.
     let v = c.before.before in
     let n = v.before.before in
-    enters _ n.next-of.ensures v.value_of_lem.ensures negated v.before.if1.false
-    (gives _ (c.worked-pair.ensures.1 (omega (arith, v.before.if1.false), in-room _ n.next-of.ensures)) (c.before.negation.ensures ∙ ap negation_of (back w32 (record { sfits = v.value_of_lem.type-inv }))) refl)))
+    enters _ n.next_of-i.ensures v.value_of.ensures negated v.if-i-eq0.false
+    (gives _ (c.worked_pair.ensures.1 (omega (arith, v.if-i-eq0.false), in-room _ n.next_of-i.ensures)) (c.negation.ensures ∙ ap negation_of (back w32 (record { sfits = v.value_of.type_inv }))) refl)))

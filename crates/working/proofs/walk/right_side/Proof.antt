@@ -5,6 +5,6 @@ use Rattle.working.specs.Working.{told, right_value}
 use Rattle.working.proofs.walk.right_side.Statement.{statement}
 use Rattle.working.proofs.walk.right_side.Tie as tie
 
-pub right-side-spec : {M : Type 1} → statement M
+pub right_side_spec : {M : Type 1} → statement M
 unfolding right_value
-right-side-spec = tie.close (tie.spec (λ c κs. search rules) (λ c κs. search rules) (λ c. c.value-or-alarm.ensures ∙ ap told c.before.sum.ensures))
+right_side_spec = tie.close (tie.spec (λ c κs. search rules) (λ c κs. search rules) (λ c. c.value_or_alarm.ensures ∙ ap told c.sum.ensures))

@@ -10,20 +10,20 @@ use Rattle.working.proofs.Pairs.{pair-said, alarm-said}
 use Rattle.working.proofs.walk.truth.Statement.{statement}
 use Rattle.working.proofs.walk.truth.Tie as tie
 
-pub truth-spec : {M : Type 1} → statement M
+pub truth_spec : {M : Type 1} → statement M
 unfolding value_over
-truth-spec =
+truth_spec =
     tie.close
     (tie.spec
-    (λ c. omega (arith, c.before.requires (λ e. omega arith)))
+    (λ c. omega (arith, c.requires (λ e. omega arith)))
     (λ c κs. search rules)
     (λ c.
-    let l = c.before.before.requires (λ e. omega arith) in
-    ap said c.pair_of.ensures ∙ pair-said _ (record { sfits = lit< tt }) (omega arith) (omega (arith, l)) ∙ sym (yes-truth _ _ _ _ c.before.if1.true))
-    (λ c. omega (arith, c.before.before.requires (λ e. omega arith)))
+    let l = c.requires (λ e. omega arith) in
+    ap said c.pair_of.ensures ∙ pair-said _ (record { sfits = lit< tt }) (omega arith) (omega (arith, l)) ∙ sym (yes-truth _ _ _ _ c.if-t-eq-TRUE.true))
+    (λ c. omega (arith, c.requires (λ e. omega arith)))
     (λ c κs. search rules)
     (λ c.
-    let l = c.before.before.before.requires (λ e. omega arith) in
-    ap said c.pair-of2.ensures ∙ pair-said _ (record { sfits = lit< tt }) (omega arith) (omega (arith, l)) ∙ sym (no_truth _ _ _ _ c.before.if2.true))
+    let l = c.requires (λ e. omega arith) in
+    ap said c.pair_of-then-t-eq-FALSE.ensures ∙ pair-said _ (record { sfits = lit< tt }) (omega arith) (omega (arith, l)) ∙ sym (no_truth _ _ _ _ c.if-t-eq-FALSE.true))
     (λ c κs. search rules)
-    (λ c. ap said c.alarm-of.ensures ∙ alarm-said _ (omega arith) ∙ sym (not-truth _ _ _ _ c.before.before.if1.false c.before.if2.false)))
+    (λ c. ap said c.alarm_of.ensures ∙ alarm-said _ (omega arith) ∙ sym (not-truth _ _ _ _ c.if-t-eq-TRUE.false c.if-t-eq-FALSE.false)))

@@ -17,18 +17,18 @@ use Rattle.working.proofs.walk.value_or_alarm.Tie as tie
 abbrev alarmed : ℤ → ValueOrAlarm
 alarmed v = record { good = false; value = v; next = 0 }
 
-pub value-or-alarm-spec : {M : Type 1} → statement M
-value-or-alarm-spec =
+pub value_or_alarm_spec : {M : Type 1} → statement M
+value_or_alarm_spec =
     tie.close
     (tie.spec
     (λ c κs. search rules)
     (λ c κs. search rules)
     (λ c. search rules)
     (λ c.
-    ap alarmed (to_z_pos w32 c.alarm-in.result (omega (arith, c.alarm-in.ensures)) ∙ ap pos c.alarm-in.ensures) ∙
-    ap told (sym (said-stop c.before.before.before.args.w c.before.before.next-of.ensures c.before.if1.true)))
+    ap alarmed (to_z_pos w32 c.alarm_in.result (omega (arith, c.alarm_in.ensures)) ∙ ap pos c.alarm_in.ensures) ∙
+    ap told (sym (said-stop c.args.w c.next_of-i.ensures c.if-i-eq0.true)))
     (λ c κs. search rules)
     (λ c.
     let n = c.before.before in
-    ap (λ (v : ℤ). told (read v n.next-of.result)) (back w32 (record { sfits = c.value_of_lem.type-inv })) ∙
-    ap told (sym (said-value n.before.args.w n.next-of.ensures c.value_of_lem.ensures c.before.if1.false))))
+    ap (λ (v : ℤ). told (read v n.next_of-i.result)) (back w32 (record { sfits = c.value_of.type_inv })) ∙
+    ap told (sym (said-value n.args.w n.next_of-i.ensures c.value_of.ensures c.if-i-eq0.false))))

@@ -12,21 +12,21 @@ use Rattle.working.proofs.Pairs.{gives, alarm-said}
 use Rattle.working.proofs.walk.variable.Statement.{statement}
 use Rattle.working.proofs.walk.variable.Tie as tie
 
-pub variable-spec : {M : Type 1} → statement M
+pub variable_spec : {M : Type 1} → statement M
 unfolding value_over
-variable-spec =
+variable_spec =
     tie.close
     (tie.spec
     (λ c κs. search rules)
     (λ c κs. search rules)
-    (λ c. ap said c.alarm-of.ensures ∙ alarm-said _ (omega arith) ∙ sym (indexed-not _ _ _ _ (sym c.before.before.is-indexed.ensures ∙ not-true _ c.before.if1.true)))
+    (λ c. ap said c.alarm_of.ensures ∙ alarm-said _ (omega arith) ∙ sym (indexed-not _ _ _ _ (sym c.is_indexed.ensures ∙ not-true _ c.if-not-is_indexed.true-raw)))
     (λ c κs. search rules)
     (λ c κs. search rules)
     (λ c. search rules)
     (λ c κs. search rules)
     (λ c.
     let d = c.before.before.before.before in
-    let a = d.before.before.before.args in
-    gives (a.at + 4) (c.worked-pair.ensures.1 (omega arith, omega (arith, d.before.before.before.requires))) (c.before.variable-value.ensures ∙ ap (λ (i : ℕ). variable_value a.r.now a.cells.now a.w i) c.before.before.index_at.ensures)
+    let a = d.args in
+    gives (a.at + 4) (c.worked_pair.ensures.1 (omega arith, omega (arith, d.requires))) (c.variable_value.ensures ∙ ap (λ (i : ℕ). variable_value a.r.now a.cells.now a.w i) c.index_at.ensures)
     refl ∙
-    sym (indexed _ _ _ _ (sym d.before.is-indexed.ensures ∙ not-false _ d.if1.false))))
+    sym (indexed _ _ _ _ (sym d.is_indexed.ensures ∙ not-false _ d.if-not-is_indexed.false-raw))))

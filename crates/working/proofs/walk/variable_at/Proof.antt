@@ -11,19 +11,19 @@ use Rattle.working.proofs.walk.variable_at.Statement.{statement}
 use Rattle.working.proofs.walk.variable_at.Tie as tie
 
 -- the test of the token is that of the definition
-seen : (c : tie.After-is-variable) → c.is-variable.result ≡ is_variable (token c.before.before.before.args.set.now c.before.before.before.args.at)
-seen c = c.is-variable.ensures ∙ ap (λ (n : ℕ). is_variable n) c.before.token-at.ensures
+seen : (c : tie.After-is_variable) → c.is_variable.result ≡ is_variable (token c.args.set.now c.args.at)
+seen c = c.is_variable.ensures ∙ ap (λ (n : ℕ). is_variable n) c.token_at.ensures
 
-pub variable-at-spec : {M : Type 1} → statement M
-variable-at-spec =
+pub variable_at_spec : {M : Type 1} → statement M
+variable_at_spec =
     tie.close
     (tie.spec
     (λ c κs. search rules)
     (λ c κs. search rules)
-    (λ c. let a = c.before.before.before.before.args in not-variable a.set.now a.r.now a.cells.now a.at (sym (seen c.before) ∙ not-true _ c.if1.true))
+    (λ c. let a = c.args in not-variable a.set.now a.r.now a.cells.now a.at (sym (seen c.before) ∙ not-true _ c.if-not-is_variable.true-raw))
     (λ c κs. search rules)
     (λ c κs. search rules)
     (λ c.
     let v = c.before.before in
-    let a = v.before.before.before.before.args in
-    c.worked-in.ensures ∙ ap worked c.before.operand.ensures ∙ operand-variable a.set.now a.r.now a.cells.now a.at (sym (seen v.before) ∙ not-false _ v.if1.false)))
+    let a = v.args in
+    c.worked_in.ensures ∙ ap worked c.operand.ensures ∙ operand-variable a.set.now a.r.now a.cells.now a.at (sym (seen v.before) ∙ not-false _ v.if-not-is_variable.false-raw)))

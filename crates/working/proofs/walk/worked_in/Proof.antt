@@ -10,14 +10,14 @@ use Rattle.working.proofs.Pairs.{said-stop, said-value}
 use Rattle.working.proofs.walk.worked_in.Statement.{statement}
 use Rattle.working.proofs.walk.worked_in.Tie as tie
 
-pub worked-in-spec : {M : Type 1} → statement M
-worked-in-spec =
+pub worked_in_spec : {M : Type 1} → statement M
+worked_in_spec =
     tie.close
     (tie.spec
     (λ c κs. search rules)
     (λ c κs. search rules)
-    (λ c. ap Alarm c.alarm-in.ensures ∙ ap worked (sym (said-stop c.before.before.before.args.w c.before.before.next-of.ensures c.before.if1.true)))
+    (λ c. ap Alarm c.alarm_in.ensures ∙ ap worked (sym (said-stop c.args.w c.next_of-i.ensures c.if-i-eq0.true)))
     (λ c κs. search rules)
     (λ c.
     let n = c.before.before in
-    ap (λ (v : ℤ). Value v) (back w32 (record { sfits = c.value_of_lem.type-inv })) ∙ ap worked (sym (said-value n.before.args.w n.next-of.ensures c.value_of_lem.ensures c.before.if1.false))))
+    ap (λ (v : ℤ). Value v) (back w32 (record { sfits = c.value_of.type_inv })) ∙ ap worked (sym (said-value n.args.w n.next_of-i.ensures c.value_of.ensures c.if-i-eq0.false))))
