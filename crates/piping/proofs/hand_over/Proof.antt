@@ -47,7 +47,7 @@ hand_over_spec =
     let p = b.args.piece.now in
     let d = left-length b.loop-at.at p in
     let r : s.step-x.result.taken ≤ length (take (length p - b.loop-at.at) (drop b.loop-at.at p)) = no-more _ _ s.step-x.ensures.0 in
-    omega (arith, b.loop-at.invariant.0, s.loop-at-test.true, b.before.before.before.well-formed))
+    omega (arith, b.loop-at.invariant.0, s.loop-at-test.true, b.before.before.before.well_formed))
     (λ c.
     let s = c.before.before.before.before.before in
     let b = s.before.before.before.before.before.before in

@@ -46,5 +46,5 @@ are_channels_spec =
     let l = going c.before.before in
     let b = c.before.before.before in
     let t = (both b.loop-good.good _ c.loop-good-test.true).0 in
-    (omega arith, c.is_channel-good.ensures ∙ sound-step b.args.t1 b.loop-good.i true (sym t ∙ b.loop-good.invariant.1)))
-    (λ c. let b = c.before in over b.args.t1 b.loop-good.good b.loop-good.i b.loop-good.invariant.0 b.loop-good.invariant.1 c.loop-good-test.false))
+    (omega arith, c.is_channel-good.ensures ∙ sound-step b.args.channels b.loop-good.i true (sym t ∙ b.loop-good.invariant.1)))
+    (λ c. let b = c.before in over b.args.channels b.loop-good.good b.loop-good.i b.loop-good.invariant.0 b.loop-good.invariant.1 c.loop-good-test.false))

@@ -39,7 +39,7 @@ sample_all_spec =
     let f = c.before.before in
     let b = f.before.before.before in
     let s = b.before in
-    rw (good-stops s.args.t1 s.args.t2 b.loop-i.i channel_count (omega arith) b.loop-i.invariant.1 (let z : sampled_at s.args.t1 s.args.t2 b.loop-i.i ≡ c.sample-s.result = sym c.sample-s.ensures in ap (λ w. w.good) z ∙ not-true _ c.if-not-good.true-raw)))
+    rw (good-stops s.args.channels s.args.readings b.loop-i.i channel_count (omega arith) b.loop-i.invariant.1 (let z : sampled_at s.args.channels s.args.readings b.loop-i.i ≡ c.sample-s.result = sym c.sample-s.ensures in ap (λ w. w.good) z ∙ not-true _ c.if-not-good.true-raw)))
     (λ c. search rules)
     (λ c. omega arith)
     (λ c. search rules)
@@ -50,10 +50,10 @@ sample_all_spec =
     let g = c.before.before in
     let b = g.before.before.before.before.before in
     let s = b.before in
-    let z : g.sample-s.result ≡ sampled_at s.args.t1 s.args.t2 b.loop-i.i = g.sample-s.ensures in (
+    let z : g.sample-s.result ≡ sampled_at s.args.channels s.args.readings b.loop-i.i = g.sample-s.ensures in (
       omega arith,
-      good-step s.args.t1 s.args.t2 b.loop-i.i b.loop-i.invariant.1 (sym (ap (λ w. w.good) z) ∙ not-false _ g.if-not-good.false-raw),
-      kept_step s.args.t1 s.args.t2 b.loop-i.auto b.loop-i.i _ (ap (λ w. w.channel) z) b.loop-i.invariant.2,
-      values-step s.args.t1 s.args.t2 b.loop-i.values b.loop-i.i _ (to_z-of_z w32 _ (record { sfits = c.struct_told-1.given.1.0.1 }) ∙ ap (λ w. w.value) z) b.loop-i.invariant.3,
+      good-step s.args.channels s.args.readings b.loop-i.i b.loop-i.invariant.1 (sym (ap (λ w. w.good) z) ∙ not-false _ g.if-not-good.false-raw),
+      kept_step s.args.channels s.args.readings b.loop-i.kept b.loop-i.i _ (ap (λ w. w.channel) z) b.loop-i.invariant.2,
+      values-step s.args.channels s.args.readings b.loop-i.values b.loop-i.i _ (to_z-of_z w32 _ (record { sfits = c.struct_told-1.given.1.0.1 }) ∙ ap (λ w. w.value) z) b.loop-i.invariant.3,
     ))
     (λ c. let b = c.before in let e : b.loop-i.i ≡ channel_count = omega arith in let i = b.loop-i.invariant in rw (rw e at i.1, rw e at i.2, rw e at i.3)))

@@ -18,7 +18,7 @@ use Rattle.couplers.proofs.reading.convert.Tie as tie
 
 -- what owning an f32 tells: the format holds it
 held : (c : tie.Start) → T (fits binary32 c.args.x)
-held c = subst T (sym c.well-formed.0.1) tt
+held c = subst T (sym c.well_formed.0.1) tt
 
 abbrev bits : tie.Start → ℕ
 bits c = to_bits binary32 c.args.x

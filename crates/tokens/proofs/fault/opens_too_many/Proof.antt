@@ -3,7 +3,6 @@ use borrow.Author.Rules.{rules}
 use native.Mathlib.Omega.{arith}
 use mathlib.Core.Path.{◌≡◌, refl, sym, ap, ◌∙◌}
 use mathlib.Core.Bool.{Bool, true, false}
-use mathlib.Core.Logic.{⊎_elim}
 use Prim.Native.Nat.{ℕ, ◌-◌}
 use lib.ListN.{length, drop}
 use Rattle.tokens.specs.Token.{is_bracket}
@@ -12,6 +11,7 @@ use Rattle.tokens.specs.BetweenLaws.{never, inside}
 use Rattle.tokens.specs.BracketLaws.{bracket-end, bracket-deep, bracket-open, bracket-close, bracket-other, bracket-none}
 use Rattle.tokens.proofs.fault.opens_too_many.Statement.{statement}
 use Rattle.tokens.proofs.fault.opens_too_many.Tie as tie
+use Rattle.tokens.proofs.fault.opens_too_many.Lts.{then-is_bracket+then-t-eq-OPEN+else-open-ge-BRACKETS, then-is_bracket+else-t-eq-OPEN+then-open-gt0, then-is_bracket+else-t-eq-OPEN+else-open-gt0, else-is_bracket}
 
 abbrev invariant-loop : tie.invariant-loop-i
 invariant-loop tokens at open₀ i₀ «open» i = opens_too_many (drop i tokens) «open» ≡ opens_too_many (drop at tokens) 0
@@ -50,9 +50,10 @@ opens_too_many_spec =
     let l = s.loop-i-test.true in
     let t = s.token_at-t.ensures in
     let i = s.loop-i.invariant in
-    ⊎_elim (λ w. sym (bracket-open _ _ _ _ l t _ w.1.taken (omega (arith, w.2.left)) w.3) ∙ i)
-    (⊎_elim (λ w. sym (bracket-close _ _ _ _ l t _ (closes _ b w.0.taken w.1.left) w.3) ∙ i)
-    (⊎_elim (λ w. sym (bracket-close _ _ _ _ l t _ (closes _ b w.0.taken w.1.left) (omega (arith, w.2.left, w.3))) ∙ i)
-    (λ w. sym (bracket-other _ _ _ _ l t _ c.if-t-eq-END.false (apart _ 12 b w.0.left refl) (apart _ 13 b w.0.left refl) w.1) ∙ i)))
-    c.if-is_bracket.branch)
+    elim c.if-is_bracket.branch [
+      | then-is_bracket+then-t-eq-OPEN+else-open-ge-BRACKETS w ↦ sym (bracket-open _ _ _ _ l t _ w.if-t-eq-OPEN.true (omega (arith, w.if-open-ge-BRACKETS.false)) w.open-is) ∙ i
+      | then-is_bracket+else-t-eq-OPEN+then-open-gt0 w ↦ sym (bracket-close _ _ _ _ l t _ (closes _ b w.if-is_bracket.true w.if-t-eq-OPEN.false) w.open-is) ∙ i
+      | then-is_bracket+else-t-eq-OPEN+else-open-gt0 w ↦ sym (bracket-close _ _ _ _ l t _ (closes _ b w.if-is_bracket.true w.if-t-eq-OPEN.false) (omega (arith, w.if-open-gt0.false, w.open-is))) ∙ i
+      | else-is_bracket w ↦ sym (bracket-other _ _ _ _ l t _ c.if-t-eq-END.false (apart _ 12 b w.if-is_bracket.false refl) (apart _ 13 b w.if-is_bracket.false refl) w.open-is) ∙ i
+    ])
     (λ c. sym (bracket-none _ _ _ c.loop-i-test.false) ∙ c.loop-i.invariant))

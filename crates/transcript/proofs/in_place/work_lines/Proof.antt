@@ -44,7 +44,7 @@ work_lines_spec =
     let i = l.loop-at.invariant in
     let k = e.loop-at-test.true in
     (i.1, (lives-on l.loop-at.n (going-lives i.0 k e.run_end-end.ensures (taken_in _ _ _ _ t.take_in-kept.ensures.0 t.take_in-kept.ensures.1)), k)))
-    (λ c. let h = c.before.before.before.before.before.before.before.before.before.before.before.before.before.before.before.before in omega (arith, h.if-input-end.false, h.before.before.before.before.before.before.before.before.before.before.before.before.before.before.before.before.before.before.before.well-formed.1.1.1.1.1.1.1.1.1.1.1.1.1.0))
+    (λ c. let h = c.before.before.before.before.before.before.before.before.before.before.before.before.before.before.before.before in omega (arith, h.if-input-end.false, h.before.before.before.before.before.before.before.before.before.before.before.before.before.before.before.before.before.before.before.well_formed.1.1.1.1.1.1.1.1.1.1.1.1.1.0))
     (λ c. let h = c.before.before.before.before.before.before.before.before.before.before.before.before.before.before.before.before in omega (arith, h.if-input-end.false, h.run_end-end.ensures))
     (λ c.
     let l = c.before.before in

@@ -38,12 +38,12 @@ readings_in_spec =
     (λ c.
     let b = c.before.before in
     let l = b.loop-i in
-    let s = b.args.t1 in
+    let s = b.args.sent in
     let e : length s ≡ 8 = search rules in
     (omega arith, length-set l.x l.i (get_or s l.i no_sent).reading ∙ l.invariant.1, readings-next s l.x l.i e l.invariant.1 (omega arith) l.invariant.2 no_sent))
     (λ c.
     let l = c.loop-i in
-    let s = c.args.t1 in
+    let s = c.args.sent in
     let e : length s ≡ 8 = search rules in
     let k : l.i ≡ 8 = omega (arith, l.invariant.0) in
     readings-all s l.x e l.invariant.1 (rw k at l.invariant.2)))

@@ -32,7 +32,7 @@ tally_beat_spec =
     tie.close
     (tie.spec
     (λ c κs. search rules)
-    (λ c. search (rules, c.before.before.before.before.before.before.before.before.before.before.before.before.well-formed.1.1.1.1.1.1.1.1.1.1.1.1.0))
+    (λ c. search (rules, c.before.before.before.before.before.before.before.before.before.before.before.before.well_formed.1.1.1.1.1.1.1.1.1.1.1.1.0))
     (λ c κs. search rules)
     (λ c. let f = c.requires.1.0 power_on in omega (arith, f.beats))
     (λ c κs. let b = c.before.before.before.before in (b.requires.1.1, few b))

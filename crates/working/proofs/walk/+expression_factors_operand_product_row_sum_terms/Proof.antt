@@ -231,5 +231,5 @@ unfolding value_over sum_at expression_at
     let v = c.before.before in
     let d = v.before.before.before in
     let n = d.before.before.before in
-    loop-goes n.before.before.loop.invariant pairs-say n.next-of.ensures d.before.before.if1.false d.token-at.ensures v.before.before.is-term.ensures v.before.if2.false (omega arith) (back w32 (record { sfits = v.value_of_lem.type-inv }) ∙ v.value_of_lem.ensures) c.before.product.ensures c.join-term.ensures)
+    loop-goes n.before.before.loop.invariant pairs-say n.next-of.ensures d.before.before.if1.false d.token-at.ensures v.before.before.is-term.ensures v.before.if2.false (omega arith) (back w32 (record { sfits = v.value_of_lem.type_inv }) ∙ v.value_of_lem.ensures) c.before.product.ensures c.join-term.ensures)
     (λ c. loop-spent c.before.loop.invariant (omega arith))
