@@ -31,44 +31,44 @@ module _ (c : tie.After-next_of-i invariant-loop decreases-loop) where
   abbrev from : tie.After-next_of-at invariant-loop decreases-loop
   from = c.before.before.before.before.before.before
 
-  round : let j = c.before in let i = from.before.before.loop in let a = from.before.before.before.args in
-      Round a.set.now a.keyword set_size i.rounds i.n i.inv.0 i.low j.before.action.result j.join-faults.result from.next-of.result c.next-of2.result (actions_at a.set.now a.keyword set_size set_size 0 [] (fault_of a.w) (next_of a.w))
+  round : let j = c.before in let i = from.loop-rounds in let a = from.args in
+      Round a.set.now a.keyword set_size i.rounds i.n i.invariant.0 i.low j.action.result j.join_faults-low.result from.next_of-at.result c.next_of-i.result (actions_at a.set.now a.keyword set_size set_size 0 [] (fault_of a.w) (next_of a.w))
   round =
       let j = c.before in
-      let i = from.before.before.loop in
+      let i = from.loop-rounds in
       record {
-        left = from.before.loop-test.taken;
-        from = from.next-of.ensures;
-        begun = i.inv.3.1.0;
-        all = i.inv.2;
-        action = j.before.action.ensures.0;
-        joins = j.join-faults.ensures.0;
-        joined = j.join-faults.ensures.1;
-        to = c.next-of2.ensures;
+        left = from.loop-rounds-test.true;
+        from = from.next_of-at.ensures;
+        begun = i.invariant.3.1.0;
+        all = i.invariant.2;
+        action = j.action.ensures.0;
+        joins = j.join_faults-low.ensures.0;
+        joined = j.join_faults-low.ensures.1;
+        to = c.next_of-i.ensures;
       }
 
-  on : let a = from.before.before.before.args in Onward a.set.now a.w c.before.join-faults.result
+  on : let a = from.args in Onward a.set.now a.w c.join_faults-low.result
   on =
       let j = c.before in
-      let i = from.before.before.loop.inv.3.1 in
-      onward_then _ i.1.0 (joined-next _ from.next-of.ensures (λ y. i.0 (sym from.next-of.ensures ∙ y)) j.before.action.ensures.1 j.join-faults.ensures.1)
+      let i = from.loop-rounds.invariant.3.1 in
+      onward_then _ i.1.0 (joined-next _ from.next_of-at.ensures (λ y. i.0 (sym from.next_of-at.ensures ∙ y)) j.action.ensures.1 j.join_faults-low.ensures.1)
 
   -- whether a line was named: in all of them, where the line ends; else what is left tells the rest
-  module _ (o : c.next-of2.result ≡ 0 → ⊥) where
-    noted : let a = from.before.before.before.args in get_or a.set.now c.next-of2.result 0 ≡ END → c.before.before.before.or-naming.result ≡ names_from a.set.now a.keyword set_size set_size (next_of a.w)
-    noted = let n = c.before.before.before in round-noted round o from.before.before.loop.names n.before.token-at.ensures n.or-naming.ensures from.before.before.loop.inv.3.1.1.1
+  module _ (o : c.next_of-i.result ≡ 0 → ⊥) where
+    noted : let a = from.args in get_or a.set.now c.next_of-i.result 0 ≡ END → c.or_naming-names.result ≡ names_from a.set.now a.keyword set_size set_size (next_of a.w)
+    noted = let n = c.before.before.before in round-noted round o from.loop-rounds.names n.token_at-first.ensures n.or_naming-names.ensures from.loop-rounds.invariant.3.1.1.1
 
     -- the axis of a move, and the axes moved behind it
-    index : is_move c.before.before.before.before.token-at.result ≡ true → (1 ≤ index_at from.before.before.before.args.set.now c.before.before.before.before.token-at.result from.next-of.result) × (index_at from.before.before.before.args.set.now c.before.before.before.before.token-at.result from.next-of.result ≤ 6)
-    index = round-index round o c.before.before.before.before.token-at.ensures
+    index : is_move c.token_at-first.result ≡ true → (1 ≤ index_at from.args.set.now c.token_at-first.result from.next_of-at.result) × (index_at from.args.set.now c.token_at-first.result from.next_of-at.result ≤ 6)
+    index = round-index round o c.token_at-first.ensures
 
-    marks : {v : ℕ} → v ≡ with_move from.before.before.loop.moved c.before.before.before.before.token-at.result (index_at from.before.before.before.args.set.now c.before.before.before.before.token-at.result from.next-of.result) →
-        Marks (from.before.before.loop.inv.0 ++ moves_at from.before.before.before.args.set.now from.next-of.result) v
-    marks = round-marks round o c.before.before.before.before.token-at.ensures from.before.before.loop.inv.1
+    marks : {v : ℕ} → v ≡ with_move from.loop-rounds.moved c.token_at-first.result (index_at from.args.set.now c.token_at-first.result from.next_of-at.result) →
+        Marks (from.loop-rounds.invariant.0 ++ moves_at from.args.set.now from.next_of-at.result) v
+    marks = round-marks round o c.token_at-first.ensures from.loop-rounds.invariant.1
 
-    names : let a = from.before.before.before.args in (get_or a.set.now c.next-of2.result 0 ≡ END → ⊥) →
-        (c.before.before.before.or-naming.result || names_from a.set.now a.keyword set_size (from.before.before.loop.rounds - 1) (next_of c.before.join-faults.result)) ≡ names_from a.set.now a.keyword set_size set_size (next_of a.w)
-    names = let n = c.before.before.before in round-names round o from.before.before.loop.names n.before.token-at.ensures n.or-naming.ensures from.before.before.loop.inv.3.1.1.1
+    names : let a = from.args in (get_or a.set.now c.next_of-i.result 0 ≡ END → ⊥) →
+        (c.or_naming-names.result || names_from a.set.now a.keyword set_size (from.loop-rounds.rounds - 1) (next_of c.join_faults-low.result)) ≡ names_from a.set.now a.keyword set_size set_size (next_of a.w)
+    names = let n = c.before.before.before in round-names round o from.loop-rounds.names n.token_at-first.ensures n.or_naming-names.ensures from.loop-rounds.invariant.3.1.1.1
 
 pub actions_spec : {M : Type 1} → statement M
 actions_spec =
@@ -85,7 +85,7 @@ actions_spec =
     (λ c κs. search rules)
     (λ c. (faulted-nothing ∙ round-stops (round c.before) c.if-i-eq0.true, (onward-nothing _ _ refl, λ g. absurd (g refl))))
     (λ c. omega arith)
-    (λ c κs. (marks-small _ _ (from c.before).before.before.loop.inv.1, λ h. (index c.before c.if-i-eq0.false h).1))
+    (λ c κs. (marks-small _ _ (from c.before).loop-rounds.invariant.1, λ h. (index c.before c.if-i-eq0.false h).1))
     (λ c κs. search rules)
     (λ c κs. search rules)
     (λ c κs. search rules)
@@ -122,7 +122,7 @@ actions_spec =
       _,
       marks m o.if-i-eq0.false v.with_move-moved.ensures,
       round-goes (round m) o.if-i-eq0.false e,
-      (omega (arith, b.loop-rounds-test.taken, b.loop-rounds.inv.3.0), (λ y. o.if-i-eq0.false (m.next_of-i.ensures ∙ y), (on m, names m o.if-i-eq0.false e))),
+      (omega (arith, b.loop-rounds-test.true, b.loop-rounds.invariant.3.0), (λ y. o.if-i-eq0.false (m.next_of-i.ensures ∙ y), (on m, names m o.if-i-eq0.false e))),
     ))
     (λ c.
     let i = c.loop-rounds in

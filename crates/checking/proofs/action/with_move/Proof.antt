@@ -19,18 +19,18 @@ module _ (c : tie.After-index_at-axis) where
   abbrev begun : tie.After-is_move
   begun = c.before.before.before
 
-  moves : is_move begun.before.args.w ≡ true
-  moves = sym begun.is_move.ensures ∙ not-false _ c.before.before.if1.false
+  moves : is_move begun.args.w ≡ true
+  moves = sym begun.is_move.ensures ∙ not-false _ c.if-not-is_move.false-raw
 
-  small : c.index_at.result ≤ 6
-  small = rw c.index_at.ensures (begun.before.pre.1 moves)
+  small : c.index_at-axis.result ≤ 6
+  small = rw c.index_at-axis.ensures (begun.requires.1 moves)
 
-  bit : (1 * 2 ^ c.index_at.result) % 2 ^ 64 ≡ 2 ^ c.index_at.result
-  bit = shl_exact {a = 1} 1 c.index_at.result 64 (omega arith) (omega (arith, small)) ∙ one-mul _
+  bit : (1 * 2 ^ c.index_at-axis.result) % 2 ^ 64 ≡ 2 ^ c.index_at-axis.result
+  bit = shl_exact {a = 1} 1 c.index_at-axis.result 64 (omega arith) (omega (arith, small)) ∙ one-mul _
 
   -- of the axis that the word has behind it
-  of-index : with_move begun.before.args.moved begun.before.args.w c.index_at.result ≡ with_move begun.before.args.moved begun.before.args.w (index_at begun.before.args.set.now begun.before.args.w begun.before.args.at)
-  of-index = ap (with_move begun.before.args.moved begun.before.args.w) c.index_at.ensures
+  of-index : with_move begun.args.moved begun.args.w c.index_at-axis.result ≡ with_move begun.args.moved begun.args.w (index_at begun.args.set.now begun.args.w begun.args.at)
+  of-index = ap (with_move begun.args.moved begun.args.w) c.index_at-axis.ensures
 
 pub with_move_spec : {M : Type 1} → statement M
 with_move_spec =
@@ -44,5 +44,5 @@ with_move_spec =
     (λ c. with-again _ _ _ (moves c.before) c.if-moved-axis-eq1.true ∙ of-index c.before)
     (λ c. search rules)
     (λ c. omega (arith, small c.before))
-    (λ c. record { fits = omega (arith, bit c.before, pow_mono (small c.before), (begun c.before).before.pre.0) })
+    (λ c. record { fits = omega (arith, bit c.before, pow_mono (small c.before), (begun c.before).requires.0) })
     (λ c. ap (λ (b : ℕ). (begun c.before).before.args.moved + b) (bit c.before) ∙ with_first _ _ _ (moves c.before) c.if-moved-axis-eq1.false ∙ of-index c.before))

@@ -18,15 +18,15 @@ module _ (c : tie.After-part_behind-a3) where
       let p4 = p5.before in
       let p3 = p4.before in
       let p2 = p3.before in
-      curve_from start.args.set.now start.args.head.next p2.before.part-behind.result.next p2.part-behind2.result.next p3.part-behind3.result.next p4.part-behind4.result.next p5.part-behind5.result.next
+      curve_from start.args.set.now start.args.head.next p2.part_behind-lower.result.next p2.part_behind-upper.result.next p3.part_behind-a0.result.next p4.part_behind-a1.result.next p5.part_behind-a2.result.next
 
-  read : ended_by start.args.set.now start.args.n curve c.part-behind6.result ≡ defined_by start.args.set.now start.args.n start.args.head
+  read : ended_by start.args.set.now start.args.n curve c.part_behind-a3.result ≡ defined_by start.args.set.now start.args.n start.args.head
   read =
       let p5 = c.before in
       let p4 = p5.before in
       let p3 = p4.before in
       let p2 = p3.before in
-      six-parts _ _ _ p2.before.part-behind.ensures p2.part-behind2.ensures p3.part-behind3.ensures p4.part-behind4.ensures p5.part-behind5.ensures c.part-behind6.ensures
+      six-parts _ _ _ p2.part_behind-lower.ensures p2.part_behind-upper.ensures p3.part_behind-a0.ensures p4.part_behind-a1.ensures p5.part_behind-a2.ensures c.part_behind-a3.ensures
 
 pub defined_by_spec : {M : Type 1} → statement M
 defined_by_spec =

@@ -269,15 +269,15 @@ unfolding sight sum_at expression_at
     λ t. terms-lts.spec (_, next-of.Learnt, _, token-at.Learnt, _, is-term.Learnt, _, operand.Post, _, factors.Post, _, join.Learnt) _ terms.Post terms-Inv (λ tokens w left a₀ rounds₀ a rounds. rounds)
     (λ c. (loop-begins, onward-same _ _))
     (λ c κs. search rules)
-    (λ c. let i = c.before.before.before.loop.invariant in (loop-stops i.0 sights-say c.before.next-of.ensures c.if1.true, i.1))
+    (λ c. let i = c.loop-rounds.invariant in (loop-stops i.0 sights-say c.next_of-i.ensures c.if-i-eq0.true, i.1))
     (λ c κs. search rules)
     (λ c κs. search rules)
     (λ c.
     let d = c.before.before in
     let n = d.before.before.before in
-    let i = n.before.before.loop.invariant in
-    (loop-ends i.0 sights-say n.next-of.ensures d.before.before.if1.false d.token-at.ensures c.before.is-term.ensures c.if2.true, i.1))
-    (λ c. let d = c.before.before in omega (arith, loop-inside d.before.before.before.before.before.loop.invariant.0 refl d.token-at.ensures c.before.is-term.ensures c.if2.false))
+    let i = n.loop-rounds.invariant in
+    (loop-ends i.0 sights-say n.next_of-i.ensures d.if-i-eq0.false d.token_at-t.ensures c.is_term.ensures c.if-not-is_term.true-raw, i.1))
+    (λ c. let d = c.before.before in omega (arith, loop-inside d.loop-rounds.invariant.0 refl d.token_at-t.ensures c.is_term.ensures c.if-not-is_term.false-raw))
     (λ c κs. omega arith)
     (λ c κs. omega arith)
     (λ c κs. search rules)
@@ -287,7 +287,7 @@ unfolding sight sum_at expression_at
     let e = c.before.before.before in
     let d = e.before.before in
     let n = d.before.before.before in
-    let o = c.before.before.operand.ensures in
-    let f = c.before.factors.ensures in
-    round term-level n.before.before.loop.invariant n.next-of.ensures d.before.before.if1.false d.token-at.ensures e.before.is-term.ensures e.if2.false (omega arith) (product_is _ _ _ _ _ o.0 f.0, f.1.goes _ o.1) c.join.ensures)
-    (λ c. let i = c.before.loop.invariant in (loop-spent i.0 (omega arith), i.1))
+    let o = c.operand.ensures in
+    let f = c.factors.ensures in
+    round term-level n.loop-rounds.invariant n.next_of-i.ensures d.if-i-eq0.false d.token_at-t.ensures e.is_term.ensures e.if-not-is_term.false-raw (omega arith) (product_is _ _ _ _ _ o.0 f.0, f.1.goes _ o.1) c.join-a.ensures)
+    (λ c. let i = c.loop-rounds.invariant in (loop-spent i.0 (omega arith), i.1))

@@ -15,11 +15,11 @@ use Rattle.checking.proofs.line.line_at.Tie as tie
 
 -- behind the first test an id stands at the line's start, which lies inside the code
 module _ (c : tie.Else-not-is_id) where
-  named : let a = c.before.before.before.before.args in is_id (get_or a.set.now a.at 0) ≡ true
-  named = tested is_id c.before.before.token-at.ensures c.before.is-id.ensures (not-false _ c.if1.false)
+  named : let a = c.args in is_id (get_or a.set.now a.at 0) ≡ true
+  named = tested is_id c.token_at.ensures c.is_id.ensures (not-false _ c.if-not-is_id.false-raw)
 
-  starts : c.before.before.before.before.args.at < set_size
-  starts = let d = c.before.before in omega (arith, lies-inside d.before.before.args.set.now d.before.before.args.at d.token-at.ensures (no_end ID IDS d.token-at.result (omega arith) c.before.is-id.ensures (not-false _ c.if1.false)))
+  starts : c.args.at < set_size
+  starts = let d = c.before.before in omega (arith, lies-inside d.args.set.now d.args.at d.token_at.ensures (no_end ID IDS d.token_at.result (omega arith) c.is_id.ensures (not-false _ c.if-not-is_id.false-raw)))
 
 -- behind the others = and a number
 equals : (c : tie.Else-token_at-ne-EQUALS) → let a = c.args in get_or a.set.now (a.at + 1) 0 ≡ EQUALS

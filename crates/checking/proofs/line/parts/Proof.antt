@@ -17,13 +17,13 @@ use Rattle.checking.proofs.line.parts.Tie as tie
 -- what 5 to 10 and 14 tell of the line is told where its brackets are not too many
 module _ (c : tie.After-is_too_deep) where
   told : Line
-  told = let a = c.before.args in line_parts a.set.now a.at a.keyword a.condition a.actions (faulted a.a)
+  told = let a = c.args in line_parts a.set.now a.at a.keyword a.condition a.actions (faulted a.a)
 
-  deep : c.is-too-deep.result ≡ true → faulty_line too_deep ≡ judged c.before.args.set.now c.before.args.at told
-  deep h = judged-deep c.before.args.set.now c.before.args.at told c.is-too-deep.ensures h
+  deep : c.is_too_deep.result ≡ true → faulty_line too_deep ≡ judged c.args.set.now c.args.at told
+  deep h = judged-deep c.args.set.now c.args.at told c.is_too_deep.ensures h
 
-  not-deep : c.is-too-deep.result ≡ false → told ≡ judged c.before.args.set.now c.before.args.at told
-  not-deep h = judged-not c.before.args.set.now c.before.args.at told c.is-too-deep.ensures h
+  not-deep : c.is_too_deep.result ≡ false → told ≡ judged c.args.set.now c.args.at told
+  not-deep h = judged-not c.args.set.now c.args.at told c.is_too_deep.ensures h
 
 pub parts_spec : {M : Type 1} → statement M
 unfolding told

@@ -11,8 +11,8 @@ use Rattle.checking.proofs.sight.as_wanted.Tie as tie
 
 -- the fault behind the calls
 module _ (c : tie.After-lower_of-fault) where
-  low : let x = c.before.before.before.before.before.before.before.before.args in c.lower_of.result ≡ lower (wanting_fault x.wanted (truth_of x.a)) (fault_of x.a)
-  low = let w = c.before.before in simp (c.lower_of.ensures, c.before.fault-of.ensures, w.wanting.ensures, w.before.truth-of.ensures)
+  low : let x = c.args in c.lower_of-fault.result ≡ lower (wanting_fault x.wanted (truth_of x.a)) (fault_of x.a)
+  low = let w = c.before.before in simp (c.lower_of-fault.ensures, c.fault_of.ensures, w.wanting.ensures, w.truth_of.ensures)
 
 pub as_wanted_spec : {M : Type 1} → statement M
 as_wanted_spec =

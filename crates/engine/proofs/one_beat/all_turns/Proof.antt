@@ -20,7 +20,7 @@ start c = c.before.before.before.before.before.before.before.before.before.befor
 
 -- what is held before
 abbrev before : tie.After-turns-d → Held
-before c = let a = (start c).args in held_in a.r.now a.cells.now a.runs.now a.before a.locked.now a.memory.now a.acts.now a.orders-1.now
+before c = let a = (start c).args in held_in a.r.now a.cells.now a.runs.now a.before a.locked.now a.memory.now a.acts.now a.orders.now
 
 -- all turns, the world that they left, and that they came to it
 abbrev all : tie.After-turns-d → Answer Turned

@@ -23,7 +23,7 @@ beat_spec =
     let l = p.before.before.before.before in
     let a = l.args in
     let st = a.state in
-    let e = state-apart st a.orders-1.now p.spread_cells-cells.ensures in
-    put_back st (held_in st.r p.spread_cells-cells.result st.runs st.channels st.locked st.memory st.acts a.orders-1.now) (sampled_all st.channels a.readings).channels e
-    (beat-over-lines a.set.now st (record { automatic = a.automatic; word = a.inputs; readings = a.readings; lent = a.lent.now; buffer = a.orders-1.now }) l.read_lines.ensures e)
+    let e = state-apart st a.orders.now p.spread_cells-cells.ensures in
+    put_back st (held_in st.r p.spread_cells-cells.result st.runs st.channels st.locked st.memory st.acts a.orders.now) (sampled_all st.channels a.readings).channels e
+    (beat-over-lines a.set.now st (record { automatic = a.automatic; word = a.inputs; readings = a.readings; lent = a.lent.now; buffer = a.orders.now }) l.read_lines.ensures e)
     b.beat_held-b.ensures.0 b.beat_held-b.ensures.1 c.kept_cells-kept.ensures))

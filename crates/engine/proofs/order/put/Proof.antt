@@ -21,4 +21,4 @@ put_spec =
     (λ c.
     let a = c.args in
     let e : a.at + order_size - a.at ≡ order_size = omega arith in
-    rw (e, c.store.ensures, drop-drop order_size a.at a.buffer-1.now)))
+    rw (e, c.store.ensures, drop-drop order_size a.at a.buffer.now)))

@@ -22,4 +22,4 @@ put_spec =
     (λ c.
     let a = c.args in
     let e : a.at + line_places - a.at ≡ line_places = omega arith in
-    rw (e, c.store.ensures, drop-drop line_places a.at a.lines-1.now)))
+    rw (e, c.store.ensures, drop-drop line_places a.at a.lines.now)))

@@ -48,7 +48,7 @@ names_known_spec =
     (λ c.
     let b = c.before.before.before.before.before.before in
     let a = b.args in
-    ⊎_elim (λ w. sym (names-on _ (asked_table a.asked a.numbers.now a.curves.now) _ _ c.token_at-t.ensures c.if-t-eq-END.false (sym c.is_naming.ensures ∙ w.0.taken) _ _ w.2.ensures w.3.ensures _ w.4.ensures (not-false _ w.5.left) b.loop-left.left (omega arith)) ∙ b.loop-left.invariant)
-    (λ w. sym (names-other _ _ _ _ c.token_at-t.ensures c.if-t-eq-END.false (sym c.is_naming.ensures ∙ w.left) b.loop-left.left (omega arith)) ∙ b.loop-left.invariant)
+    ⊎_elim (λ w. sym (names-on _ (asked_table a.asked a.numbers.now a.curves.now) _ _ c.token_at-t.ensures c.if-t-eq-END.false (sym c.is_naming.ensures ∙ w.0.taken) _ _ w.2.ensures w.3.ensures _ w.4.ensures (not-false _ w.5.left) b.loop-left.false (omega arith)) ∙ b.loop-left.invariant)
+    (λ w. sym (names-other _ _ _ _ c.token_at-t.ensures c.if-t-eq-END.false (sym c.is_naming.ensures ∙ w.left) b.loop-left.false (omega arith)) ∙ b.loop-left.invariant)
     c.if-is_naming.branch)
     (λ c. sym (names-none _ _ _ _ (omega arith)) ∙ c.loop-left.invariant))

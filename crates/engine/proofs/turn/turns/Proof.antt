@@ -62,7 +62,7 @@ ends c x w h =
 
 -- a rank of the set is below its most
 below : (c : tie.In-loop-k invariant-loop decreases-loop) → c.loop-k.k < max_lines
-below c = omega (arith, (start c.before).pre, c.count_of-count.ensures)
+below c = omega (arith, (start c.before).requires, c.count_of-count.ensures)
 
 -- what a turn came to
 came : (c : tie.After-turn-d invariant-loop decreases-loop) → IsTurned c.turn-d.result (behind c) (one c.before.before.before.before.before.before.before.before.before)

@@ -29,4 +29,4 @@ change_run_spec =
     let a = s.args in
     let e : run_at a.k + places - run_at a.k ≡ places = omega arith in
     let f = rw (e, back w32 s.ranges.v) at c.change.ensures in
-    (f.0, rw (e, f.1, drop-drop places (run_at a.k) a.r-1.now))))
+    (f.0, rw (e, f.1, drop-drop places (run_at a.k) a.r.now))))

@@ -27,7 +27,7 @@ put_name_spec =
     let r = c.before.before in
     let i = r.before.before.before in
     let a = i.args in
-    renamed a.out-1.now a.at (sign-row a.t i.if-t-lt-ID.true) r.put_row.ensures.0 r.put_row.ensures.1)
+    renamed a.out.now a.at (sign-row a.t i.if-t-lt-ID.true) r.put_row.ensures.0 r.put_row.ensures.1)
     (λ c. search rules)
     (λ c. search rules)
     (λ c. search rules)
@@ -37,7 +37,7 @@ put_name_spec =
     let r = c.before.before in
     let i = r.before.before.before in
     let a = i.args in
-    renamed a.out-1.now a.at (keyword-row a.t (omega arith) i.if-t-lt-IN.true) r.put_row-then-t-lt-IN.ensures.0 r.put_row-then-t-lt-IN.ensures.1)
+    renamed a.out.now a.at (keyword-row a.t (omega arith) i.if-t-lt-IN.true) r.put_row-then-t-lt-IN.ensures.0 r.put_row-then-t-lt-IN.ensures.1)
     (λ c. search rules)
     (λ c. search rules)
     (λ c. search rules)
@@ -47,7 +47,7 @@ put_name_spec =
     let r = c.before.before in
     let i = r.before.before.before in
     let a = i.args in
-    renamed a.out-1.now a.at (variable-row a.t (omega arith) i.if-t-lt-POS.true) r.put_row-then-t-lt-POS.ensures.0 r.put_row-then-t-lt-POS.ensures.1)
+    renamed a.out.now a.at (variable-row a.t (omega arith) i.if-t-lt-POS.true) r.put_row-then-t-lt-POS.ensures.0 r.put_row-then-t-lt-POS.ensures.1)
     (λ c. search rules)
     (λ c. search rules)
     (λ c. search rules)
@@ -57,5 +57,5 @@ put_name_spec =
     let r = c.before.before in
     let i = r.before.before.before in
     let a = i.args in
-    renamed a.out-1.now a.at (action-row a.t (omega arith) i.if-t-le-W.true) r.put_row-then-t-le-W.ensures.0 r.put_row-then-t-le-W.ensures.1)
-    (λ c. let a = c.args in renamed a.out-1.now a.at (no_name a.t (omega arith)) refl refl))
+    renamed a.out.now a.at (action-row a.t (omega arith) i.if-t-le-W.true) r.put_row-then-t-le-W.ensures.0 r.put_row-then-t-le-W.ensures.1)
+    (λ c. let a = c.args in renamed a.out.now a.at (no_name a.t (omega arith)) refl refl))

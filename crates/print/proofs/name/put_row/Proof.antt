@@ -41,4 +41,4 @@ put_row_spec =
     let s = p.before.before.before in
     let a = s.args in
     let (e, f) = solid-part a.table.now a.start a.width _ s.solid_size-size.ensures in
-    (e ∙ ap (λ (l : List ℕ). length l) f, p.put_bytes.ensures ∙ ap (λ (l : List ℕ). put_at a.out-1.now a.at l) f)))
+    (e ∙ ap (λ (l : List ℕ). length l) f, p.put_bytes.ensures ∙ ap (λ (l : List ℕ). put_at a.out.now a.at l) f)))

@@ -34,14 +34,14 @@ print_spec =
     (λ c.
     let i = c.before in
     let a = i.args in
-    let (e, f) = answers-unsound a.set.now a.buffer-1.now (sym (ap (λ (x : Lines). x.sound) i.sound_lines-lines.ensures) ∙ not-true _ i.if-not-sound.true-raw) in
+    let (e, f) = answers-unsound a.set.now a.buffer.now (sym (ap (λ (x : Lines). x.sound) i.sound_lines-lines.ensures) ∙ not-true _ i.if-not-sound.true-raw) in
     (c.not_printed.ensures ∙ e, f))
     (λ c κs. search rules)
     (λ c.
     let i = c.before in
     let l = i.before.before in
     let a = l.args in
-    let (e, f) = answers-small a.set.now a.buffer-1.now (sym (ap (λ (x : Lines). x.sound) l.sound_lines-lines.ensures) ∙ not-false _ i.if-not-sound.false-raw) i.if-buffer-lt-TEXT_SIZE.true in
+    let (e, f) = answers-small a.set.now a.buffer.now (sym (ap (λ (x : Lines). x.sound) l.sound_lines-lines.ensures) ∙ not-false _ i.if-not-sound.false-raw) i.if-buffer-lt-TEXT_SIZE.true in
     (c.not_printed-then-buffer-lt-TEXT_SIZE.ensures ∙ e, f))
     (λ c κs. let l = c.before.before in few l.args.set.now l.sound_lines-lines.ensures)
     (λ c κs. search rules)
@@ -54,7 +54,7 @@ print_spec =
     let s = a.set.now in
     let t = text-is s l.sound_lines-lines.ensures in
     let n : z.size_of-size.result ≡ length (print_text s) = z.size_of-size.ensures ∙ ap (λ (x : List ℕ). length x) t in
-    let (e, f) = answers-short s a.buffer-1.now (sym (ap (λ (x : Lines). x.sound) l.sound_lines-lines.ensures) ∙ not-false _ j.if-not-sound.false-raw) j.if-buffer-lt-TEXT_SIZE.false (omega (arith, n, i.if-buffer-size.true)) in
+    let (e, f) = answers-short s a.buffer.now (sym (ap (λ (x : Lines). x.sound) l.sound_lines-lines.ensures) ∙ not-false _ j.if-not-sound.false-raw) j.if-buffer-lt-TEXT_SIZE.false (omega (arith, n, i.if-buffer-size.true)) in
     (c.not_printed-then-buffer-size.ensures ∙ e, f))
     (λ c κs. let l = c.before.before.before.before.before in few l.args.set.now l.sound_lines-lines.ensures)
     (λ c. search rules)
@@ -68,5 +68,5 @@ print_spec =
     let s = a.set.now in
     let t = text-is s l.sound_lines-lines.ensures in
     let n : z.size_of-size.result ≡ length (print_text s) = z.size_of-size.ensures ∙ ap (λ (x : List ℕ). length x) t in
-    answers-printed s a.buffer-1.now (sym (ap (λ (x : Lines). x.sound) l.sound_lines-lines.ensures) ∙ not-false _ j.if-not-sound.false-raw) j.if-buffer-lt-TEXT_SIZE.false _ _ n (omega (arith, n, i.if-buffer-size.false))
-    (p.put_rows.ensures.put ∙ ap (put_at a.buffer-1.now 0) t)))
+    answers-printed s a.buffer.now (sym (ap (λ (x : Lines). x.sound) l.sound_lines-lines.ensures) ∙ not-false _ j.if-not-sound.false-raw) j.if-buffer-lt-TEXT_SIZE.false _ _ n (omega (arith, n, i.if-buffer-size.false))
+    (p.put_rows.ensures.put ∙ ap (put_at a.buffer.now 0) t)))

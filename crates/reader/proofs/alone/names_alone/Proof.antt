@@ -12,10 +12,10 @@ use Rattle.reader.proofs.alone.names_alone.Tie as tie
 
 module _ (c : tie.After-lay) where
   abbrev tokens : List ℕ
-  tokens = c.before.before.before.args.tokens.now
+  tokens = c.args.tokens.now
 
   laid : c.lay.new.0 ≡ alone tokens
-  laid = c.lay.ensures ∙ ap (λ (x : List ℕ). put_at x 0 tokens) c.before.before.before.requires.0
+  laid = c.lay.ensures ∙ ap (λ (x : List ℕ). put_at x 0 tokens) c.requires.0
 
 pub names_alone_spec : {M : Type 1} → statement M
 names_alone_spec =

@@ -44,8 +44,8 @@ module _ (c : tie.After-curve_alone-f) where
   abbrev start : tie.Start
   start = c.before.before.before.before
 
-  told : c.curve-alone.result ≡ definition_at (alone (tokens start)) 0
-  told = c.curve-alone.ensures.0
+  told : c.curve_alone-f.result ≡ definition_at (alone (tokens start)) 0
+  told = c.curve_alone-f.ensures.0
 
 -- whether the curve is there
 module _ (c : tie.After-is_defined) where
@@ -53,10 +53,10 @@ module _ (c : tie.After-is_defined) where
   looked = c.before.before.before.before
 
   fine : looked.curve-alone.result.fault ≡ 0
-  fine = c.before.before.before.if1.false
+  fine = c.if-fault-ne0.false
 
-  there : c.is-defined.result ≡ is_defined (curves_there (curves (start looked))) looked.curve-alone.result.number
-  there = c.is-defined.ensures ∙ ap (λ (x : List Bool). is_defined x looked.curve-alone.result.number) (held (start looked)).there
+  there : c.is_defined.result ≡ is_defined (curves_there (curves (start looked))) looked.curve-alone.result.number
+  there = c.is_defined.ensures ∙ ap (λ (x : List Bool). is_defined x looked.curve-alone.result.number) (held (start looked)).there
 
 pub add_curve_spec : {M : Type 1} → statement M
 add_curve_spec =

@@ -36,7 +36,7 @@ module _ (c : tie.After-write_tokens-w) where
   before = start.args.s.now
 
   abbrev array : List ℕ
-  array = c.write-tokens.new.1.0
+  array = c.write_tokens-w.new.1.0
 
   abbrev line : Numbered
   line = record { place = start.args.k; body = start.args.body.now }
@@ -45,36 +45,36 @@ module _ (c : tie.After-write_tokens-w) where
   tokens = tokens_of line.body
 
   abbrev end : ℕ
-  end = draft.at + c.write-tokens.result.count
+  end = draft.at + c.write_tokens-w.result.count
 
-  counted : c.write-tokens.result.count ≡ length tokens.list
-  counted = ap (λ (x : Written). x.count) c.write-tokens.ensures.0
+  counted : c.write_tokens-w.result.count ≡ length tokens.list
+  counted = ap (λ (x : Written). x.count) c.write_tokens-w.ensures.0
 
-  good : tokens.good ≡ c.write-tokens.result.good
-  good = ap (λ (x : Written). x.good) (sym c.write-tokens.ensures.0)
+  good : tokens.good ≡ c.write_tokens-w.result.good
+  good = ap (λ (x : Written). x.good) (sym c.write_tokens-w.ensures.0)
 
   room : end ≤ set_size
-  room = let w = tokens-within line.body in let p = start.pre.3 in let n = counted in omega arith
+  room = let w = tokens-within line.body in let p = start.requires.3 in let n = counted in omega arith
 
   size : length array ≡ set_size
-  size = ap length c.write-tokens.ensures.1 ∙ put-length tokens.list before draft.at ∙ start.pre.0.size
+  size = ap length c.write_tokens-w.ensures.1 ∙ put-length tokens.list before draft.at ∙ start.requires.0.size
 
   -- they stand there
   part : tokens_to array draft end ≡ tokens.list
   part =
       let n = counted in
-      let z = start.pre.0.size in
+      let z = start.requires.0.size in
       let r = room in
       let e : end - draft.at ≡ length tokens.list = omega arith in
-      ap (λ (x : List ℕ). tokens_to x draft end) c.write-tokens.ensures.1
+      ap (λ (x : List ℕ). tokens_to x draft end) c.write_tokens-w.ensures.1
       ∙ ap (λ (n : ℕ). take n (drop draft.at (put_at before draft.at tokens.list))) e ∙ part-put tokens.list before draft.at (omega arith)
 
   -- and nothing that is kept has changed
   same : kept_in array draft ≡ kept_in before draft
-  same = ap (λ (x : List ℕ). kept_in x draft) c.write-tokens.ensures.1 ∙ kept_put before draft start.pre.0 tokens.list
+  same = ap (λ (x : List ℕ). kept_in x draft) c.write_tokens-w.ensures.1 ∙ kept_put before draft start.requires.0 tokens.list
 
   held : Held array draft
-  held = subst (λ (x : List ℕ). Held x draft) (sym c.write-tokens.ensures.1) (held-put before draft start.pre.0 tokens.list)
+  held = subst (λ (x : List ℕ). Held x draft) (sym c.write_tokens-w.ensures.1) (held-put before draft start.requires.0 tokens.list)
 
   follows : Follows array draft end
   follows = (omega arith, room, rw part (tokens-real line.body))
@@ -85,7 +85,7 @@ module _ (c : tie.After-defines) where
   wrote = c.before.before.before.before.before.before
 
   fine : (tokens wrote).good ≡ true
-  fine = good wrote ∙ not-false _ c.before.before.before.before.before.if1.false
+  fine = good wrote ∙ not-false _ c.if-not-good.false-raw
 
   defining : defines (kept_in (array wrote) (draft wrote)) (tokens wrote).list ≡ c.defines.result
   defining =
@@ -107,15 +107,15 @@ add_line_spec =
     (λ c. let r = room c.before.before.before.before in omega arith)
     (λ c. let w = c.before.before.before.before in let r = room w in let z = size w in omega arith)
     (λ c κs. search rules)
-    (λ c κs. let w = wrote c.before.before.before in (held w, follows w, (start w).pre.1))
+    (λ c κs. let w = wrote c.before.before.before in (held w, follows w, (start w).requires.1))
     (λ c.
     let f = c.before.before.before.before in
     let w = wrote f in
     let d = defining f ∙ c.if-defines.true in
     (subst (λ (k : Kept). Says (rows_from k (line w ∷ [])) (array w) c.add_curve.result) (same w) (says-curve (array w) (draft w) (held w) (line w) (end w) (follows w).0 (follows w).1 (fine f) (part w) _ d c.add_curve.ensures.0), c.add_curve.ensures.1))
-    (λ c κs. let w = wrote c.before.before.before in (held w, follows w, (start w).pre.1, (start w).pre.2))
+    (λ c κs. let w = wrote c.before.before.before in (held w, follows w, (start w).requires.1, (start w).requires.2))
     (λ c.
     let f = c.before.before.before.before in
     let w = wrote f in
     let d = defining f ∙ c.if-defines.false in
-    (subst (λ (k : Kept). Says (rows_from k (line w ∷ [])) (array w) c.add_numbered.result) (same w) (says-line (array w) (draft w) (held w) (line w) (end w) (follows w).0 (follows w).1 (fine f) (part w) _ (start w).pre.2 d c.add_numbered.ensures.0), c.add_numbered.ensures.1)))
+    (subst (λ (k : Kept). Says (rows_from k (line w ∷ [])) (array w) c.add_numbered.result) (same w) (says-line (array w) (draft w) (held w) (line w) (end w) (follows w).0 (follows w).1 (fine f) (part w) _ (start w).requires.2 d c.add_numbered.ensures.0), c.add_numbered.ensures.1)))

@@ -48,8 +48,8 @@ module _ (c : tie.After-line_alone-l) where
   abbrev start : tie.Start
   start = c.before.before.before.before
 
-  told : c.line-alone.result ≡ line_at (alone (tokens start)) 0
-  told = c.line-alone.ensures.0
+  told : c.line_alone-l.result ≡ line_at (alone (tokens start)) 0
+  told = c.line_alone-l.ensures.0
 
 -- the rank of its number
 module _ (c : tie.After-rank_in) where
@@ -57,10 +57,10 @@ module _ (c : tie.After-rank_in) where
   looked = c.before.before.before.before
 
   fine : looked.line-alone.result.fault ≡ 0
-  fine = c.before.before.before.if1.false
+  fine = c.if-fault-ne0.false
 
-  ranked : c.rank-in.result ≡ rank_in (numbers_of (kept (start looked)).rows) looked.line-alone.result.number 0
-  ranked = c.rank-in.ensures ∙ ap (λ (ns : List ℕ). rank_in ns looked.line-alone.result.number 0) (held (start looked)).numbers
+  ranked : c.rank_in.result ≡ rank_in (numbers_of (kept (start looked)).rows) looked.line-alone.result.number 0
+  ranked = c.rank_in.ensures ∙ ap (λ (ns : List ℕ). rank_in ns looked.line-alone.result.number 0) (held (start looked)).numbers
 
 -- whether its curves are there
 module _ (c : tie.After-curves_known) where
@@ -70,8 +70,8 @@ module _ (c : tie.After-curves_known) where
   abbrev begun : tie.Start
   begun = start (looked new)
 
-  known : c.curves-known.result ≡ names_known (alone (tokens begun)) (curve_table (kept begun).curves) set_size 0
-  known = c.curves-known.ensures.0 ∙ ap (λ (cs : List Bool). names_known (alone (tokens begun)) (asked_table false (draft begun).numbers cs) set_size 0) (held begun).there
+  known : c.curves_known.result ≡ names_known (alone (tokens begun)) (curve_table (kept begun).curves) set_size 0
+  known = c.curves_known.ensures.0 ∙ ap (λ (cs : List Bool). names_known (alone (tokens begun)) (asked_table false (draft begun).numbers cs) set_size 0) (held begun).there
 
 pub add_numbered_spec : {M : Type 1} → statement M
 add_numbered_spec =
@@ -96,9 +96,9 @@ add_numbered_spec =
     let l = looked r in
     let s = start l in
     (c.refused_at-then-rank_in-lt-LINES.ensures ∙ with-fault _ _ _ _ _ (fault-used (tokens s) (real s) (short s) (kept s) _ (told l) (fine r) _ (ranked r) c.if-rank_in-lt-LINES.true) (λ e. omega arith), l.line_alone-l.ensures.1))
-    (λ c. let f = (start (looked c.before.before.before.before.before)).pre.1 in let a = f.0 in let b = f.1 in omega arith)
-    (λ c. let f = (start (looked c.before.before.before.before.before)).pre.1 in let a = f.0 in let b = f.1 in omega arith)
-    (λ c. let f = (start (looked c.before.before.before.before.before)).pre.1 in let a = f.0 in let b = f.1 in omega arith)
+    (λ c. let f = (start (looked c.before.before.before.before.before)).requires.1 in let a = f.0 in let b = f.1 in omega arith)
+    (λ c. let f = (start (looked c.before.before.before.before.before)).requires.1 in let a = f.0 in let b = f.1 in omega arith)
+    (λ c. let f = (start (looked c.before.before.before.before.before)).requires.1 in let a = f.0 in let b = f.1 in omega arith)
     (λ c. let s = start (looked c.before.before.before.before.before) in let f = s.requires.1 in let b = f.1 in let z = (held s).size in omega arith)
     (λ c κs.
     let r = c.before.before.before.before.before.before in
@@ -112,7 +112,7 @@ add_numbered_spec =
     let l = looked r in
     let s = start l in
     (c.refused_at-then-not-curves_known.ensures ∙ with-fault _ _ _ _ _ (fault-unknown (tokens s) (real s) (short s) (kept s) _ (told l) (fine r) _ (ranked r) n.if-rank_in-lt-LINES.false _ (known n) (not-true _ c.if-not-curves_known.true-raw)) (λ e. omega arith), n.curves_known.ensures.1))
-    (λ c κs. (start (looked (new c.before))).pre.3)
+    (λ c κs. (start (looked (new c.before))).requires.3)
     (λ c.
     let n = c.before.before in
     let r = new n in

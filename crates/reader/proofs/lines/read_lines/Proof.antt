@@ -37,27 +37,27 @@ module _ (c : tie.After-line_bounds-b invariant-loop decreases-loop) where
   body = first_body (drop begun.loop.i (text begun))
 
   abbrev behind : List (List ℕ)
-  behind = bodies (text_lines (drop (c.line-bounds.result.end + 1) (text begun)))
+  behind = bodies (text_lines (drop (c.line_bounds-b.result.end + 1) (text begun)))
 
   -- it stands in the text
-  inside : let b = c.line-bounds.result in let i = begun.loop.i in (i ≤ b.body) × (b.body ≤ b.end) × (b.end ≤ length (text begun)) × (length (take (b.body - i) (drop i (text begun))) ≡ b.body - i)
-  inside = line-inside (text begun) begun.loop.i _ c.line-bounds.ensures (omega arith)
+  inside : let b = c.line_bounds-b.result in let i = begun.loop.i in (i ≤ b.body) × (b.body ≤ b.end) × (b.end ≤ length (text begun)) × (length (take (b.body - i) (drop i (text begun))) ≡ b.body - i)
+  inside = line-inside (text begun) begun.loop.i _ c.line_bounds-b.ensures (omega arith)
 
-  is_body : take (c.line-bounds.result.body - begun.loop.i) (drop begun.loop.i (text begun)) ≡ body
-  is_body = part-is (text begun) begun.loop.i _ c.line-bounds.ensures
+  is_body : take (c.line_bounds-b.result.body - begun.loop.i) (drop begun.loop.i (text begun)) ≡ body
+  is_body = part-is (text begun) begun.loop.i _ c.line_bounds-b.ensures
 
   steps : numbered begun.loop.k (bodies (text_lines (drop begun.loop.i (text begun)))) ≡ numbered begun.loop.k (body ∷ behind)
-  steps = lines_step (text begun) begun.loop.i _ c.line-bounds.ensures begun.loop.k
+  steps = lines_step (text begun) begun.loop.i _ c.line_bounds-b.ensures begun.loop.k
 
   whole : rows_from (kept_in begun.loop.s begun.loop.d) (numbered begun.loop.k (body ∷ behind)) ≡ rows_from nothing (token_lines (text begun))
-  whole = ap (rows_from (kept_in begun.loop.s begun.loop.d)) (sym steps) ∙ begun.loop.inv.0
+  whole = ap (rows_from (kept_in begun.loop.s begun.loop.d)) (sym steps) ∙ begun.loop.invariant.0
 
 module _ (c : tie.After-take_line-d invariant-loop decreases-loop) where
   abbrev line : tie.After-line_bounds-b invariant-loop decreases-loop
   line = c.before.before.before.before
 
-  said : Says (rows_from (kept_in (begun line).loop.s (begun line).loop.d) (numbered (begun line).loop.k (body line ∷ []))) c.take-line.new.1.0 c.take-line.result
-  said = rw (is_body line) at c.take-line.ensures.0
+  said : Says (rows_from (kept_in (begun line).loop.s (begun line).loop.d) (numbered (begun line).loop.k (body line ∷ []))) c.take_line-d.new.1.0 c.take_line-d.result
+  said = rw (is_body line) at c.take_line-d.ensures.0
 
 pub read_lines_spec : {M : Type 1} → statement M
 unfolding token_lines rows_from rows_at curves_at empty_set
@@ -78,7 +78,7 @@ read_lines_spec =
     (λ c κs.
     let l = c.before.before.before in
     let b = begun l in
-    let v = b.loop-i.inv in
+    let v = b.loop-i.invariant in
     let g = inside l in
     let e = ap length (steps l) in
     let f = first_count b.loop-i.k (body l) (behind l) in
@@ -88,7 +88,7 @@ read_lines_spec =
     (λ c.
     let t = c.before in
     let b = begun (line t) in
-    (subst (λ (o : Outcome). Says o t.take_line-d.new.1.0 t.take_line-d.result) (whole (line t)) (line-stop _ _ b.loop-i.inv.1 _ _ _ _ (said t) (behind (line t)) c.if-code-ne0.true), t.take_line-d.ensures.1))
+    (subst (λ (o : Outcome). Says o t.take_line-d.new.1.0 t.take_line-d.result) (whole (line t)) (line-stop _ _ b.loop-i.invariant.1 _ _ _ _ (said t) (behind (line t)) c.if-code-ne0.true), t.take_line-d.ensures.1))
     (λ c. omega arith)
     (λ c. omega (arith, inside (line c.before.before)))
     (λ c. omega (arith, inside (line c.before.before)))
@@ -96,7 +96,7 @@ read_lines_spec =
     let t = c.before.before in
     let l = line t in
     let b = begun l in
-    let v = b.loop-i.inv in
+    let v = b.loop-i.invariant in
     let g = line-next _ _ v.1 _ _ _ _ (said t) (behind l) c.if-code-ne0.false in
     let h = inside l in
     let e = ap length (steps l) in

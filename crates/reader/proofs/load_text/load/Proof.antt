@@ -19,10 +19,10 @@ use Rattle.reader.proofs.load_text.load.Tie as tie
 -- the text, and that the set is cleared
 module _ (c : tie.After-empty_set) where
   abbrev text : List ℕ
-  text = c.before.before.args.text.now
+  text = c.args.text.now
 
-  cleared : c.empty-set.result ≡ empty_set
-  cleared = c.empty-set.ensures
+  cleared : c.empty_set.result ≡ empty_set
+  cleared = c.empty_set.ensures
 
 -- it is no longer than a text may be, and has no more lines
 module _ (c : tie.Else-count_lines-gt-LINES) where
@@ -30,10 +30,10 @@ module _ (c : tie.Else-count_lines-gt-LINES) where
   start = c.before.before.before
 
   short : length (text start) ≤ text_size
-  short = c.before.before.if1.false
+  short = c.if-text-gt-TEXT_SIZE.false
 
   few : length (token_lines (text start)) ≤ max_lines
-  few = let e = c.before.count-lines.ensures in let l = c.if2.false in omega arith
+  few = let e = c.count_lines.ensures in let l = c.if-count_lines-gt-LINES.false in omega arith
 
 -- its lines are read
 module _ (c : tie.After-read_lines-d) where
@@ -41,13 +41,13 @@ module _ (c : tie.After-read_lines-d) where
   small = c.before.before.before.before
 
   abbrev array : List ℕ
-  array = c.read-lines.new.1.0
+  array = c.read_lines-d.new.1.0
 
   abbrev draft : Draft
-  draft = c.read-lines.result
+  draft = c.read_lines-d.result
 
   kept : draft.code ≡ 0 → (rows_from nothing (token_lines (text (start small))) ≡ taken (kept_in array draft)) × Held array draft × Apart (rows_in array draft)
-  kept z = text-kept (text (start small)) (short small) (few small) array draft c.read-lines.ensures.0 z
+  kept z = text-kept (text (start small)) (short small) (few small) array draft c.read_lines-d.ensures.0 z
 
 pub load_spec : {M : Type 1} → statement M
 load_spec =

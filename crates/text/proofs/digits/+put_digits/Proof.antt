@@ -63,6 +63,6 @@ pub +put_digits_spec : {M : Type 1} → statement M
     (λ c.
     let d = c.before.before.before.before.before.before in
     let s = d.before.before.before.before.before in
-    omega (arith, d.put-digits.ensures.behind, digits-room (s.args.k - 1) (s.args.n / 10)))
+    omega (arith, d.put_digits-end.ensures.behind, digits-room (s.args.k - 1) (s.args.n / 10)))
     (put-digits-same-length-2 t)
     (put-digits-returns-3 t)

@@ -13,10 +13,10 @@ use Rattle.text.proofs.digits.put_number.Statement.{statement}
 use Rattle.text.proofs.digits.put_number.Tie as tie
 
 -- the place within the buffer is as good as the given one
-placed : (w : tie.After-within-p) → let a = w.args in put_at a.out-1.now w.within-p.result (decimal a.n) ≡ put_at a.out-1.now a.at (decimal a.n)
+placed : (w : tie.After-within-p) → let a = w.args in put_at a.out.now w.within-p.result (decimal a.n) ≡ put_at a.out.now a.at (decimal a.n)
 placed w =
     let a = w.args in
-    ap (λ (y : ℕ). put_at a.out-1.now y (decimal a.n)) w.within-p.ensures ∙ put-within (decimal a.n) a.out-1.now a.at
+    ap (λ (y : ℕ). put_at a.out.now y (decimal a.n)) w.within-p.ensures ∙ put-within (decimal a.n) a.out.now a.at
 
 pub put_number_spec : {M : Type 1} → statement M
 put_number_spec =
@@ -30,7 +30,7 @@ put_number_spec =
     let p = c.before.before in
     let a = p.args in
     let e = one-digit 10 a.n (omega arith) (omega arith) in
-    (ap (λ (l : List ℕ). length l) (sym e), p.put.ensures ∙ ap (λ (l : List ℕ). put_at a.out-1.now a.at l) (sym e)))
+    (ap (λ (l : List ℕ). length l) (sym e), p.put.ensures ∙ ap (λ (l : List ℕ). put_at a.out.now a.at l) (sym e)))
     (λ c κs. search rules)
     (λ c κs. search rules)
     (λ c. omega (arith, c.within-p.ensures))

@@ -39,4 +39,4 @@ put_signed_spec =
     let d = decimal (4294967295 - a.n + 1) in
     let n : a.n ≤ 4294967295 = omega arith in
     rw (signed_high a.n w.if-n-lt2147483648.false n)
-    (omega (arith, m.put_number-2.ensures.0), m.put_number-2.ensures.1 ∙ ap (λ (t : List ℕ). put_at t (w.within-p.result + 1) d) q.put.ensures ∙ ap (λ (y : ℕ). put_at a.out-1.now y (45 ∷ d)) w.within-p.ensures ∙ put-within (45 ∷ d) a.out-1.now a.at)))
+    (omega (arith, m.put_number-2.ensures.0), m.put_number-2.ensures.1 ∙ ap (λ (t : List ℕ). put_at t (w.within-p.result + 1) d) q.put.ensures ∙ ap (λ (y : ℕ). put_at a.out.now y (45 ∷ d)) w.within-p.ensures ∙ put-within (45 ∷ d) a.out.now a.at)))

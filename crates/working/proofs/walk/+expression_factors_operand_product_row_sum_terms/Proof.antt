@@ -217,19 +217,19 @@ unfolding value_over sum_at expression_at
     λ t. terms-lts.spec (_, next-of.Learnt, _, token-at.Learnt, _, is-term.Learnt, _, value_of_lem.Learnt, _, product.Post, _, join-term.Learnt) _ terms.Post terms-Inv (λ tokens r cells w left a₀ rounds₀ a rounds. rounds)
     (λ c. loop-begins)
     (λ c κs. search rules)
-    (λ c. loop-stops c.before.before.before.loop.invariant pairs-say c.before.next-of.ensures c.if1.true)
+    (λ c. loop-stops c.loop-rounds.invariant pairs-say c.next_of-i.ensures c.if-i-eq0.true)
     (λ c κs. search rules)
     (λ c κs. search rules)
-    (λ c. let d = c.before.before in let n = d.before.before.before in loop-ends n.before.before.loop.invariant pairs-say n.next-of.ensures d.before.before.if1.false d.token-at.ensures c.before.is-term.ensures c.if2.true)
+    (λ c. let d = c.before.before in let n = d.before.before.before in loop-ends n.loop-rounds.invariant pairs-say n.next_of-i.ensures d.if-i-eq0.false d.token_at-t.ensures c.is_term.ensures c.if-not-is_term.true-raw)
     (λ c κs. search rules)
-    (λ c. let d = c.before.before.before in omega (arith, loop-inside d.before.before.before.before.before.loop.invariant refl d.token-at.ensures c.before.before.is-term.ensures c.before.if2.false))
+    (λ c. let d = c.before.before.before in omega (arith, loop-inside d.loop-rounds.invariant refl d.token_at-t.ensures c.is_term.ensures c.if-not-is_term.false-raw))
     (λ c κs. omega arith)
-    (λ c κs. sym c.before.before.before.is-term.ensures ∙ not-false _ c.before.before.if2.false)
+    (λ c κs. sym c.is_term.ensures ∙ not-false _ c.if-not-is_term.false-raw)
     (λ c. omega arith)
     (λ c. omega arith)
     (λ c.
     let v = c.before.before in
     let d = v.before.before.before in
     let n = d.before.before.before in
-    loop-goes n.before.before.loop.invariant pairs-say n.next-of.ensures d.before.before.if1.false d.token-at.ensures v.before.before.is-term.ensures v.before.if2.false (omega arith) (back w32 (record { sfits = v.value_of_lem.type_inv }) ∙ v.value_of_lem.ensures) c.before.product.ensures c.join-term.ensures)
-    (λ c. loop-spent c.before.loop.invariant (omega arith))
+    loop-goes n.loop-rounds.invariant pairs-say n.next_of-i.ensures d.if-i-eq0.false d.token_at-t.ensures v.is_term.ensures v.if-not-is_term.false-raw (omega arith) (back w32 (record { sfits = v.value_of.type_inv }) ∙ v.value_of.ensures) c.product.ensures c.join_term-a.ensures)
+    (λ c. loop-spent c.loop-rounds.invariant (omega arith))
