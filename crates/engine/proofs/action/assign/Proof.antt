@@ -20,7 +20,7 @@ start c = c.before.before.before
 
 -- the variables behind what is assigned
 abbrev held : tie.After-take_for-t → Vars
-held c = vars_of c.take_for-t.new.1.0 c.take_for-t.new.1.1.0 (start c).args.runs.now
+held c = vars_of c.take_for-t.new.r c.take_for-t.new.cells (start c).args.runs.now
 
 -- what is assigned
 abbrev side : tie.After-take_for-t → Answer Taken
@@ -39,7 +39,7 @@ wrote c =
 
 -- the variables behind it
 abbrev left : tie.After-write-x → Vars
-left c = vars_of c.write-x.new.0 c.write-x.new.1.0 c.write-x.new.1.1.0
+left c = vars_of c.write-x.new.r c.write-x.new.cells c.write-x.new.runs
 
 written : (c : tie.After-write-x) → IsWritten c.write-x.result (left c) (wrote c)
 written c = rw (c.target_of-to.ensures, back w32 (record { sfits = c.struct_told-1.given.1.1.0.1 })) at c.write-x.ensures

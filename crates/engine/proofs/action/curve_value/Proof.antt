@@ -36,6 +36,6 @@ curve_value_spec =
     (λ c. search rules)
     (λ c.
     let t = c.before.before in
-    let x = t.before.before.before in
+    let x = t.before.before in
     rw (c.whole_of.ensures, t.token_at.ensures, back w32 (record { sfits = t.in-Value.known_told-1-own.given.0.1 })) at c.curve_at.ensures ∙ reads x.before x.in-Value.is)
     (λ c. reads c.before c.in-Alarm.is))

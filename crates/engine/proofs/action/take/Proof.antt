@@ -27,7 +27,7 @@ abbrev removal : tie.After-take_oldest → Answer Changed
 removal c = let a = c.args in change_fifo a.r.now a.cells.now 1 (get_or a.set.now a.p 0) (pos 0)
 
 -- what it came to
-changes : (c : tie.After-take_oldest) → IsChanged c.take_oldest.result c.take_oldest.new.0 c.take_oldest.new.1.0 (removal c)
+changes : (c : tie.After-take_oldest) → IsChanged c.take_oldest.result c.take_oldest.new.r c.take_oldest.new.cells (removal c)
 changes c = rw c.token_at.ensures at c.take_oldest.ensures
 
 pub take_spec : {M : Type 1} → statement M
@@ -38,7 +38,7 @@ take_spec =
     (λ c κs. search rules)
     (λ c κs. search rules)
     (λ c.
-    let s = c.before.before.before in
+    let s = c in
     let a = s.args in
     λ runs. simp (taken_at, sym s.is_removal.ensures ∙ not-true _ s.if-not-is_removal.true-raw)
     (worked-taken c.work.result (vars_of a.r.now a.cells.now runs) (from_value_or_alarm (right_value a.set.now a.r.now a.cells.now a.p)) c.work.ensures))
@@ -50,9 +50,9 @@ take_spec =
     (λ c κs. search rules)
     (λ c.
     let f = c.before in
-    λ runs. simp (taken_at, removes f.before.before.before.before.before, changed-good f.take_oldest.result f.take_oldest.new.0 f.take_oldest.new.1.0 (removal f) (changes f) c.in-Value.is)
+    λ runs. simp (taken_at, removes f.before.before.before.before.before, changed-good f.take_oldest.result f.take_oldest.new.r f.take_oldest.new.cells (removal f) (changes f) c.in-Value.is)
     (refl, (back w32 (record { sfits = c.in-Value.known_told-1-own.given.0.1 }), (refl, refl))))
     (λ c.
     let f = c.before.before in
-    λ runs. simp (taken_at, removes f.before.before.before.before.before, changed-stop f.take_oldest.result f.take_oldest.new.0 f.take_oldest.new.1.0 (removal f) (changes f) c.in-Alarm.is, c.not_taken.ensures)
+    λ runs. simp (taken_at, removes f.before.before.before.before.before, changed-stop f.take_oldest.result f.take_oldest.new.r f.take_oldest.new.cells (removal f) (changes f) c.in-Alarm.is, c.not_taken.ensures)
     (refl, refl)))

@@ -32,11 +32,11 @@ abbrev world : tie.At-loop-left invariant-loop decreases-loop → List Bool → 
 world c m = let l = c.loop-left in world_of (vars_of l.r l.cells l.runs) l.locked m l.out l.f
 
 abbrev behind : tie.After-action-d invariant-loop decreases-loop → List Bool → World
-behind c m = let l = c.action-d.new.1.1.1 in world_of (vars_of l.0 l.1.0 l.1.1.0) l.1.1.1.0 m l.1.1.1.1.0 c.action-d.result.progress
+behind c m = world_of (vars_of c.action-d.new.r c.action-d.new.cells c.action-d.new.runs) c.action-d.new.locked m c.action-d.new.out c.action-d.result.progress
 
 -- what is left to do, all of it, and the action of a turn
 abbrev rest : tie.At-loop-left invariant-loop decreases-loop → List Bool → Answer Did
-rest c m = let a = c.args in actions_of a.set.now (lines_in a.lines.now).numbers a.cancelled.now a.number c.loop-left.false (world c m) c.loop-left.i
+rest c m = let a = c.args in actions_of a.set.now (lines_in a.lines.now).numbers a.cancelled.now a.number c.loop-left.left (world c m) c.loop-left.i
 
 abbrev all : tie.At-loop-left invariant-loop decreases-loop → List Bool → Answer Did
 all c m = let a = c.args in actions_of a.set.now (lines_in a.lines.now).numbers a.cancelled.now a.number max_actions (world_of (vars_of a.r.now a.cells.now a.runs.now) a.locked.now m a.out.now a.progress) a.p
@@ -64,7 +64,7 @@ actions_spec =
     let t = c.before.before.before.before.before.before.before in
     let f = not-true _ c.if-not-good.true-raw in (
       λ m. ends t.before m d.result (behind c.before m)
-          (rw (acts-stop _ _ _ _ _ _ (done-stop d.result (behind c.before m) (one t.before m) (d.ensures.0 m) f) t.loop-left.false t.loop-left-test.true) (f, refl)),
+          (rw (acts-stop _ _ _ _ _ _ (done-stop d.result (behind c.before m) (one t.before m) (d.ensures.0 m) f) t.loop-left.left t.loop-left-test.true) (f, refl)),
       (omega arith, d.ensures.1.1 ∙ t.loop-left.invariant.2),
     ))
     (λ c κs. search rules)
@@ -73,7 +73,7 @@ actions_spec =
     let d = s.action-d in
     let t = s.before.before.before.before.before.before.before in (
       λ m. ends t.before m d.result (behind s.before m)
-          (rw (acts-end _ _ _ _ _ _ _ (acted s m).1 t.loop-left.false t.loop-left-test.true (sym c.token_at.ensures ∙ c.if-token_at-eq-END.true)) (not-false _ s.if-not-good.false-raw, (refl, refl))),
+          (rw (acts-end _ _ _ _ _ _ _ (acted s m).1 t.loop-left.left t.loop-left-test.true (sym c.token_at.ensures ∙ c.if-token_at-eq-END.true)) (not-false _ s.if-not-good.false-raw, (refl, refl))),
       (omega arith, d.ensures.1.1 ∙ t.loop-left.invariant.2),
     ))
     (λ c. search rules)
@@ -81,8 +81,8 @@ actions_spec =
     (λ c.
     let s = c.before.before.before.before in
     let t = s.before.before.before.before.before.before.before in
-    (λ m. acts-on _ _ _ _ _ _ _ (acted s m).1 t.loop-left.false t.loop-left-test.true (λ z. c.if-token_at-eq-END.false (c.token_at.ensures ∙ z)) ∙ t.loop-left.invariant.0 m, omega arith, s.action-d.ensures.1.1 ∙ t.loop-left.invariant.2))
+    (λ m. acts-on _ _ _ _ _ _ _ (acted s m).1 t.loop-left.left t.loop-left-test.true (λ z. c.if-token_at-eq-END.false (c.token_at.ensures ∙ z)) ∙ t.loop-left.invariant.0 m, omega arith, s.action-d.ensures.1.1 ∙ t.loop-left.invariant.2))
     (λ c κs. search rules)
     (λ c.
     let b = c.before.before in
-    (λ m. ends b m c.not_done.result (world_of (vars_of b.loop-left.r b.loop-left.cells b.loop-left.runs) b.loop-left.locked m b.loop-left.out c.not_done.result.progress) (rw (acts-none _ _ _ _ _ _ b.loop-left.false c.loop-left-test.false, c.not_done.ensures) (refl, refl)), rw c.not_done.ensures (omega arith, b.loop-left.invariant.2))))
+    (λ m. ends b m c.not_done.result (world_of (vars_of b.loop-left.r b.loop-left.cells b.loop-left.runs) b.loop-left.locked m b.loop-left.out c.not_done.result.progress) (rw (acts-none _ _ _ _ _ _ b.loop-left.left c.loop-left-test.false, c.not_done.ensures) (refl, refl)), rw c.not_done.ensures (omega arith, b.loop-left.invariant.2))))

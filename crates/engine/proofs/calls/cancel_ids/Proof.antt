@@ -9,6 +9,7 @@ use Rattle.engine.specs.Calls.{reset_cancelled}
 use Rattle.engine.proofs.CallLaws.{reset-none, reset-id, reset-ids}
 use Rattle.engine.proofs.calls.cancel_ids.Statement.{statement}
 use Rattle.engine.proofs.calls.cancel_ids.Tie as tie
+use Rattle.engine.proofs.calls.cancel_ids.Lts.{then-not-ids, else-not-ids}
 
 abbrev invariant-loop : tie.invariant-loop-k
 invariant-loop now-cancelled₀ count items k₀ now-cancelled k = (now-cancelled ≡ reset_cancelled items now-cancelled₀ k) × (k ≤ count)
@@ -30,5 +31,11 @@ cancel_ids_spec =
     (λ c. omega arith)
     (λ c.
     let i = c.loop-k.invariant.0 in
-    (⊎_elim (λ w. w.1 ∙ reset-id _ _ _ _ i (not-true _ w.0.taken)) (λ w. w.1 ∙ reset-ids _ _ _ _ i (not-false _ w.0.left)) c.if-not-ids.branch, omega arith))
+    (
+      elim c.if-not-ids.branch [
+        | then-not-ids w ↦ w.now_cancelled-is ∙ reset-id _ _ _ _ i (not-true _ w.if-not-ids.true-raw)
+        | else-not-ids w ↦ w.now_cancelled-is ∙ reset-ids _ _ _ _ i (not-false _ w.if-not-ids.false-raw)
+      ],
+      omega arith,
+    ))
     (λ c. let e : c.loop-k.k ≡ c.args.lines.count = omega arith in rw e at c.loop-k.invariant.0))

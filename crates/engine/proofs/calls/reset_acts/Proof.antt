@@ -10,6 +10,7 @@ use Rattle.engine.specs.ActCount.{reset_acts}
 use Rattle.engine.proofs.CallLaws.{recount-none, recount-live, recount-cancelled}
 use Rattle.engine.proofs.calls.reset_acts.Statement.{statement}
 use Rattle.engine.proofs.calls.reset_acts.Tie as tie
+use Rattle.engine.proofs.calls.reset_acts.Lts.{then-not-cancelled-k, else-not-cancelled-k}
 
 abbrev invariant-loop : tie.invariant-loop-k
 invariant-loop cancelled next₀ k₀ next k = (next ≡ reset_acts cancelled next₀ k) × (k ≤ max_lines)
@@ -31,5 +32,11 @@ reset_acts_spec =
     (λ c. omega arith)
     (λ c.
     let i = c.loop-k.invariant.0 in
-    (⊎_elim (λ w. w.1 ∙ recount-live _ _ _ _ i (not-true _ w.0.taken)) (λ w. w.1 ∙ recount-cancelled _ _ _ _ i (not-false _ w.0.left)) c.if-not-cancelled-k.branch, omega arith))
+    (
+      elim c.if-not-cancelled-k.branch [
+        | then-not-cancelled-k w ↦ w.next-is ∙ recount-live _ _ _ _ i (not-true _ w.if-not-cancelled-k.true-raw)
+        | else-not-cancelled-k w ↦ w.next-is ∙ recount-cancelled _ _ _ _ i (not-false _ w.if-not-cancelled-k.false-raw)
+      ],
+      omega arith,
+    ))
     (λ c. let e : c.loop-k.k ≡ max_lines = omega arith in rw e at c.loop-k.invariant.0))

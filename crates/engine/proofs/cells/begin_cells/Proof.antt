@@ -32,7 +32,7 @@ begin_cells_spec =
     let s = g.before.before in
     let a = s.args in
     let d = a.cells.now in
-    let w = take 30 d ++ (g.grow_timers.new.0 ++ drop 92 (drop 30 d)) in
-    let e = replaced d g.grow_timers.new.0 w s.requires.0 refl ∙ g.grow_timers.ensures ∙ ap (λ (l : List ℤ). grown_cells a.runs.now l 8) (all-behind d s.requires.0) in
-    begun (input_cells a.word 16) a.values.now a.lent.now (grown_cells a.runs.now (drop 30 d) 8) w x.put_inputs.new.0 y.copy_at.new.0 z.copy_at-2.new.0 (length-inputs a.word 16) s.requires.1.0 s.requires.1.1 e
+    let w = take 30 d ++ (g.grow_timers.new.cells ++ drop 92 (drop 30 d)) in
+    let e = replaced d g.grow_timers.new.cells w s.requires.0 refl ∙ g.grow_timers.ensures ∙ ap (λ (l : List ℤ). grown_cells a.runs.now l 8) (all-behind d s.requires.0) in
+    begun (input_cells a.word 16) a.values.now a.lent.now (grown_cells a.runs.now (drop 30 d) 8) w x.put_inputs.new.cells y.copy_at.new.to z.copy_at-2.new.to (length-inputs a.word 16) s.requires.1.0 s.requires.1.1 e
     x.put_inputs.ensures y.copy_at.ensures z.copy_at-2.ensures))

@@ -17,4 +17,4 @@ kept_cells_spec =
     (λ c. search rules)
     (λ c. search rules)
     (λ c κs. search rules)
-    (λ c. c.copy_at.ensures ∙ kept input_count state_cells c.args.cells.now (replicate state_cells (pos 0)) c.all-1.given.0 refl))
+    (λ c. c.copy_at.ensures ∙ kept input_count state_cells c.args.cells.now (replicate state_cells (pos 0)) c.all-1.given refl))

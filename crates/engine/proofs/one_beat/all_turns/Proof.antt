@@ -16,7 +16,7 @@ use Rattle.engine.proofs.one_beat.all_turns.Statement.{statement}
 use Rattle.engine.proofs.one_beat.all_turns.Tie as tie
 
 abbrev start : tie.After-turns-d → tie.Start
-start c = c.before.before.before.before.before.before.before.before.before.before.before.before.before.before.before.before
+start c = c.before.before.before.before.before.before.before.before.before.before.before.before.before.before.before
 
 -- what is held before
 abbrev before : tie.After-turns-d → Held
@@ -27,7 +27,7 @@ abbrev all : tie.After-turns-d → Answer Turned
 all c = let a = (start c).args in turns_held a.set.now (lines_in a.lines.now) a.cancelled.now (before c) a.automatic a.inputs a.values.now a.lent.now
 
 abbrev world : tie.After-turns-d → World
-world c = let o = c.turns-d.new.1.1.1.1 in world_of (vars_of o.0 o.1.0 o.1.1.0) o.1.1.1.0 o.1.1.1.1.0 o.1.1.1.1.1.0 c.turns-d.result.progress
+world c = world_of (vars_of c.turns-d.new.r c.turns-d.new.cells c.turns-d.new.runs) c.turns-d.new.locked c.turns-d.new.memories c.turns-d.new.out c.turns-d.result.progress
 
 came : (c : tie.After-turns-d) → IsTurned c.turns-d.result (world c) (all c)
 came c = rw c.begin_cells.ensures at c.turns-d.ensures.0
@@ -56,12 +56,11 @@ all_turns_spec =
     let i = p.before.before.before.before.before in
     let n = i.before in
     let d = n.before.before.before in
-    let o = d.turns-d.new.1.1.1.1 in
     let g = not-false _ i.if-not-good.false-raw in
     let w = turned-good d.turns-d.result (world d) (all d) (came d) g in
     let b = p.copy_orders.ensures in
-    let v = vars_of o.0 o.1.0 o.1.1.0 in
+    let v = vars_of d.turns-d.new.r d.turns-d.new.cells d.turns-d.new.runs in
     let f = d.turns-d.result.progress in (
-      answers (before d) (start d).args.kept (all d) v o.1.1.1.0 o.1.1.1.1.0 o.1.1.1.1.1.0 f _ w.1 b.1 c.finished.ensures,
-      leaves (before d) (start d).args.kept (all d) v o.1.1.1.0 o.1.1.1.1.0 o.1.1.1.1.1.0 f _ w.1 b.1 c.finished.ensures (counts-done (start d).args.acts.now d.turns-d.result n.counted.ensures n.count_acts.ensures g) b.0,
+      answers (before d) (start d).args.kept (all d) v d.turns-d.new.locked d.turns-d.new.memories d.turns-d.new.out f _ w.1 b.1 c.finished.ensures,
+      leaves (before d) (start d).args.kept (all d) v d.turns-d.new.locked d.turns-d.new.memories d.turns-d.new.out f _ w.1 b.1 c.finished.ensures (counts-done (start d).args.acts.now d.turns-d.result n.counted.ensures n.count_acts.ensures g) b.0,
     )))

@@ -56,7 +56,7 @@ write_lines_spec =
     let b = c.before.before.before.before.before.before in
     let d = b.before.before.before in
     let k = b.loop-k.k in
-    (line-written d.sound_lines-all.result (long d) k (omega arith) b.loop-k.lines p.put.new.0 b.loop-k.invariant.2 (b.loop-k.invariant.0 ∙ sym (some (first_line + line_places * k) d)) p.put.ensures ∙ some (first_line + line_places * (k + 1)) d, omega arith, line-long d.sound_lines-all.result (long d) k (omega arith) b.loop-k.lines p.put.new.0 b.loop-k.invariant.2 p.put.ensures))
+    (line-written d.sound_lines-all.result (long d) k (omega arith) b.loop-k.lines p.put.new.lines b.loop-k.invariant.2 (b.loop-k.invariant.0 ∙ sym (some (first_line + line_places * k) d)) p.put.ensures ∙ some (first_line + line_places * (k + 1)) d, omega arith, line-long d.sound_lines-all.result (long d) k (omega arith) b.loop-k.lines p.put.new.lines b.loop-k.invariant.2 p.put.ensures))
     (λ c. c.loop-k.invariant.2 ∙ sym c.requires)
     (λ c.
     let b = c.before in

@@ -22,8 +22,8 @@ decreases-loop set curves numbers items count k₀ k = count - k
 
 -- by the curves of the set
 asked : (c : tie.After-curves_in-curves invariant-loop decreases-loop) → let a = c.args in let l = a.lines in
-    all_known a.set.now (asked_table true l.numbers-1 c.curves_in-curves.result) l.count 0 ≡ all_known a.set.now (set_table a.set.now l.numbers-1) l.count 0
-asked c = let a = c.args in let l = a.lines in ap (λ (curves : List Bool). all_known a.set.now (asked_table true l.numbers-1 curves) l.count 0) c.curves_in-curves.ensures
+    all_known a.set.now (asked_table true l.numbers c.curves_in-curves.result) l.count 0 ≡ all_known a.set.now (set_table a.set.now l.numbers) l.count 0
+asked c = let a = c.args in let l = a.lines in ap (λ (curves : List Bool). all_known a.set.now (asked_table true l.numbers curves) l.count 0) c.curves_in-curves.ensures
 
 pub all_known_spec : {M : Type 1} → statement M
 all_known_spec =
@@ -45,8 +45,8 @@ all_known_spec =
     known-unnamed s.args.set.now _ size s.requires b.loop-k.k (omega arith) c.token_at-start.ensures)
     (λ c.
     let b = c.before.before.before.before.before.before.before.before in
-    sym (known-not _ _ _ _ _ _ c.token_at-start.ensures c.before.Line-known.ensures (omega arith) (not-true _ c.if-not-line_known.true-raw)) ∙ b.loop-k.invariant.0 ∙ asked b.before.before.before)
+    sym (known-not _ _ _ _ _ _ c.token_at-start.ensures c.line_known.ensures (omega arith) (not-true _ c.if-not-line_known.true-raw)) ∙ b.loop-k.invariant.0 ∙ asked b.before.before.before)
     (λ c. omega arith)
     (λ c. omega arith)
-    (λ c. (sym (known_on _ _ _ _ _ _ c.token_at-start.ensures c.before.Line-known.ensures (omega arith) (not-false _ c.if-not-line_known.false-raw)) ∙ c.loop-k.invariant.0, omega arith))
+    (λ c. (sym (known_on _ _ _ _ _ _ c.token_at-start.ensures c.line_known.ensures (omega arith) (not-false _ c.if-not-line_known.false-raw)) ∙ c.loop-k.invariant.0, omega arith))
     (λ c. let b = c.before in sym (known-none _ _ _ _ (omega arith)) ∙ b.loop-k.invariant.0 ∙ asked b.before.before.before))

@@ -10,6 +10,7 @@ use Rattle.engine.specs.Set.{curves_sound}
 use Rattle.engine.proofs.SetLaws.{curves-none, curves-wrong, curves-on, curves-end}
 use Rattle.engine.proofs.set.curves_sound.Statement.{statement}
 use Rattle.engine.proofs.set.curves_sound.Tie as tie
+use Rattle.engine.proofs.set.curves_sound.Lts.{then-curve_start-gt0+else-not-is_curve, else-curve_start-gt0}
 
 abbrev invariant-loop : tie.invariant-loop-n
 invariant-loop set lines k₀ n₀ k n = (curves_sound set (suc max_curves - n) n k ≡ curves_sound set max_curves 1 lines) × (n ≤ suc max_curves) × (k ≤ max_lines + n)
@@ -37,8 +38,8 @@ curves_sound_spec =
     (λ c.
     let s = c.before in
     let b = s.before.before in
-    ⊎_elim
-    (λ w. (rw w.3 (sym (curves-on _ b.loop-n.n b.loop-n.k _ (omega arith) s.curve_start.ensures w.0.taken _ w.1.ensures (not-false _ w.2.left)) ∙ b.loop-n.invariant.0), omega arith, omega (arith, w.3)))
-    (λ w. (rw w.1 (sym (curves-none _ b.loop-n.n b.loop-n.k _ (omega arith) s.curve_start.ensures w.0.left) ∙ b.loop-n.invariant.0), omega arith, omega (arith, w.1)))
-    c.if-curve_start-gt0.branch)
+    elim c.if-curve_start-gt0.branch [
+      | then-curve_start-gt0+else-not-is_curve w ↦ (rw w.k-is (sym (curves-on _ b.loop-n.n b.loop-n.k _ (omega arith) s.curve_start.ensures w.if-curve_start-gt0.true _ w.is_curve.ensures (not-false _ w.if-not-is_curve.false-raw)) ∙ b.loop-n.invariant.0), omega arith, omega (arith, w.k-is))
+      | else-curve_start-gt0 w ↦ (rw w.k-is (sym (curves-none _ b.loop-n.n b.loop-n.k _ (omega arith) s.curve_start.ensures w.if-curve_start-gt0.false) ∙ b.loop-n.invariant.0), omega arith, omega (arith, w.k-is))
+    ])
     (λ c. sym (curves-end _ _ _ _ (omega arith)) ∙ c.loop-n.invariant.0))

@@ -10,6 +10,7 @@ use Rattle.tokens.specs.Token.{set_size}
 use Rattle.tokens.specs.BetweenLaws.{lies-inside}
 use Rattle.engine.proofs.set.names_known.Statement.{statement}
 use Rattle.engine.proofs.set.names_known.Tie as tie
+use Rattle.engine.proofs.set.names_known.Lts.{then-is_naming+else-not-name_known, else-is_naming}
 
 abbrev invariant-loop : tie.invariant-loop-left
 invariant-loop set numbers curves asked start p₀ left₀ p left = names_known set (asked_table asked numbers curves) left p ≡ names_known set (asked_table asked numbers curves) set_size start
@@ -48,7 +49,8 @@ names_known_spec =
     (λ c.
     let b = c.before.before.before.before.before.before in
     let a = b.args in
-    ⊎_elim (λ w. sym (names-on _ (asked_table a.asked a.numbers.now a.curves.now) _ _ c.token_at-t.ensures c.if-t-eq-END.false (sym c.is_naming.ensures ∙ w.0.taken) _ _ w.2.ensures w.3.ensures _ w.4.ensures (not-false _ w.5.left) b.loop-left.false (omega arith)) ∙ b.loop-left.invariant)
-    (λ w. sym (names-other _ _ _ _ c.token_at-t.ensures c.if-t-eq-END.false (sym c.is_naming.ensures ∙ w.left) b.loop-left.false (omega arith)) ∙ b.loop-left.invariant)
-    c.if-is_naming.branch)
+    elim c.if-is_naming.branch [
+      | then-is_naming+else-not-name_known w ↦ sym (names-on _ (asked_table a.asked a.numbers.now a.curves.now) _ _ c.token_at-t.ensures c.if-t-eq-END.false (sym c.is_naming.ensures ∙ w.if-is_naming.true) _ _ w.token_at.ensures w.whole_of-n.ensures _ w.name_known.ensures (not-false _ w.if-not-name_known.false-raw) b.loop-left.left (omega arith)) ∙ b.loop-left.invariant
+      | else-is_naming w ↦ sym (names-other _ _ _ _ c.token_at-t.ensures c.if-t-eq-END.false (sym c.is_naming.ensures ∙ w.if-is_naming.false) b.loop-left.left (omega arith)) ∙ b.loop-left.invariant
+    ])
     (λ c. sym (names-none _ _ _ _ (omega arith)) ∙ c.loop-left.invariant))

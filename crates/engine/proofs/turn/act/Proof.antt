@@ -29,10 +29,10 @@ act_spec =
     let i = b.before in
     let a = i.args in
     let d = c.actions in
-    let o = d.new.1.1.1 in (
+    let o = d.new in (
       λ m es automatic.
           rw (not-false a.yes i.if-not-yes.false-raw)
-          (done-turned d.result (world_of (vars_of o.0 o.1.0 o.1.1.0) o.1.1.1.0 m o.1.1.1.1.0 d.result.progress)
+          (done-turned d.result (world_of (vars_of o.r o.cells o.runs) o.locked m o.out d.result.progress)
           (actions_of a.set.now (lines_in a.lines.now).numbers a.cancelled.now a.l.number max_actions (counted (world_of (vars_of a.r.now a.cells.now a.runs.now) a.locked.now m a.out.now a.progress) a.k) a.l.actions)
           es (rw b.line_bit.ensures at (d.ensures.0 m))),
       (omega arith, omega (arith, d.ensures.1.1, b.line_bit.ensures, next_bit a.k)),

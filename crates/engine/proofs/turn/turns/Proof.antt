@@ -40,7 +40,7 @@ abbrev world : tie.At-loop-k invariant-loop decreases-loop → World
 world c = let l = c.loop-k in world_of (vars_of l.r l.cells l.runs) l.locked l.memories l.out l.f
 
 abbrev behind : tie.After-turn-d invariant-loop decreases-loop → World
-behind c = let o = c.turn-d.new.1.1.1.1 in world_of (vars_of o.0 o.1.0 o.1.1.0) o.1.1.1.0 o.1.1.1.1.0 o.1.1.1.1.1.0 c.turn-d.result.progress
+behind c = world_of (vars_of c.turn-d.new.r c.turn-d.new.cells c.turn-d.new.runs) c.turn-d.new.locked c.turn-d.new.memories c.turn-d.new.out c.turn-d.result.progress
 
 -- the turns left, all of them, and the turn of a line
 abbrev rest : tie.At-loop-k invariant-loop decreases-loop → Answer Turned
@@ -66,7 +66,7 @@ below c = omega (arith, (start c.before).requires, c.count_of-count.ensures)
 
 -- what a turn came to
 came : (c : tie.After-turn-d invariant-loop decreases-loop) → IsTurned c.turn-d.result (behind c) (one c.before.before.before.before.before.before.before.before.before)
-came c = rw c.before.before.before.before.before.before.before.Line-of.ensures at c.turn-d.ensures.0
+came c = rw c.line_of-l.ensures at c.turn-d.ensures.0
 
 turned : (c : tie.Else-not-good invariant-loop decreases-loop) → (es : List Entry) × (one c.before.before.before.before.before.before.before.before.before.before ≡ good (record { world = behind c.before; entries = es }))
 turned c = turned-good c.turn-d.result (behind c.before) (one c.before.before.before.before.before.before.before.before.before.before) (came c.before) (not-false _ c.if-not-good.false-raw)

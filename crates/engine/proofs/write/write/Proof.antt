@@ -45,4 +45,4 @@ write_spec =
     let s = f.before.before.before in
     let a = s.args in
     simp (write_to, write_inside, holds s, ne_eqb _ _ f.if-w-eq-R.false, sym f.is_fifo.ensures ∙ f.if-is_fifo.false)
-    (celled-written c.write_cell.result a.r.now c.write_cell.new.0 c.write_cell.new.1.0 (write_cell a.cells.now a.runs.now a.w a.i a.v) (rw (back w32 s.ranges.v) at c.write_cell.ensures))))
+    (celled-written c.write_cell.result a.r.now c.write_cell.new.cells c.write_cell.new.runs (write_cell a.cells.now a.runs.now a.w a.i a.v) (rw (back w32 s.ranges.v) at c.write_cell.ensures))))

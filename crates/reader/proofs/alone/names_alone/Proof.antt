@@ -14,7 +14,7 @@ module _ (c : tie.After-lay) where
   abbrev tokens : List ℕ
   tokens = c.args.tokens.now
 
-  laid : c.lay.new.0 ≡ alone tokens
+  laid : c.lay.new.row ≡ alone tokens
   laid = c.lay.ensures ∙ ap (λ (x : List ℕ). put_at x 0 tokens) c.requires.0
 
 pub names_alone_spec : {M : Type 1} → statement M

@@ -36,7 +36,7 @@ module _ (c : tie.After-write_tokens-w) where
   before = start.args.s.now
 
   abbrev array : List ℕ
-  array = c.write_tokens-w.new.1.0
+  array = c.write_tokens-w.new.s
 
   abbrev line : Numbered
   line = record { place = start.args.k; body = start.args.body.now }

@@ -56,7 +56,7 @@ module _ (c : tie.After-take_line-d invariant-loop decreases-loop) where
   abbrev line : tie.After-line_bounds-b invariant-loop decreases-loop
   line = c.before.before.before.before
 
-  said : Says (rows_from (kept_in (begun line).loop.s (begun line).loop.d) (numbered (begun line).loop.k (body line ∷ []))) c.take_line-d.new.1.0 c.take_line-d.result
+  said : Says (rows_from (kept_in (begun line).loop.s (begun line).loop.d) (numbered (begun line).loop.k (body line ∷ []))) c.take_line-d.new.s c.take_line-d.result
   said = rw (is_body line) at c.take_line-d.ensures.0
 
 pub read_lines_spec : {M : Type 1} → statement M
@@ -88,7 +88,7 @@ read_lines_spec =
     (λ c.
     let t = c.before in
     let b = begun (line t) in
-    (subst (λ (o : Outcome). Says o t.take_line-d.new.1.0 t.take_line-d.result) (whole (line t)) (line-stop _ _ b.loop-i.invariant.1 _ _ _ _ (said t) (behind (line t)) c.if-code-ne0.true), t.take_line-d.ensures.1))
+    (subst (λ (o : Outcome). Says o t.take_line-d.new.s t.take_line-d.result) (whole (line t)) (line-stop _ _ b.loop-i.invariant.1 _ _ _ _ (said t) (behind (line t)) c.if-code-ne0.true), t.take_line-d.ensures.1))
     (λ c. omega arith)
     (λ c. omega (arith, inside (line c.before.before)))
     (λ c. omega (arith, inside (line c.before.before)))

@@ -41,7 +41,7 @@ module _ (c : tie.After-read_lines-d) where
   small = c.before.before.before.before
 
   abbrev array : List ℕ
-  array = c.read_lines-d.new.1.0
+  array = c.read_lines-d.new.s
 
   abbrev draft : Draft
   draft = c.read_lines-d.result
