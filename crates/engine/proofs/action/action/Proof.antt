@@ -56,9 +56,9 @@ action_spec =
       (omega arith, c.assign.ensures.1.1),
     ))
     (λ c κs. search rules)
-    (λ c κs. (place c.before.before.before.before.before.before.before, search rules))
+    (λ c κs. (place c.before.before.before.before.before, search rules))
     (λ c.
-    let d = c.before.before.before.before in
+    let d = c.before.before in
     let v = d.before.before in
     let e = v.before.before in
     let a = e.args in

@@ -52,7 +52,7 @@ known_held_spec =
     let n = c.before.before.before.before.before.before.before.before.before.before.before in
     let i = n.before in
     let b = i.before.before in
-    (sound-few _ (lines-sound b.before.before), (ap (λ (x : Samples). length x.values-1) n.sample_all-s.ensures ∙ samples-length _ _, (inputs-length _ (inputs i), b.if-orders-lt-ORDERS.false))))
+    (sound-few _ (lines-sound b.before.before), (ap (λ (x : Samples). length x.values) n.sample_all-s.ensures ∙ samples-length _ _, (inputs-length _ (inputs i), b.if-orders-lt-ORDERS.false))))
     (λ c. search rules)
     (λ c.
     let m = c.before.before in

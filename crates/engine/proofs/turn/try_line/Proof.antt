@@ -56,7 +56,7 @@ try_line_spec =
     (λ c.
     let m = c.before.before.before.before.before.before in
     let n = m.before in
-    let s = n.before.before.before in
+    let s = n.before.before.before.before in
     let a = s.args in
     (λ automatic. rw (untried a.set.now (lines_in a.lines.now).numbers a.cancelled.now automatic a.l a.k (world s) (not-tried n)) (rw m.acts_now-yes.ensures at (c.act.ensures.0 a.memories.now [] automatic)), c.act.ensures.1))
     (λ c κs. search rules)
@@ -64,8 +64,8 @@ try_line_spec =
     (λ c κs. search rules)
     (λ c.
     let i = c.before.before.before in
-    let n = i.before.before.before.before in
-    let s = n.before.before.before in
+    let n = i.before.before in
+    let s = n.before.before.before.before in
     let a = s.args in
     (λ automatic. rw (stops a.set.now (lines_in a.lines.now).numbers a.cancelled.now automatic a.l a.k (world s) (tried n) (failed i), c.not_done.ensures) (refl, c.alarm_of.ensures ∙ ap alarm_of (back w32 (record { sfits = c.struct_told-1.given.1.0.1 }))), rw c.not_done.ensures (same_turn a.k a.progress s.requires.1)))
     (λ c κs. search rules)
@@ -78,8 +78,8 @@ try_line_spec =
     let m = j.before in
     let q = m.before in
     let i = q.before.before in
-    let n = i.before.before.before.before in
-    let s = n.before.before.before in
+    let n = i.before.before in
+    let s = n.before.before.before.before in
     let a = s.args in
     let y = yes q in
     let u = j.acts_now-yes-2.ensures ∙ ap (acts a.l.keyword (get_or a.memories.now a.k false)) y in

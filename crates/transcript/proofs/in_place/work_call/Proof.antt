@@ -35,7 +35,7 @@ work_call_spec =
     let y = l.before in
     let s = y.before.before.before.before.before.before.before.before.before.before in
     let a = s.args in
-    let held = h.hold.ensures _ (ap (λ (k : Counts). k.channels-1) n.count_call-next.ensures) in
+    let held = h.hold.ensures _ (ap (λ (k : Counts). k.channels) n.count_call-next.ensures) in
     let totals = held-called a.counts n.count_call-next.ensures held (before s).totals.state ∙ ap (calling (before s).totals) (l.call_left-left.ensures ∙ ap (call_left a.reset a.set.now) y.state_in-before.ensures) in
     fed (call-last t a.set.now (before s) a.reset totals i.if-next-eq-LAST_LINE.true c.stop.ensures) (ended-in a.set.now n.count_call-next.result (sym held) e.put_end-end.ensures))
     (λ c t.
@@ -45,6 +45,6 @@ work_call_spec =
     let y = l.before in
     let s = y.before.before.before.before.before.before.before.before.before.before in
     let a = s.args in
-    let held = h.hold.ensures _ (ap (λ (k : Counts). k.channels-1) n.count_call-next.ensures) in
+    let held = h.hold.ensures _ (ap (λ (k : Counts). k.channels) n.count_call-next.ensures) in
     let totals = held-called a.counts n.count_call-next.ensures held (before s).totals.state ∙ ap (calling (before s).totals) (l.call_left-left.ensures ∙ ap (call_left a.reset a.set.now) y.state_in-before.ensures) in
     fed (call-more t a.set.now (before s) a.reset totals c.if-next-eq-LAST_LINE.false) put-nothing))
