@@ -4,8 +4,7 @@
 usage: python3 tools/respell.py        at the top, once, behind port.py
 
 It goes by text. Each name that begins with a small letter and has a capital in it, as setSize, becomes set_size,
-in definitions, laws, proofs, clauses, comments, must-fail edits, wrong answers and documents; strings and literals of
-.rt files stay. A lemma that would then have its definition's name gets `_lem` behind it (LEMMAS).
+in definitions, laws, proofs, clauses, comments, must-fail edits, wrong answers and documents; strings stay, and characters of .rt files. A lemma that would then have its definition's name gets `_lem` behind it (LEMMAS).
 Functions of src/, exported names, inputs and outputs are in snake case already and keep their names.
 """
 
@@ -19,8 +18,9 @@ none_above number_fits one_more row_room rows_behind same_bytes value_taken""".s
 # capitals that are no word: bound names of one letter more, bytes
 KEPT = {"nA", "nC", "nE", "nS"}
 WORD = re.compile(r"(?<![\w'])[a-z][\w']*")
-# in a .rt file: strings and characters, which stay
-LITERAL = re.compile(r'"(?:\\.|[^"\\])*"|b?\'(?:\\.[^\']*|[^\'\\])\'')
+# strings, and in a .rt file characters: they stay
+STRING = re.compile(r'"(?:\\.|[^"\\])*"')
+LITERAL = re.compile(STRING.pattern + r"|b?'(?:\\.[^']*|[^'\\])'")
 
 
 def snake(w):
@@ -41,12 +41,12 @@ def turned(text, known=None):
     return WORD.sub(one, text)
 
 
-def turned_source(text):
+def turned_around(text, stays, known=None):
     out, at = [], 0
-    for m in LITERAL.finditer(text):
-        out += [turned(text[at : m.start()]), m.group(0)]
+    for m in stays.finditer(text):
+        out += [turned(text[at : m.start()], known), m.group(0)]
         at = m.end()
-    return "".join(out + [turned(text[at:])])
+    return "".join(out + [turned(text[at:], known)])
 
 
 def parted(line):
@@ -77,16 +77,16 @@ def main():
             old = f.read()
         if p.endswith(".antt"):
             known |= {w for w in WORD.findall(old) if is_camel(w)}
-            new = turned("".join(lemma.sub(r"\1_lem", code) + rest for code, rest in map(parted, old.splitlines(keepends=True))))
+            new = turned_around("".join(lemma.sub(r"\1_lem", code) + rest for code, rest in map(parted, old.splitlines(keepends=True))), STRING)
         else:
-            new = turned_source(old)
+            new = turned_around(old, LITERAL)
         texts[p] = (old, new)
     for p in files("crates", "tests/wrong", "README.md", "docs"):
         if not p.endswith((".edit", ".md")):
             continue
         with open(p, encoding="utf-8") as f:
             old = f.read()
-        texts[p] = (old, turned(old, known))
+        texts[p] = (old, turned_around(old, STRING, known))
     changed = 0
     for p, (old, new) in texts.items():
         if old != new:

@@ -49,7 +49,7 @@ use Rattle.demands.specs.Run.{engine_run, step, run_from}
 
 -- a set of four lines
 abbrev pub text : String
-text = "ID=1 EVERY $A_IN[1]==1 DO M=7\n_id=2 WHEN $A_IN[1]==1 DO M=8\n_ids=3 FROM $A_IN[1]==1 DO $A_OUT[1]=1\n_ids=4 WHENEVER $A_IN[2]==1 DO LOCK(1)"
+text = "ID=1 EVERY $A_IN[1]==1 DO M=7\nID=2 WHEN $A_IN[1]==1 DO M=8\nIDS=3 FROM $A_IN[1]==1 DO $A_OUT[1]=1\nIDS=4 WHENEVER $A_IN[2]==1 DO LOCK(1)"
 
 -- a beat in this mode with this input word and this order buffer, each reading 0 volts and each position 0
 abbrev pub beat_with : Bool → ℕ → List ℕ → Call
@@ -65,7 +65,7 @@ words cs = map (λ c. (c.1.code, c.1.acted)) (engine_run (load_set (bytes text))
 
 -- a set of two lines: one acts while channel 1 has 2.5 volts, one divides by 0 while input 1 is on
 abbrev pub coupled : String
-coupled = "IDS=1 WHENEVER $A_INA[1]==2.5 DO $A_OUT[1]=1\n_ids=2 WHENEVER $A_IN[1]==1 DO $R[1]=1/0"
+coupled = "IDS=1 WHENEVER $A_INA[1]==2.5 DO $A_OUT[1]=1\nIDS=2 WHENEVER $A_IN[1]==1 DO $R[1]=1/0"
 
 -- channel 1 sends this, the others 0 volts
 abbrev pub sending : ℕ → List ℤ → Reading → Call

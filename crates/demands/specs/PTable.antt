@@ -112,7 +112,7 @@ expected c = (0, 0, c.gives, c.r1)
 
 -- a WHEN line that writes a variable and gives orders, and a later line that raises 31 while input 2 is on
 abbrev pub undone : String
-undone = "ID=1 WHEN $A_IN[1]==1 DO $R[1]=$R[1]+1 POS[X]=$R[1] M=7\n_id=2 WHENEVER $A_IN[2]==1 DO $R[2]=1/0"
+undone = "ID=1 WHEN $A_IN[1]==1 DO $R[1]=$R[1]+1 POS[X]=$R[1] M=7\nID=2 WHENEVER $A_IN[2]==1 DO $R[2]=1/0"
 
 -- 1/3 is 0.333, -1/3 is -0.333; 0.001*0.5 is 0
 -- 1000000*1 passes; 1000000+0.001 gives 30; 1/0 gives 31
@@ -130,7 +130,7 @@ cases =
     ∷ record { text = "ID=1 DO POS[X]=1/0"; calls = on 0 ∷ []; gives = gives zero_divisor 0 [] ∷ []; r1 = pos 0 }
     ∷ record { text = "ID=1 DO $AC_MARKER[0]=1.999 $AC_MARKER[1]=-1.999 POS[X]=$AC_MARKER[0] POS[Y]=$AC_MARKER[1]"; calls = on 0 ∷ []; gives = gives 0 1 ((1, 1, 1, pos 2000) ∷ (1, 1, 2, negsuc 1999) ∷ []) ∷ []; r1 = pos 0 }
     ∷ record {
-      text = "ID=1 EVERY $A_IN[1]==1 DO $R[1]=1\n_id=2 WHEN $A_IN[1]==1 DO $R[1]=1\n_id=3 FROM $A_IN[1]==1 DO $R[1]=1\n_id=4 WHENEVER $A_IN[1]==1 DO $R[1]=1";
+      text = "ID=1 EVERY $A_IN[1]==1 DO $R[1]=1\nID=2 WHEN $A_IN[1]==1 DO $R[1]=1\nID=3 FROM $A_IN[1]==1 DO $R[1]=1\nID=4 WHENEVER $A_IN[1]==1 DO $R[1]=1";
       calls = on 1 ∷ on 1 ∷ on 0 ∷ on 1 ∷ [];
       gives = gives 0 15 [] ∷ gives 0 12 [] ∷ gives 0 4 [] ∷ gives 0 13 [] ∷ [];
       r1 = pos 1000;
@@ -149,13 +149,13 @@ cases =
       r1 = pos 1000;
     }
     ∷ record {
-      text = "ID=1 WHEN TRUE DO $AC_TIMER[0]=0\n_id=2 WHEN $AC_TIMER[0]>=1 DO M=1";
+      text = "ID=1 WHEN TRUE DO $AC_TIMER[0]=0\nID=2 WHEN $AC_TIMER[0]>=1 DO M=1";
       calls = replicate 252 (on 0);
       gives = gives 0 1 [] ∷ replicate 249 (gives 0 0 []) ++ (gives 0 2 ((2, 4, 0, pos 1) ∷ []) ∷ gives 0 0 [] ∷ []);
       r1 = pos 0;
     }
     ∷ record {
-      text = "ID=1 WHEN TRUE DO $AC_FIFO1[0]=1 $AC_FIFO1[0]=2 $AC_FIFO1[0]=3 $AC_FIFO1[0]=4 $AC_FIFO1[0]=5 $AC_FIFO1[0]=6 $AC_FIFO1[0]=7 $AC_FIFO1[0]=8\n_id=2 WHEN TRUE DO $AC_FIFO1[0]=9 $AC_FIFO1[0]=10 $AC_FIFO1[0]=11 $AC_FIFO1[0]=12 $AC_FIFO1[0]=13 $AC_FIFO1[0]=14 $AC_FIFO1[0]=15 $AC_FIFO1[0]=16\n_id=3 WHENEVER $A_IN[1]==1 DO $AC_FIFO1[0]=17\n_id=4 WHENEVER $A_IN[2]==1 DO $AC_FIFO1[0]=$AC_FIFO1[0] POS[X]=$AC_FIFO1[1] POS[Y]=$AC_FIFO1[2]";
+      text = "ID=1 WHEN TRUE DO $AC_FIFO1[0]=1 $AC_FIFO1[0]=2 $AC_FIFO1[0]=3 $AC_FIFO1[0]=4 $AC_FIFO1[0]=5 $AC_FIFO1[0]=6 $AC_FIFO1[0]=7 $AC_FIFO1[0]=8\nID=2 WHEN TRUE DO $AC_FIFO1[0]=9 $AC_FIFO1[0]=10 $AC_FIFO1[0]=11 $AC_FIFO1[0]=12 $AC_FIFO1[0]=13 $AC_FIFO1[0]=14 $AC_FIFO1[0]=15 $AC_FIFO1[0]=16\nID=3 WHENEVER $A_IN[1]==1 DO $AC_FIFO1[0]=17\nID=4 WHENEVER $A_IN[2]==1 DO $AC_FIFO1[0]=$AC_FIFO1[0] POS[X]=$AC_FIFO1[1] POS[Y]=$AC_FIFO1[2]";
       calls = on 0 ∷ on 1 ∷ on 2 ∷ [];
       gives = gives 0 3 [] ∷ gives fifo_full 0 [] ∷ gives 0 8 ((4, 1, 1, pos 2000) ∷ (4, 1, 2, pos 1000) ∷ []) ∷ [];
       r1 = pos 0;

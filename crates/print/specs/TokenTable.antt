@@ -25,8 +25,8 @@ tried :
     )
     ≡ bytes "ID=1 EVERY$A_IN[1]==1 DO$AC_MARKER[0]=$AC_MARKER[0]+1 M=7"
     ∷ bytes "IDS=7 WHEN NOT((TRUE))DO$R[1]=--1.5$R[2]=0.05+2 M=0"
-    ∷ bytes "ID=2 WHEN$R[1]<$R[2]AND 1.25>=-$AC_FIFO1[3]DO POS[X]=$AA_IM[X]*2 MOV[Y]=1 LOCK(1)\n_id=3 DO SETAL(65000)M=1 M=2"
-    ∷ bytes "FCTDEF(1,-0,10.5,-1.5,0.25,0,-0)\n_id=4 DO SYNFCT(1,$R[2],$A_INA[1])SYNFCT(1,$AC_PARAM[3],$AA_IM[X])"
+    ∷ bytes "ID=2 WHEN$R[1]<$R[2]AND 1.25>=-$AC_FIFO1[3]DO POS[X]=$AA_IM[X]*2 MOV[Y]=1 LOCK(1)\nID=3 DO SETAL(65000)M=1 M=2"
+    ∷ bytes "FCTDEF(1,-0,10.5,-1.5,0.25,0,-0)\nID=4 DO SYNFCT(1,$R[2],$A_INA[1])SYNFCT(1,$AC_PARAM[3],$AA_IM[X])"
     ∷ []
     ∷ []
 unfolding run digits_up word_token written is_fit number_token word_first behind_point number_with number_first sign_first first_token tokens_from tokens_of part_digits part_text number_text name_text token_text needs_space gap line_text behind_text rows_text

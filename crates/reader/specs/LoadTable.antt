@@ -28,25 +28,25 @@ abbrev told : String → ℕ × ℕ
 told t = ((load_answer (bytes t)).code, (load_answer (bytes t)).line)
 
 tried :
-    map told ("" ∷ "ID=1 EVERY $A_IN[1]==1 DO $AC_MARKER[0]=$AC_MARKER[0]+1 M=7\n" ∷ "ID=1 DO $R[99]=1" ∷ "ID=1 DO $R[100]=1" ∷ "\n;c\n_id=1 WHEN $R[1]>1 AND $R[2]>1 DO $R[1]=1\r\n"
-    ∷ "ID=1 WHEN ((((((((TRUE)))))))) DO M=1" ∷ "ID=1 WHEN (((((((((TRUE))))))))) DO M=1" ∷ "ID=2 DO $R[1]=1\n_id=1 DO LOCK(2)\n_id=2 DO LOCK(3)" ∷ "ID=2 DO $R[1]=1\n_id=1 DO LOCK(2) UNLOCK(7)" ∷ "ID=1 DO $R[1]=1$R[2]=2.50" ∷ "ID=1DO $R[1]=1" ∷ [])
+    map told ("" ∷ "ID=1 EVERY $A_IN[1]==1 DO $AC_MARKER[0]=$AC_MARKER[0]+1 M=7\n" ∷ "ID=1 DO $R[99]=1" ∷ "ID=1 DO $R[100]=1" ∷ "\n;c\nID=1 WHEN $R[1]>1 AND $R[2]>1 DO $R[1]=1\r\n"
+    ∷ "ID=1 WHEN ((((((((TRUE)))))))) DO M=1" ∷ "ID=1 WHEN (((((((((TRUE))))))))) DO M=1" ∷ "ID=2 DO $R[1]=1\nID=1 DO LOCK(2)\nID=2 DO LOCK(3)" ∷ "ID=2 DO $R[1]=1\nID=1 DO LOCK(2) UNLOCK(7)" ∷ "ID=1 DO $R[1]=1$R[2]=2.50" ∷ "ID=1DO $R[1]=1" ∷ [])
     ≡ (0, 0) ∷ (0, 0) ∷ (0, 0) ∷ (read_only, 1) ∷ (not_in_grammar, 3) ∷ (0, 0) ∷ (too_deep, 1) ∷ (used_above, 3) ∷ (not_in_set, 2) ∷ (0, 0) ∷ (makes_no_token, 1) ∷ []
 unfolding factors_guess product_guess terms_guess sum_guess sums_guess expression_guess operand_first operand_guess action_guess actions_guess condition_guess line_guess same_tokens if_written tree_of operand_tokens action_tokens actions_tokens condition_tokens line_tokens operand_meaning right_fault is_removal_tree assigned_fault action_fault actions_fault moves_of parts_fault line_fault is_among are_apart moves_fault actions_names names_in each_known is_inside lower opens_too_many wanting_fault number_fault read_fault join_sights sight is_writable write_fault code_fault id_fault call_fault count_fault rank_in empty_set power_on run word_token written is_fit number_token word_first behind_point number_with number_first sign_first first_token tokens_from tokens_of split without_return without_comment bodies is_blank numbered token_lines numbers_of least_from least_above rising without_mark with_line placed curve_slots set_of fault_of line_below tokens_fault fault_below kept_with rows_from first_not named outcome load_answer load_set
 tried = refl
 
 -- document 02, Req 03: a curve and a line that uses it; -0 is not below 0; lower above upper; a curve defined twice; one that is used and not defined, and one that is defined below; 7 before 13; 5 behind a numbered line; 11 before 13
 curves :
-    map told ("FCTDEF(1,0,120,160,-2,0,0)\n_id=1 DO SYNFCT(1,$R[1],$R[2])" ∷ "FCTDEF(3,0,-0,1,0,0,0)" ∷ "FCTDEF(1,2,1,0,0,0,0)" ∷ "FCTDEF(1,1,1,0,0,0,0)\n_fctdef(1,1,1,0,0,0,0)"
-    ∷ "FCTDEF(1,1,1,0,0,0,0)\n_id=1 DO SYNFCT(2,$R[1],$R[2])" ∷ "ID=1 DO SYNFCT(1,$R[1],$R[2])\n_fctdef(1,1,1,0,0,0,0)" ∷ "FCTDEF(4,2,1,0,0,0,0)" ∷ "ID=1 DO $R[1]=1\n_fctdef(4,2,1,0,0,0,0)"
-    ∷ "ID=1 DO $R[1]=1\n_id=1 DO SYNFCT(1,$R[1],$R[2])" ∷ [])
+    map told ("FCTDEF(1,0,120,160,-2,0,0)\nID=1 DO SYNFCT(1,$R[1],$R[2])" ∷ "FCTDEF(3,0,-0,1,0,0,0)" ∷ "FCTDEF(1,2,1,0,0,0,0)" ∷ "FCTDEF(1,1,1,0,0,0,0)\nFCTDEF(1,1,1,0,0,0,0)"
+    ∷ "FCTDEF(1,1,1,0,0,0,0)\nID=1 DO SYNFCT(2,$R[1],$R[2])" ∷ "ID=1 DO SYNFCT(1,$R[1],$R[2])\nFCTDEF(1,1,1,0,0,0,0)" ∷ "FCTDEF(4,2,1,0,0,0,0)" ∷ "ID=1 DO $R[1]=1\nFCTDEF(4,2,1,0,0,0,0)"
+    ∷ "ID=1 DO $R[1]=1\nID=1 DO SYNFCT(1,$R[1],$R[2])" ∷ [])
     ≡ (0, 0) ∷ (0, 0) ∷ (wrong_curve, 1) ∷ (wrong_curve, 2) ∷ (wrong_curve, 2) ∷ (wrong_curve, 1) ∷ (outside, 1) ∷ (not_in_grammar, 2) ∷ (used_above, 2) ∷ []
 unfolding factors_guess product_guess terms_guess sum_guess sums_guess expression_guess operand_first operand_guess place_guess action_guess actions_guess condition_guess line_guess same_tokens if_written tree_of parameter_guess definition_guess definition_of parameter_tokens definition_front operand_tokens action_tokens actions_tokens condition_tokens line_tokens operand_meaning right_fault is_removal_tree assigned_fault action_fault actions_fault moves_of parts_fault line_fault is_among are_apart moves_fault curve_in numbers_fault definition_fault limits_fault less_than curve_fault actions_names names_in each_known is_inside lower opens_too_many wanting_fault number_fault read_fault join_sights sight is_writable write_fault code_fault id_fault call_fault count_fault rank_in empty_set power_on run word_token written is_fit number_token word_first behind_point number_with number_first sign_first first_token tokens_from tokens_of split without_return without_comment bodies is_blank numbered token_lines numbers_of least_from least_above rising without_mark with_line placed curve_slots set_of fault_of line_below curve_fault_of curve_below tokens_fault fault_below kept_with rows_from first_not named outcome load_answer load_set
 curves = refl
 
 -- document 02, Req 08: POS twice, POS and a stop; FA is no move, and two lines may move one axis; 14 before 11 and before 13, 7 before 14; 14 of a later line before 12 of an earlier one
 moves :
-    map told ("ID=1 DO POS[X]=1 POS[X]=2" ∷ "ID=1 DO POS[Z]=1 MOV[Z]=0" ∷ "ID=1 DO FA[X]=1 POS[X]=2 FA[X]=3\n_id=2 DO POS[X]=1 POS[Y]=1" ∷ "ID=1 DO $R[1]=1\n_id=1 DO MOV[X]=1 MOV[X]=1"
-    ∷ "ID=1 DO SYNFCT(1,$R[1],$R[2]) POS[X]=1 POS[X]=1" ∷ "ID=1 DO POS[X]=1 POS[X]=1 $R[200]=1" ∷ "ID=1 DO LOCK(9)\n_id=2 DO POS[X]=1 POS[X]=2" ∷ [])
+    map told ("ID=1 DO POS[X]=1 POS[X]=2" ∷ "ID=1 DO POS[Z]=1 MOV[Z]=0" ∷ "ID=1 DO FA[X]=1 POS[X]=2 FA[X]=3\nID=2 DO POS[X]=1 POS[Y]=1" ∷ "ID=1 DO $R[1]=1\nID=1 DO MOV[X]=1 MOV[X]=1"
+    ∷ "ID=1 DO SYNFCT(1,$R[1],$R[2]) POS[X]=1 POS[X]=1" ∷ "ID=1 DO POS[X]=1 POS[X]=1 $R[200]=1" ∷ "ID=1 DO LOCK(9)\nID=2 DO POS[X]=1 POS[X]=2" ∷ [])
     ≡ (two_moves, 1) ∷ (two_moves, 1) ∷ (0, 0) ∷ (two_moves, 2) ∷ (two_moves, 1) ∷ (outside, 1) ∷ (two_moves, 2) ∷ []
 unfolding factors_guess product_guess terms_guess sum_guess sums_guess expression_guess operand_first operand_guess place_guess action_guess actions_guess condition_guess line_guess same_tokens if_written tree_of parameter_guess definition_guess definition_of parameter_tokens definition_front operand_tokens action_tokens actions_tokens condition_tokens line_tokens operand_meaning right_fault is_removal_tree assigned_fault action_fault actions_fault moves_of parts_fault line_fault is_among are_apart moves_fault curve_in numbers_fault definition_fault limits_fault less_than curve_fault actions_names names_in each_known is_inside lower opens_too_many wanting_fault number_fault read_fault join_sights sight is_writable write_fault code_fault id_fault call_fault count_fault rank_in empty_set power_on run word_token written is_fit number_token word_first behind_point number_with number_first sign_first first_token tokens_from tokens_of split without_return without_comment bodies is_blank numbered token_lines numbers_of least_from least_above rising without_mark with_line placed curve_slots set_of fault_of line_below curve_fault_of curve_below tokens_fault fault_below kept_with rows_from first_not named outcome load_answer load_set
 moves = refl

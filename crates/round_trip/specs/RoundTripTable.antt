@@ -29,17 +29,17 @@ use Rattle.print.specs.PrintText.{behind_text, rows_text, print_text}
 use Rattle.round_trip.specs.LoadedRowsLaws.{tokens, loaded-print}
 
 abbrev text : List ℕ
-text = bytes "IDS=020 EVERY ( $R[1] > 01.500 ) DO M=07 ; up\r\n\n_id=3 DO $AC_MARKER[00]=$AC_MARKER[0]+1.0 LOCK(20)\n"
+text = bytes "IDS=020 EVERY ( $R[1] > 01.500 ) DO M=07 ; up\r\n\nID=3 DO $AC_MARKER[00]=$AC_MARKER[0]+1.0 LOCK(20)\n"
 
 abbrev print : List ℕ
-print = bytes "ID=3 DO$AC_MARKER[0]=$AC_MARKER[0]+1 LOCK(20)\n_ids=20 EVERY($R[1]>1.5)DO M=7"
+print = bytes "ID=3 DO$AC_MARKER[0]=$AC_MARKER[0]+1 LOCK(20)\nIDS=20 EVERY($R[1]>1.5)DO M=7"
 
 -- with curves
 abbrev curves_text : List ℕ
-curves_text = bytes "FCTDEF( 02, -0 , 10.50,0,1,0,0) ; up\n_fctdef(1,-1,1,0,0.0,-0.0,0)\n\n_ids=20 DO SYNFCT(02,$R[1],$R[2])\n_id=3 DO SYNFCT( 1 , $AC_MARKER[0], $AA_IM[X] )"
+curves_text = bytes "FCTDEF( 02, -0 , 10.50,0,1,0,0) ; up\nFCTDEF(1,-1,1,0,0.0,-0.0,0)\n\nIDS=20 DO SYNFCT(02,$R[1],$R[2])\nID=3 DO SYNFCT( 1 , $AC_MARKER[0], $AA_IM[X] )"
 
 abbrev curves_print : List ℕ
-curves_print = bytes "FCTDEF(1,-1,1,0,0,-0,0)\n_fctdef(2,-0,10.5,0,1,0,0)\n_id=3 DO SYNFCT(1,$AC_MARKER[0],$AA_IM[X])\n_ids=20 DO SYNFCT(2,$R[1],$R[2])"
+curves_print = bytes "FCTDEF(1,-1,1,0,0,-0,0)\nFCTDEF(2,-0,10.5,0,1,0,0)\nID=3 DO SYNFCT(1,$AC_MARKER[0],$AA_IM[X])\nIDS=20 DO SYNFCT(2,$R[1],$R[2])"
 
 -- the text t is taken, and its rows print as p
 abbrev Prints : List ℕ → List ℕ → Type 0
