@@ -4,7 +4,7 @@ use Rattle.std.proofs.Common.{◌∙◌, arith}
 use Rattle.std.proofs.Math.Bool.{true, false}
 use Rattle.std.proofs.Math.Dec.{eqb}
 use borrow.Author.Tests.{eqb-true, eqb-false, leb-true, le-leb, ltb-true}
-use Rattle.values.specs.Codes.{outside, not_allowed}
+use Rattle.values.specs.Codes.{outside, not_allowed, unsound}
 use Rattle.values.specs.Choice.{either, if_not, either_both, both, and-true, chosen}
 use Rattle.values.specs.Value.{in_range, less_than, feed_of}
 use Rattle.values.specs.Curve.{curve_of}
@@ -20,7 +20,7 @@ use Rattle.working.specs.Operators.{from_worked}
 use Rattle.working.specs.Working.{told, value_over, right_value, condition_value, variable_at}
 use Rattle.engine.specs.Set.{curve_line, rank_in, is_known, is_defined, curves_in, set_table, sound_lines}
 use Rattle.engine.specs.Write.{Vars, change_fifo, write_to}
-use Rattle.engine.specs.Action.{World, Taken, Did, from_value_or_alarm, lock_of, taken_at, assignment_of, curve_assigned, synfct_of, drive_of, command_of, action_of}
+use Rattle.engine.specs.Action.{World, Taken, Did, did, from_value_or_alarm, lock_of, taken_at, assignment_of, curve_assigned, synfct_of, drive_of, command_of, action_of}
 use Rattle.engine.specs.Drive.{drive_order}
 use Rattle.soundness.specs.GoodAnswers.{Holds, holds_then}
 use Rattle.soundness.specs.SetSoundLaws.{curve-defined, rank-inside}
@@ -230,7 +230,7 @@ module _ (s : List ℕ) (sound : (sound_lines s).sound ≡ true) (cancelled : Li
   command-runs kw x w p h known =
       let n = whole (token s (p + 2)) in
       if_not (Beside (command_of s numbers cancelled number x w p)) (is_whole (token s (p + 2))) (λ e. tt) λ e.
-      either_both Beside (eqb w M) (λ m. either (Beside _) (eqb (token s (p + 1)) EQUALS) (λ e f. (refl, record { vars = h.vars; flags = h.flags })) (λ e. tt)) λ m.
+      either_both Beside (eqb w M) (λ m. either (Beside (did (p + 3) _)) (eqb (token s (p + 1)) EQUALS) (λ e f. (refl, record { vars = h.vars; flags = h.flags })) (λ e. tt)) λ m.
       if_not (Beside _) (is_call w && (eqb (token s (p + 1)) OPEN && eqb (token s (p + 3)) CLOSE)) (λ e. tt) λ c.
       either (λ z. Beside z (read (call_fault w n) (p + 4))) (eqb w SETAL) (λ e f. (refl, record { vars = h.vars; flags = h.flags })) λ e.
       if_not (λ z. Beside z (read (call_fault w n) (p + 4))) (is_call w) (λ i. let on : is_call w ≡ true = (both (is_call w) _ c).0 in clash (cc)) λ i f.
@@ -274,7 +274,7 @@ module _ (s : List ℕ) (sound : (sound_lines s).sound ≡ true) (cancelled : Li
   unfolding action_of action_at assignment_at
   action-runs kw x p h known =
       let w = token s p in
-      either (λ z. Beside z (action_at s kw set_size p)) (eqb w END) (λ e. no-action kw _ p (eqb-true w END e)) λ e.
+      either (λ z. Beside z (action_at s kw set_size p)) (eqb w END) (λ e. no-action kw (stop unsound) p (eqb-true w END e)) λ e.
       if_not (Beside _) (is_indexed s w p)
       (λ i. either (λ z. Beside z (unindexed_at s kw w p)) (is_variable w) (λ v. no-unindexed kw _ w p (omega (arith, leb-true w IM (both (leb IN w) (leb w IM) v).1))) λ v.
       either (λ z. Beside z (unindexed_at s kw w p)) (is_drive w) (λ d. no-unindexed kw _ w p (omega (arith, leb-true w MOV (both (leb POS w) (leb w MOV) d).1))) λ d.

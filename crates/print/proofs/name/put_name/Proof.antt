@@ -20,7 +20,6 @@ put_name_spec =
     tie.close
     (tie.spec
     (λ c. search rules)
-    (λ c. search rules)
     (λ c κs. search rules)
     (λ c. search rules)
     (λ c.
@@ -28,7 +27,6 @@ put_name_spec =
     let i = r.before.before.before in
     let a = i.args in
     renamed a.out.now a.at (sign-row a.t i.if-t-lt-ID.true) r.put_row.ensures.0 r.put_row.ensures.1)
-    (λ c. search rules)
     (λ c. search rules)
     (λ c. search rules)
     (λ c κs. search rules)
@@ -40,7 +38,6 @@ put_name_spec =
     renamed a.out.now a.at (keyword-row a.t (omega arith) i.if-t-lt-IN.true) r.put_row-then-t-lt-IN.ensures.0 r.put_row-then-t-lt-IN.ensures.1)
     (λ c. search rules)
     (λ c. search rules)
-    (λ c. search rules)
     (λ c κs. search rules)
     (λ c. search rules)
     (λ c.
@@ -48,7 +45,6 @@ put_name_spec =
     let i = r.before.before.before in
     let a = i.args in
     renamed a.out.now a.at (variable-row a.t (omega arith) i.if-t-lt-POS.true) r.put_row-then-t-lt-POS.ensures.0 r.put_row-then-t-lt-POS.ensures.1)
-    (λ c. search rules)
     (λ c. search rules)
     (λ c. search rules)
     (λ c κs. search rules)
