@@ -37,26 +37,26 @@ read_input_spec =
     (λ c.
     let r = c.before.before.before in
     let b = r.before.before.before in
-    as_long b.loop-size.input r.read_part-c.new.part b.loop-size.size r.read_part-c.result.size b.loop-size.invariant.0 r.read_part-c.auto.0 r.read_part-c.ensures ∙ b.loop-size.invariant.1)
+    as_long b.loop-size.input r.read_part-c.new.part b.loop-size.size r.read_part-c.result.size b.loop-size.invariant.0 r.read_part-c.auto.part r.read_part-c.ensures ∙ b.loop-size.invariant.1)
     (λ c.
     let b = c.before.before.before.before.before.before in
     omega (arith, b.loop-size.invariant.0, b.loop-size.invariant.1))
     (λ c.
     let r = c.before.before.before in
     let b = r.before.before.before in
-    let m = room b.loop-size.input r.read_part-c.new.part b.loop-size.size r.read_part-c.result.size b.loop-size.invariant.0 r.read_part-c.auto.0 r.read_part-c.ensures in
+    let m = room b.loop-size.input r.read_part-c.new.part b.loop-size.size r.read_part-c.result.size b.loop-size.invariant.0 r.read_part-c.auto.part r.read_part-c.ensures in
     search (rules, m))
     (λ c.
     let r = c.before.before.before in
     let b = r.before.before.before in
-    let e = as_long b.loop-size.input r.read_part-c.new.part b.loop-size.size r.read_part-c.result.size b.loop-size.invariant.0 r.read_part-c.auto.0 r.read_part-c.ensures in
-    let m = room b.loop-size.input r.read_part-c.new.part b.loop-size.size r.read_part-c.result.size b.loop-size.invariant.0 r.read_part-c.auto.0 r.read_part-c.ensures in
+    let e = as_long b.loop-size.input r.read_part-c.new.part b.loop-size.size r.read_part-c.result.size b.loop-size.invariant.0 r.read_part-c.auto.part r.read_part-c.ensures in
+    let m = room b.loop-size.input r.read_part-c.new.part b.loop-size.size r.read_part-c.result.size b.loop-size.invariant.0 r.read_part-c.auto.part r.read_part-c.ensures in
     omega (arith, e, m, c.if-n-eq0.false))
     (λ c.
     let r = c.before.before.before in
     let b = r.before.before.before in
-    let e = as_long b.loop-size.input r.read_part-c.new.part b.loop-size.size r.read_part-c.result.size b.loop-size.invariant.0 r.read_part-c.auto.0 r.read_part-c.ensures in
-    let m = room b.loop-size.input r.read_part-c.new.part b.loop-size.size r.read_part-c.result.size b.loop-size.invariant.0 r.read_part-c.auto.0 r.read_part-c.ensures in
+    let e = as_long b.loop-size.input r.read_part-c.new.part b.loop-size.size r.read_part-c.result.size b.loop-size.invariant.0 r.read_part-c.auto.part r.read_part-c.ensures in
+    let m = room b.loop-size.input r.read_part-c.new.part b.loop-size.size r.read_part-c.result.size b.loop-size.invariant.0 r.read_part-c.auto.part r.read_part-c.ensures in
     (omega (arith, e, m), e ∙ b.loop-size.invariant.1))
     (λ c. c.loop-size.invariant.1)
     (λ c. let b = c.before in omega (arith, b.loop-size.invariant.0, b.loop-size.invariant.1)))

@@ -75,7 +75,7 @@ put_line_spec =
     let a = b.args in
     let s = a.set.now in (
       left_after (line_text (row_at s (b.loop-t.p + 1))) (token-put s b.loop-t.p b.loop-t.invariant.0 b.loop-t.invariant.2 u.token_at-u.ensures l.loop-t-test.true k.put_token-end.ensures) refl g.put_gap-q.ensures,
-      g.put_gap-q.auto.0 ∙ k.put_token-end.auto.0 ∙ b.loop-t.invariant.1,
+      g.put_gap-q.auto.out ∙ k.put_token-end.auto.out ∙ b.loop-t.invariant.1,
       u.token_at-u.ensures,
     ))
     (λ c. c.loop-t.invariant.1)

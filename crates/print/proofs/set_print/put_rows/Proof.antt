@@ -55,7 +55,7 @@ put_rows_spec =
     let k = b.loop-k.k in (
       left_after (rest s a.count c.is_behind-behind.result (k + 1)) b.loop-k.invariant.0
           (next-left s a.count k b.loop-k.behind c.is_behind-behind.ensures (omega arith)) p.put_slot-at.ensures.0,
-      p.put_slot-at.auto.1.1.1.0 ∙ b.loop-k.invariant.1,
+      p.put_slot-at.auto.out ∙ b.loop-k.invariant.1,
       omega (arith, p.put_slot-at.ensures.1, b.loop-k.invariant.2),
     ))
     (λ c. c.loop-k.invariant.1)

@@ -25,5 +25,5 @@ line_alone_spec =
     (λ c κs. search rules)
     (λ c κs. c.requires.1)
     (λ c.
-    let l = c.before.before.before.before in
+    let l = c.before.before.before in
     (rw (laid l) at c.line_at-l.ensures, c.wipe.ensures ∙ ap (λ (x : List ℕ). put_at x 0 (replicate (length (tokens l)) 0)) (laid l) ∙ wiped (tokens l))))

@@ -52,11 +52,11 @@ module _ (c : tie.After-is_defined) where
   abbrev looked : tie.After-curve_alone-f
   looked = c.before.before.before.before
 
-  fine : looked.curve-alone.result.fault ≡ 0
+  fine : looked.curve_alone-f.result.fault ≡ 0
   fine = c.if-fault-ne0.false
 
-  there : c.is_defined.result ≡ is_defined (curves_there (curves (start looked))) looked.curve-alone.result.number
-  there = c.is_defined.ensures ∙ ap (λ (x : List Bool). is_defined x looked.curve-alone.result.number) (held (start looked)).there
+  there : c.is_defined.result ≡ is_defined (curves_there (curves (start looked))) looked.curve_alone-f.result.number
+  there = c.is_defined.ensures ∙ ap (λ (x : List Bool). is_defined x looked.curve_alone-f.result.number) (held (start looked)).there
 
 pub add_curve_spec : {M : Type 1} → statement M
 add_curve_spec =

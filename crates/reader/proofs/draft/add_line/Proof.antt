@@ -107,15 +107,15 @@ add_line_spec =
     (λ c. let r = room c.before.before.before.before in omega arith)
     (λ c. let w = c.before.before.before.before in let r = room w in let z = size w in omega arith)
     (λ c κs. search rules)
-    (λ c κs. let w = wrote c.before.before.before in (held w, follows w, (start w).requires.1))
+    (λ c κs. let w = wrote c.before.before in (held w, follows w, (start w).requires.1))
     (λ c.
-    let f = c.before.before.before.before in
+    let f = c.before.before.before in
     let w = wrote f in
     let d = defining f ∙ c.if-defines.true in
     (subst (λ (k : Kept). Says (rows_from k (line w ∷ [])) (array w) c.add_curve.result) (same w) (says-curve (array w) (draft w) (held w) (line w) (end w) (follows w).0 (follows w).1 (fine f) (part w) _ d c.add_curve.ensures.0), c.add_curve.ensures.1))
-    (λ c κs. let w = wrote c.before.before.before in (held w, follows w, (start w).requires.1, (start w).requires.2))
+    (λ c κs. let w = wrote c.before.before in (held w, follows w, (start w).requires.1, (start w).requires.2))
     (λ c.
-    let f = c.before.before.before.before in
+    let f = c.before.before.before in
     let w = wrote f in
     let d = defining f ∙ c.if-defines.false in
     (subst (λ (k : Kept). Says (rows_from k (line w ∷ [])) (array w) c.add_numbered.result) (same w) (says-line (array w) (draft w) (held w) (line w) (end w) (follows w).0 (follows w).1 (fine f) (part w) _ (start w).requires.2 d c.add_numbered.ensures.0), c.add_numbered.ensures.1)))

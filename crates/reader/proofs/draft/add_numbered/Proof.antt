@@ -56,11 +56,11 @@ module _ (c : tie.After-rank_in) where
   abbrev looked : tie.After-line_alone-l
   looked = c.before.before.before.before
 
-  fine : looked.line-alone.result.fault ≡ 0
+  fine : looked.line_alone-l.result.fault ≡ 0
   fine = c.if-fault-ne0.false
 
-  ranked : c.rank_in.result ≡ rank_in (numbers_of (kept (start looked)).rows) looked.line-alone.result.number 0
-  ranked = c.rank_in.ensures ∙ ap (λ (ns : List ℕ). rank_in ns looked.line-alone.result.number 0) (held (start looked)).numbers
+  ranked : c.rank_in.result ≡ rank_in (numbers_of (kept (start looked)).rows) looked.line_alone-l.result.number 0
+  ranked = c.rank_in.ensures ∙ ap (λ (ns : List ℕ). rank_in ns looked.line_alone-l.result.number 0) (held (start looked)).numbers
 
 -- whether its curves are there
 module _ (c : tie.After-curves_known) where

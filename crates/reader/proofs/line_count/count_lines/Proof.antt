@@ -10,6 +10,7 @@ use Rattle.text.specs.Lines.{text_lines, bodies, is_blank, numbered, token_lines
 use Rattle.reader.proofs.TokenLineLaws.{lines_none, line-inside, part-is, lines_step, count-blank, count-full}
 use Rattle.reader.proofs.line_count.count_lines.Statement.{statement}
 use Rattle.reader.proofs.line_count.count_lines.Tie as tie
+use Rattle.reader.proofs.line_count.count_lines.Lts.{then-not-is_blank, else-not-is_blank}
 
 abbrev invariant-loop : tie.invariant-loop-i
 invariant-loop text n₀ i₀ n i = (n + length (numbered 1 (bodies (text_lines (drop i text)))) ≡ length (token_lines text)) × (n ≤ i) × (i ≤ length text + 1)
@@ -44,5 +45,8 @@ count_lines_spec =
     let e = ap length (lines_step t b.loop-i.i _ l.line_bounds-b.ensures 1) in
     let p = ap is_blank (sym (part-is t b.loop-i.i _ l.line_bounds-b.ensures)) ∙ sym c.is_blank.ensures in
     let g = inside l in
-    ⊎_elim (λ w. let f = e ∙ count-full _ _ (p ∙ not-true _ w.0.taken) in (omega arith, omega arith, omega arith)) (λ w. let f = e ∙ count-blank _ _ (p ∙ not-false _ w.0.left) in (omega arith, omega arith, omega arith)) c.if-not-is_blank.branch)
+    elim c.if-not-is_blank.branch [
+      | then-not-is_blank w ↦ let f = e ∙ count-full _ _ (p ∙ not-true _ w.if-not-is_blank.true-raw) in (omega arith, omega arith, omega arith)
+      | else-not-is_blank w ↦ let f = e ∙ count-blank _ _ (p ∙ not-false _ w.if-not-is_blank.false-raw) in (omega arith, omega arith, omega arith)
+    ])
     (λ c. let b = c.before in let e = ap length (lines_none b.args.text.now b.loop-i.i (omega arith) 1) in omega arith))

@@ -34,29 +34,29 @@ module _ (c : tie.After-line_bounds-b invariant-loop decreases-loop) where
   begun = c.before.before
 
   abbrev body : List ℕ
-  body = first_body (drop begun.loop.i (text begun))
+  body = first_body (drop begun.loop-i.i (text begun))
 
   abbrev behind : List (List ℕ)
   behind = bodies (text_lines (drop (c.line_bounds-b.result.end + 1) (text begun)))
 
   -- it stands in the text
-  inside : let b = c.line_bounds-b.result in let i = begun.loop.i in (i ≤ b.body) × (b.body ≤ b.end) × (b.end ≤ length (text begun)) × (length (take (b.body - i) (drop i (text begun))) ≡ b.body - i)
-  inside = line-inside (text begun) begun.loop.i _ c.line_bounds-b.ensures (omega arith)
+  inside : let b = c.line_bounds-b.result in let i = begun.loop-i.i in (i ≤ b.body) × (b.body ≤ b.end) × (b.end ≤ length (text begun)) × (length (take (b.body - i) (drop i (text begun))) ≡ b.body - i)
+  inside = line-inside (text begun) begun.loop-i.i _ c.line_bounds-b.ensures (omega arith)
 
-  is_body : take (c.line_bounds-b.result.body - begun.loop.i) (drop begun.loop.i (text begun)) ≡ body
-  is_body = part-is (text begun) begun.loop.i _ c.line_bounds-b.ensures
+  is_body : take (c.line_bounds-b.result.body - begun.loop-i.i) (drop begun.loop-i.i (text begun)) ≡ body
+  is_body = part-is (text begun) begun.loop-i.i _ c.line_bounds-b.ensures
 
-  steps : numbered begun.loop.k (bodies (text_lines (drop begun.loop.i (text begun)))) ≡ numbered begun.loop.k (body ∷ behind)
-  steps = lines_step (text begun) begun.loop.i _ c.line_bounds-b.ensures begun.loop.k
+  steps : numbered begun.loop-i.k (bodies (text_lines (drop begun.loop-i.i (text begun)))) ≡ numbered begun.loop-i.k (body ∷ behind)
+  steps = lines_step (text begun) begun.loop-i.i _ c.line_bounds-b.ensures begun.loop-i.k
 
-  whole : rows_from (kept_in begun.loop.s begun.loop.d) (numbered begun.loop.k (body ∷ behind)) ≡ rows_from nothing (token_lines (text begun))
-  whole = ap (rows_from (kept_in begun.loop.s begun.loop.d)) (sym steps) ∙ begun.loop.invariant.0
+  whole : rows_from (kept_in begun.loop-i.s begun.loop-i.d) (numbered begun.loop-i.k (body ∷ behind)) ≡ rows_from nothing (token_lines (text begun))
+  whole = ap (rows_from (kept_in begun.loop-i.s begun.loop-i.d)) (sym steps) ∙ begun.loop-i.invariant.0
 
 module _ (c : tie.After-take_line-d invariant-loop decreases-loop) where
   abbrev line : tie.After-line_bounds-b invariant-loop decreases-loop
   line = c.before.before.before.before
 
-  said : Says (rows_from (kept_in (begun line).loop.s (begun line).loop.d) (numbered (begun line).loop.k (body line ∷ []))) c.take_line-d.new.s c.take_line-d.result
+  said : Says (rows_from (kept_in (begun line).loop-i.s (begun line).loop-i.d) (numbered (begun line).loop-i.k (body line ∷ []))) c.take_line-d.new.s c.take_line-d.result
   said = rw (is_body line) at c.take_line-d.ensures.0
 
 pub read_lines_spec : {M : Type 1} → statement M

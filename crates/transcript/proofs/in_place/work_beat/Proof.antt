@@ -24,7 +24,7 @@ work_beat_spec =
     let s = b.before.before.before.before.before.before.before.before.before.before in
     end-near s.args.set.now (before s).totals (lent_in s.args.lent) s.requires.1.1 b.tally_beat-t.ensures.1)
     (λ c κs. search rules)
-    (λ c. let e = c.before.before.before in e.put_end-end.auto.1.1.1.0 ∙ e.tally_beat-t.auto.1.1.1.1.1.1.1.1.1.1.1.1.1.0)
+    (λ c. let e = c.before.before.before in e.put_end-end.auto.out ∙ e.tally_beat-t.auto.out)
     (λ c t.
     let e = c.before.before.before in
     let y = e.before.before in

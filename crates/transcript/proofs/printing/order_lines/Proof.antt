@@ -25,7 +25,7 @@ loop-again c =
     let a = b.args in
     let r = order-room (drop (b.loop-k.k * order_size) a.orders.now) in (
       left_after (orders_left a.n a.orders.now (b.loop-k.k + 1)) b.loop-k.invariant.0 (one_less a.n a.orders.now b.loop-k.k (omega arith)) o.ensures,
-      o.auto.0 ∙ b.loop-k.invariant.1,
+      o.auto.out ∙ b.loop-k.invariant.1,
       omega arith,
       omega (arith, o.ensures.behind, b.loop-k.invariant.3),
     )

@@ -25,7 +25,7 @@ loop-again c =
     let ns = b.args.numbers.now in
     let n = get_or ns b.loop-i.i 0 in (
       left_after (spaced (decimals (drop (b.loop-i.i + 1) ns))) b.loop-i.invariant.0 (field_next ns b.loop-i.i (omega arith)) f.put_field-p.ensures,
-      f.put_field-p.auto.0 ∙ b.loop-i.invariant.1,
+      f.put_field-p.auto.out ∙ b.loop-i.invariant.1,
       omega arith,
       omega (arith, f.put_field-p.ensures.behind, fields-room (n ∷ []), b.loop-i.invariant.3),
     )

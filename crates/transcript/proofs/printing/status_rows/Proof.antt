@@ -25,7 +25,7 @@ loop-again c =
     let a = b.args in
     let w : length a.t3 ≡ max_lines = search rules in (
       left_after (rows_left a.count a.t3 (b.loop-k.k + 1)) b.loop-k.invariant.0 (row-less a.count a.t3 b.loop-k.k _ (omega arith) (omega arith)) o.status_line-p.ensures,
-      o.status_line-p.auto.0 ∙ b.loop-k.invariant.1,
+      o.status_line-p.auto.out ∙ b.loop-k.invariant.1,
       omega arith,
       omega (arith, row_near _ o.status_line-p.ensures, b.loop-k.invariant.3),
     )
