@@ -1,7 +1,7 @@
 -- What each entry of the history does to the flags that the history gives, rank by rank. Assumes nothing.
 use Rattle.std.specs.Prelude.{◌≡◌, ◌≢◌, true, cond, ◌&&◌, ◌||◌, List, [], ◌∷◌, eqb, ltb, length, set, replicate}
 use Rattle.std.proofs.Math.Path.{refl}
-use Rattle.std.proofs.Common.{sym, ap, ◌∙◌, arith, nltb→le, get_or-set_same, get_or-set_other, ext_get_or, eq-eqb, eqb-true, ltb-true}
+use Rattle.std.proofs.Common.{sym, ap, subst, ◌∙◌, arith, nltb→le, get_or-set_same, get_or-set_other, ext_get_or, eq-eqb, eqb-true, ltb-true}
 use Rattle.std.proofs.Math.Bool.{Bool, false, not, and-true, and-false}
 use Prim.Native.Nat.{ℕ, zero, suc, ◌<◌, ◌≤◌}
 use Rattle.std.proofs.Math.Dec.{leb-suc-zero}
@@ -99,7 +99,7 @@ module _ (ls : Lines) where
       go : (j : ℕ) (e : Bool) → eqb k j ≡ e → cond e (new k) (memory_by ls r j) ≡ memory_by ls (worked k v ∷ r) j
       go j true e =
           let p : k ≡ j = eqb-true k j e in
-          rw (← p) (rw (worked_same (kw k) k r v, c) (sym (and-true (new k))))
+          subst (λ (i : ℕ). cond true (new k) (memory_by ls r i) ≡ memory_by ls (worked k v ∷ r) i) p (rw (worked_same (kw k) k r v, c) (sym (and-true (new k))))
       go j false e = rw (worked-other (kw j) k j r v e)
 
   -- a line that is not cancelled was locked or released

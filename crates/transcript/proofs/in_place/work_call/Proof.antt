@@ -27,23 +27,23 @@ work_call_spec =
     (λ c κs. search rules)
     (λ c. search rules)
     (λ c t.
-    let e = c.before.before.before in
-    let i = e.before.before in
-    let n = i.before.before in
-    let h = n.before.before in
-    let l = h.before.before.before.before.before.before.before.before in
-    let y = l.before in
-    let s = y.before.before.before.before.before.before.before.before.before.before in
+    let e = c in
+    let i = c in
+    let n = c in
+    let h = c in
+    let l = c in
+    let y = c in
+    let s = c.before.before.before.before.before.before.before.before.before.before.before.before.before.before.before.before.before.before.before.before.before in
     let a = s.args in
     let held = h.hold.ensures _ (ap (λ (k : Counts). k.channels) n.count_call-next.ensures) in
     let totals = held-called a.counts n.count_call-next.ensures held (before s).totals.state ∙ ap (calling (before s).totals) (l.call_left-left.ensures ∙ ap (call_left a.reset a.set.now) y.state_in-before.ensures) in
     fed (call-last t a.set.now (before s) a.reset totals i.if-next-eq-LAST_LINE.true c.stop.ensures) (ended-in a.set.now n.count_call-next.result (sym held) e.put_end-end.ensures))
     (λ c t.
-    let n = c.before.before in
-    let h = n.before.before in
-    let l = h.before.before.before.before.before.before.before.before in
-    let y = l.before in
-    let s = y.before.before.before.before.before.before.before.before.before.before in
+    let n = c in
+    let h = c in
+    let l = c in
+    let y = c in
+    let s = c.before.before.before.before.before.before.before.before.before.before.before.before.before.before.before.before in
     let a = s.args in
     let held = h.hold.ensures _ (ap (λ (k : Counts). k.channels) n.count_call-next.ensures) in
     let totals = held-called a.counts n.count_call-next.ensures held (before s).totals.state ∙ ap (calling (before s).totals) (l.call_left-left.ensures ∙ ap (call_left a.reset a.set.now) y.state_in-before.ensures) in

@@ -10,7 +10,6 @@ error_line_spec =
     tie.close
     (tie.spec
     (λ c. search rules)
-    (λ c. search rules)
     (λ c κs. search rules)
     (λ c. search rules)
     (λ c. c.put_line.ensures))

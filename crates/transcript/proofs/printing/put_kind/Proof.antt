@@ -13,11 +13,9 @@ pub put_kind_spec : {M : Type 1} → statement M
 put_kind_spec =
     tie.close
     (tie.spec
-    (λ c. search rules)
     (λ c κs. search rules)
     (λ c. search rules)
     (λ c. let w = c.before.before in put_as (ap (λ (b : Bool). spaced (cond b (bytes "IDS") (bytes "ID") ∷ [])) w.if-ids.true) w.put_word.ensures)
-    (λ c. search rules)
     (λ c κs. search rules)
     (λ c. search rules)
     (λ c. let w = c.before.before in put_as (ap (λ (b : Bool). spaced (cond b (bytes "IDS") (bytes "ID") ∷ [])) w.if-ids.false) w.put_word-2.ensures))

@@ -10,4 +10,4 @@ put_refusal_spec =
     (tie.spec
     (λ c κs. search rules)
     (λ c. search rules)
-    (λ c. let l = c.before.before.Load-Line.ensures in (omega (arith, l.behind), l.put)))
+    (λ c. let l = c.load_line.ensures in (omega (arith, l.behind), l.put)))

@@ -23,8 +23,8 @@ loop-again c =
     let o = c.before.before in
     let b = o.before.before.before.before in
     let a = b.args in
-    let w : length a.t3 ≡ max_lines = search rules in (
-      left_after (rows_left a.count a.t3 (b.loop-k.k + 1)) b.loop-k.invariant.0 (row-less a.count a.t3 b.loop-k.k _ (omega arith) (omega arith)) o.status_line-p.ensures,
+    let w : length a.rows ≡ max_lines = search rules in (
+      left_after (rows_left a.count a.rows (b.loop-k.k + 1)) b.loop-k.invariant.0 (row-less a.count a.rows b.loop-k.k _ (omega arith) (omega arith)) o.status_line-p.ensures,
       o.status_line-p.auto.out ∙ b.loop-k.invariant.1,
       omega arith,
       omega (arith, row_near _ o.status_line-p.ensures, b.loop-k.invariant.3),
@@ -36,7 +36,7 @@ status_rows_spec =
     (tie.spec
     invariant-loop
     decreases-loop
-    (λ c. let a = c.args in (left-all (all-rows a.count a.t3), refl, omega arith, omega arith))
+    (λ c. let a = c.args in (left-all (all-rows a.count a.rows), refl, omega arith, omega arith))
     (λ c. omega arith)
     (λ c. omega arith)
     (λ c κs. omega arith)
@@ -44,4 +44,4 @@ status_rows_spec =
     (λ c. omega arith)
     loop-again
     (λ c. c.loop-k.invariant.1)
-    (λ c. let b = c.before in let a = b.args in left-none b.loop-k.invariant.0 (no_row a.count a.t3 b.loop-k.k (omega arith))))
+    (λ c. let b = c.before in let a = b.args in left-none b.loop-k.invariant.0 (no_row a.count a.rows b.loop-k.k (omega arith))))
