@@ -90,6 +90,7 @@ one-unmarked (d ∷ ds) x (inl e) = (d, inl refl, e)
 one-unmarked (d ∷ ds) x (inr o) = let (y, p, e) = one-unmarked ds x o in (y, inr p, e)
 
 unmarked-one : (ds : List Definition) (d : Definition) → OneOf d ds → OneOf (unmarked_definition d) (map unmarked_definition ds)
+unmarked-one [] d h = elim h [ ]
 unmarked-one (x ∷ ds) d (inl e) = inl (ap unmarked_definition e)
 unmarked-one (x ∷ ds) d (inr o) = inr (unmarked-one ds d o)
 

@@ -58,6 +58,7 @@ module _ {A : Type 0} (f : A → ℕ) where
   -- and each of them is there
   pub one-order : (xs : List A) (z : A) → OneOf z xs → OneOf z (in_order f xs)
   unfolding in_order
+  one-order [] z h = elim h [ ]
   one-order (x ∷ xs) z (inl e) = one-put x z (in_order f xs) (inl e)
   one-order (x ∷ xs) z (inr o) = one-put x z (in_order f xs) (inr (one-order xs z o))
 
@@ -87,6 +88,7 @@ module _ {A : Type 0} (f : A → ℕ) where
 
   -- the number of one of some is one of their numbers
   pub one_number : (xs : List A) (z : A) → OneOf z xs → OneOf (f z) (map f xs)
+  one_number [] z h = elim h [ ]
   one_number (x ∷ xs) z (inl e) = inl (ap f e)
   one_number (x ∷ xs) z (inr o) = inr (one_number xs z o)
 
@@ -101,6 +103,7 @@ module _ {A : Type 0} (f : A → ℕ) where
 
   -- what rises from above n on is above n, so no two numbers are equal,
   rises-number : (xs : List A) (n m : ℕ) → RisesBy f n xs → OneOf m (map f xs) → n < m
+  rises-number [] n m h o = elim o [ ]
   rises-number (x ∷ xs) n m h (inl e) = let l = h.0 in omega arith
   rises-number (x ∷ xs) n m h (inr o) = let l = h.0 in let i = rises-number xs (f x) m h.1 o in omega arith
 
@@ -122,6 +125,7 @@ module _ {A : Type 0} (f : A → ℕ) where
   -- ---- nothing else is so
 
   rises-one : (xs : List A) (n : ℕ) (z : A) → RisesBy f n xs → OneOf z xs → n < f z
+  rises-one [] n z h o = elim o [ ]
   rises-one (x ∷ xs) n z h (inl e) = subst (λ (y : A). n < f y) e h.0
   rises-one (x ∷ xs) n z h (inr o) = let a = h.0 in let b = rises-one xs (f x) z h.1 o in omega arith
 
@@ -160,10 +164,12 @@ row_one (r ∷ rs) zero l = inl refl
 row_one (r ∷ rs) (suc i) l = inr (row_one rs i (omega arith))
 
 one-row : (rs : List Row) (z : Row) → OneOf z rs → (i : ℕ) × (i < length rs) × (get_or rs i no_row ≡ z)
+one-row [] z h = elim h [ ]
 one-row (r ∷ rs) z (inl e) = (0, omega arith, e)
 one-row (r ∷ rs) z (inr o) = let (i, l, e) = one-row rs z o in (suc i, omega arith, e)
 
 all_one : (P : Row → Type 0) (rs : List Row) (z : Row) → All P rs → OneOf z rs → P z
+all_one P [] z h o = elim o [ ]
 all_one P (r ∷ rs) z h (inl e) = subst P e h.0
 all_one P (r ∷ rs) z h (inr o) = all_one P rs z h.1 o
 

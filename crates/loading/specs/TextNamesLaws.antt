@@ -34,6 +34,7 @@ use Rattle.loading.specs.TextTrees.{Distinct, GoodLine, GoodLines, numbers_named
 -- ---- numbers
 
 pub one-first : (n : ℕ) (ns ms : List ℕ) → OneOf n ns → OneOf n (ns ++ ms)
+one-first n [] ms h = elim h [ ]
 one-first n (m ∷ ns) ms (inl e) = inl e
 one-first n (m ∷ ns) ms (inr h) = inr (one-first n ns ms h)
 
@@ -62,6 +63,7 @@ distinct-last (m ∷ ns) n d h = (λ x. by_place (one_split m ns (n ∷ []) x), 
 
 -- a number behind some is none of them
 pub distinct-behind : (ns ms : List ℕ) (n : ℕ) → Distinct (ns ++ (n ∷ ms)) → OneOf n ns → ⊥
+distinct-behind [] ms n d h = elim h [ ]
 distinct-behind (m ∷ ns) ms n d (inl e) = d.0 (one_last m ns (n ∷ ms) (inl (sym e)))
 distinct-behind (m ∷ ns) ms n d (inr h) = distinct-behind ns ms n d.1 h
 
@@ -79,6 +81,7 @@ number-one (r ∷ rs) zero n l e = inl e
 number-one (r ∷ rs) (suc i) n l e = inr (number-one rs i n (omega arith) e)
 
 one_number : (rs : List Row) (n : ℕ) → OneOf n (numbers rs) → (i : ℕ) × (i < length rs) × ((get_or rs i no_row).number ≡ n)
+one_number [] n h = elim h [ ]
 one_number (r ∷ rs) n (inl e) = (0, omega arith, e)
 one_number (r ∷ rs) n (inr h) = let (i, l, e) = one_number rs n h in (suc i, omega arith, e)
 

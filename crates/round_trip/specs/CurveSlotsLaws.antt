@@ -44,10 +44,12 @@ held-are s q h n l m =
 -- ---- those of a print
 
 one_map : (ds : List Definition) (z : Definition) → OneOf z (map remarked_definition ds) → (d : Definition) × OneOf d ds × (remarked_definition d ≡ z)
+one_map [] z h = elim h [ ]
 one_map (d ∷ ds) z (inl e) = (d, inl refl, e)
 one_map (d ∷ ds) z (inr o) = let (x, p, e) = one_map ds z o in (x, inr p, e)
 
 map-one : (ds : List Definition) (d : Definition) → OneOf d ds → OneOf (remarked_definition d) (map remarked_definition ds)
+map-one [] d h = elim h [ ]
 map-one (x ∷ ds) d (inl e) = inl (ap remarked_definition e)
 map-one (x ∷ ds) d (inr o) = inr (map-one ds d o)
 

@@ -247,6 +247,7 @@ module _ (s : List ℕ) (size : length s ≤ set_size) (sound : (sound_lines s).
           subst (λ (k : ℕ). OneOf k (map curve_number ds)) e (one_number d ds o)
         where
           one_number : (d : Definition) (es : List Definition) → OneOf d es → OneOf d.number (map curve_number es)
+          one_number d [] h = elim h [ ]
           one_number d (x ∷ es) (inl e) = inl (ap curve_number e)
           one_number d (x ∷ es) (inr o) = inr (one_number d es o)
 

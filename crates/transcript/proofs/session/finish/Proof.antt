@@ -3,7 +3,8 @@ use borrow.Author.Rules.{rules}
 use native.Mathlib.Omega.{arith}
 use borrow.Author.Tests.{not-true, not-false}
 use mathlib.Core.Path.{◌≡◌, sym, ◌∙◌}
-use mathlib.Core.Bool.{true}
+use mathlib.Core.Bool.{Bool, true, false, not}
+use Rattle.transcript.specs.declared.session.Session.{Session}
 use Rattle.transcript.specs.Machine.{is_fit}
 use Rattle.transcript.specs.Intake.{input_over}
 use Rattle.transcript.specs.InPlace.{counts_of}
@@ -15,8 +16,9 @@ use Rattle.transcript.proofs.WorkLaws.{put_whole, put-after, end-has-room, end-i
 use Rattle.transcript.proofs.session.finish.Statement.{statement}
 use Rattle.transcript.proofs.session.finish.Tie as tie
 
-fit : (c : tie.Else-not-is_fit) → is_fit c.args.session ≡ true
-fit c = sym c.is_fit.ensures ∙ not-false _ c.if-not-is_fit.false-raw
+-- the session passed the test
+fit : {b : Bool} {x : Session} → b ≡ is_fit x → not b ≡ false → is_fit x ≡ true
+fit e h = sym e ∙ not-false _ h
 
 pub finish_spec : {M : Type 1} → statement M
 finish_spec =
@@ -30,25 +32,25 @@ finish_spec =
     (λ c κs. search rules)
     (λ c κs. search rules)
     (λ c κs.
-    let k = c.before.before.before.before.before.before.before.before.before.before.before in
-    let b = k.before in
-    let q = b.before.before in
-    let l = q.before.before.before.before.before.before.before.before.before.before.before.before.before.before.before.before.before.before.before.before.before.before.before in
-    let i = l.before.before.before.before in
-    let f = fit_parts _ (fit i) in
-    (rw k.Counts-of.ensures q.look-known.ensures, (record { kept = input-told _ f.intake-1 b.end_input.ensures; counts = λ h y. rw k.Counts-of.ensures (fit-counts (counts_of i.args.session.totals) f.totals-1 y) }, omega arith)))
+    let k = c in
+    let b = c in
+    let q = c in
+    let l = c in
+    let i = c in
+    let f = fit_parts _ (fit i.is_fit.ensures i.if-not-is_fit.false-raw) in
+    (rw k.counts_of.ensures q.look-known.ensures, (record { kept = input-told _ f.intake b.end_input.ensures; counts = λ h y. rw k.counts_of.ensures (fit-counts (counts_of i.args.session.totals) f.totals y) }, omega arith)))
     (λ c κs. search rules)
     (λ c κs.
-    let w = c.before.before.before.before.before.before.before.before.before.before.before.before.before in
-    let b = w.before.before.before.before.before.before.before.before.before.before.before.before.before in
+    let w = c in
+    let b = c in
     end-has-room (w.work_arrival-f.ensures.1 (input_over b.args.session.intake) b.end_input.ensures) (arrival-room _ _))
     (λ c.
-    let y = c.before.before.before in
-    let w = y.before.before.before.before.before.before.before.before.before.before.before in
-    let k = w.before.before.before.before.before.before.before.before.before.before.before.before in
-    let b = k.before in
-    let p = b.before.before.before.before.before.before.before.before.before.before.before.before.before.before.before.before.before.before.before in
-    let i = p.before.before.before.before.before.before.before.before.before.before in
+    let y = c in
+    let w = c in
+    let k = c in
+    let b = c in
+    let p = c in
+    let i = c in
     let x = i.args.session in
-    put-after (finish-fit _ _ _ (fit i) (totals-apart x.totals-1 k.Counts-of.ensures p.spread_cells-cells.ensures))
-    (w.work_arrival-f.ensures.1 (input_over x.intake-1) b.end_input.ensures) (end-in _ _ w.work_arrival-f.result.counts y.state_in-last.ensures c.put_last.ensures)))
+    put-after (finish-fit _ _ _ (fit i.is_fit.ensures i.if-not-is_fit.false-raw) (totals-apart x.totals k.counts_of.ensures p.spread_cells-cells.ensures))
+    (w.work_arrival-f.ensures.1 (input_over x.intake) b.end_input.ensures) (end-in _ _ w.work_arrival-f.result.counts y.state_in-last.ensures c.put_last.ensures)))
