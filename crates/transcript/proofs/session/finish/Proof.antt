@@ -17,8 +17,8 @@ use Rattle.transcript.proofs.session.finish.Statement.{statement}
 use Rattle.transcript.proofs.session.finish.Tie as tie
 
 -- the session passed the test
-fit : {b : Bool} {x : Session} → b ≡ is_fit x → not b ≡ false → is_fit x ≡ true
-fit e h = sym e ∙ not-false _ h
+fit : {b : Bool} (x : Session) → b ≡ is_fit x → not b ≡ false → is_fit x ≡ true
+fit x e h = sym e ∙ not-false _ h
 
 pub finish_spec : {M : Type 1} → statement M
 finish_spec =
@@ -37,7 +37,7 @@ finish_spec =
     let q = c in
     let l = c in
     let i = c in
-    let f = fit_parts _ (fit i.is_fit.ensures i.if-not-is_fit.false-raw) in
+    let f = fit_parts _ (fit _ i.is_fit.ensures i.if-not-is_fit.false-raw) in
     (rw k.counts_of.ensures q.look-known.ensures, (record { kept = input-told _ f.intake b.end_input.ensures; counts = λ h y. rw k.counts_of.ensures (fit-counts (counts_of i.args.session.totals) f.totals y) }, omega arith)))
     (λ c κs. search rules)
     (λ c κs.
@@ -52,5 +52,5 @@ finish_spec =
     let p = c in
     let i = c in
     let x = i.args.session in
-    put-after (finish-fit _ _ _ (fit i.is_fit.ensures i.if-not-is_fit.false-raw) (totals-apart x.totals k.counts_of.ensures p.spread_cells-cells.ensures))
+    put-after (finish-fit _ _ _ (fit _ i.is_fit.ensures i.if-not-is_fit.false-raw) (totals-apart x.totals k.counts_of.ensures p.spread_cells-cells.ensures))
     (w.work_arrival-f.ensures.1 (input_over x.intake) b.end_input.ensures) (end-in _ _ w.work_arrival-f.result.counts y.state_in-last.ensures c.put_last.ensures)))
