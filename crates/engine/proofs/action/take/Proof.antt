@@ -38,9 +38,8 @@ take_spec =
     (λ c κs. search rules)
     (λ c κs. search rules)
     (λ c.
-    let s = c in
-    let a = s.args in
-    λ runs. simp (taken_at, sym s.is_removal.ensures ∙ not-true _ s.if-not-is_removal.true-raw)
+    let a = c.args in
+    λ runs. simp (taken_at, sym c.is_removal.ensures ∙ not-true _ c.if-not-is_removal.true-raw)
     (worked-taken c.work.result (vars_of a.r.now a.cells.now runs) (from_value_or_alarm (right_value a.set.now a.r.now a.cells.now a.p)) c.work.ensures))
     (λ c κs. search rules)
     (λ c κs. rw c.token_at.ensures (removal-fifo _ _ (removes c.before.before.before.before)))

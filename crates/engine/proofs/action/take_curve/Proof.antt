@@ -18,4 +18,4 @@ take_curve_spec =
     (λ c. search rules)
     (λ c κs. search rules)
     (λ c. let v = c.before in λ runs. simp (curve_taken, sym v.curve_value.ensures ∙ c.in-Value.is) (refl, (back w32 (record { sfits = c.in-Value.known_told-1-own.given.0.1 }), (refl, refl))))
-    (λ c. let k = c in λ runs. simp (curve_taken, sym k.curve_value.ensures ∙ k.in-Alarm.is, c.not_taken.ensures) (refl, refl)))
+    (λ c. λ runs. simp (curve_taken, sym c.curve_value.ensures ∙ c.in-Alarm.is, c.not_taken.ensures) (refl, refl)))

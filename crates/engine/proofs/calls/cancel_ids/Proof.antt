@@ -30,8 +30,7 @@ cancel_ids_spec =
     (λ c. omega arith)
     (λ c. omega arith)
     (λ c.
-    let i = c.loop-k.invariant.0 in
-    (
+    let i = c.loop-k.invariant.0 in (
       elim c.if-not-ids.branch [
         | then-not-ids w ↦ w.now_cancelled-is ∙ reset-id _ _ _ _ i (not-true _ w.if-not-ids.true-raw)
         | else-not-ids w ↦ w.now_cancelled-is ∙ reset-ids _ _ _ _ i (not-false _ w.if-not-ids.false-raw)

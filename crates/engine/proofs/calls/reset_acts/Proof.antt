@@ -31,8 +31,7 @@ reset_acts_spec =
     (λ c. omega arith)
     (λ c. omega arith)
     (λ c.
-    let i = c.loop-k.invariant.0 in
-    (
+    let i = c.loop-k.invariant.0 in (
       elim c.if-not-cancelled-k.branch [
         | then-not-cancelled-k w ↦ w.next-is ∙ recount-live _ _ _ _ i (not-true _ w.if-not-cancelled-k.true-raw)
         | else-not-cancelled-k w ↦ w.next-is ∙ recount-cancelled _ _ _ _ i (not-false _ w.if-not-cancelled-k.false-raw)

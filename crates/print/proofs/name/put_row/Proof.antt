@@ -31,14 +31,11 @@ put_row_spec =
     (λ c. search rules)
     (λ c κs. search rules)
     (λ c.
-    let s = c in
-    let a = s.args in
-    (solid-part a.table.now a.start a.width _ s.solid_size-size.ensures).0)
+    let a = c.args in
+    (solid-part a.table.now a.start a.width _ c.solid_size-size.ensures).0)
     (λ c κs. search rules)
     (λ c. search rules)
     (λ c.
-    let p = c in
-    let s = c in
-    let a = s.args in
-    let (e, f) = solid-part a.table.now a.start a.width _ s.solid_size-size.ensures in
-    (e ∙ ap (λ (l : List ℕ). length l) f, p.put_bytes.ensures ∙ ap (λ (l : List ℕ). put_at a.out.now a.at l) f)))
+    let a = c.args in
+    let (e, f) = solid-part a.table.now a.start a.width _ c.solid_size-size.ensures in
+    (e ∙ ap (λ (l : List ℕ). length l) f, c.put_bytes.ensures ∙ ap (λ (l : List ℕ). put_at a.out.now a.at l) f)))

@@ -14,14 +14,9 @@ line_end_spec =
     (tie.spec
     (λ c κs. (c.requires.1.0 power_on).intake)
     (λ c κs.
-    let l = c in
-    let s = c in
-    let v = s.requires.1.0 power_on in
-    let b = l.end_line-b.ensures.0 in
-    (s.requires.0, (record { kept = line-told s.args.intake v.intake b; counts = λ h. fit-counts s.args.counts (line-totals {x = session_in s.args.intake s.args.counts power_on} v b h) }, s.requires.1.1)))
+    let v = c.requires.1.0 power_on in
+    let b = c.end_line-b.ensures.0 in
+    (c.requires.0, (record { kept = line-told c.args.intake v.intake b; counts = λ h. fit-counts c.args.counts (line-totals {x = session_in c.args.intake c.args.counts power_on} v b h) }, c.requires.1.1)))
     (λ c. search rules)
     (λ c.
-    let w = c in
-    let l = c in
-    let s = c in
-    (w.work_arrival.ensures.0, fed-as (line_as _ _ _ l.end_line-b.ensures.1) (w.work_arrival.ensures.1 (line_over s.args.intake) l.end_line-b.ensures.0))))
+    (c.work_arrival.ensures.0, fed-as (line_as _ _ _ c.end_line-b.ensures.1) (c.work_arrival.ensures.1 (line_over c.args.intake) c.end_line-b.ensures.0))))

@@ -15,15 +15,12 @@ open_set_spec =
     (λ c κs. search rules)
     (λ c. search rules)
     (λ c.
-    let i = c in
-    let l = c in
-    let e = l.load_lines-l.ensures in
-    let a = l.args in (
+    let e = c.load_lines-l.ensures in
+    let a = c.args in (
       e.1.1,
-      λ m s n. fed (opens_not m s (session_of a.intake n) _ e.0 e.1.0 i.if-code-ne0.true c.stop.ensures) c.load_line-end.ensures,
+      λ m s n. fed (opens_not m s (session_of a.intake n) _ e.0 e.1.0 c.if-code-ne0.true c.stop.ensures) c.load_line-end.ensures,
     ))
     (λ c.
-    let l = c in
-    let e = l.load_lines-l.ensures in
-    let a = l.args in
+    let e = c.load_lines-l.ensures in
+    let a = c.args in
     (e.1.1, λ m s n. fed (opens m s (session_of a.intake n) _ e.0 e.1.0 c.if-code-ne0.false) put-nothing)))

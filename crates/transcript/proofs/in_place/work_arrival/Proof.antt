@@ -19,54 +19,39 @@ work_arrival_spec =
     (λ c. search rules)
     (λ c. search rules)
     (λ c.
-    let s = c in
-    let t = s.args.text.now in
+    let t = c.args.text.now in
     let e : length t ≡ kept_size = search rules in
-    sym (length-take-le _ t (omega (arith, s.requires.1.0.kept))))
+    sym (length-take-le _ t (omega (arith, c.requires.1.0.kept))))
     (λ c κs. search rules)
     (λ c κs. search rules)
     (λ c. search rules)
     (λ c κs.
-    let m = c in
-    let p = m.requires in
-    (p.0, (p.1.0.counts (beat-comes m.in-Beat.is), p.1.1)))
+    let p = c.requires in
+    (p.0, (p.1.0.counts (beat-comes c.in-Beat.is), p.1.1)))
     (λ c. search rules)
     (λ c κs.
-    let m = c in
-    let p = m.requires in
-    (p.1.0.counts (call-comes false m.in-ProgramEnd.is), p.1.1))
+    let p = c.requires in
+    (p.1.0.counts (call-comes false c.in-ProgramEnd.is), p.1.1))
     (λ c. search rules)
     (λ c κs.
-    let m = c in
-    let p = m.requires in
-    (p.1.0.counts (call-comes true m.in-ControlReset.is), p.1.1))
+    let p = c.requires in
+    (p.1.0.counts (call-comes true c.in-ControlReset.is), p.1.1))
     (λ c. (c.requires.0, λ a e. fed (came-nothing _ _ _ a e c.in-Nothing.is) put-nothing))
     (λ c. search rules)
     (λ c.
-    let k = c in
-    let o = c in
-    (k.look.ensures, λ a e. fed-as (came-text _ _ _ a e o.in-Text.is) (o.open_set-o.ensures.1 _ _ _)))
+    (c.look.ensures, λ a e. fed-as (came-text _ _ _ a e c.in-Text.is) (c.open_set-o.ensures.1 _ _ _)))
     (λ c. search rules)
-    (λ c.
-    let b = c in
-    let m = c in
-    let s = c in (
-      said-beside [] _ _ _ (b.beat_end.ensures []) s.requires.0,
-      λ a e. fed-as (came-beat _ _ _ a e m.in-Beat.is) (b.beat_end.ensures _),
+    (λ c. (
+      said-beside [] _ _ _ (c.beat_end.ensures []) c.requires.0,
+      λ a e. fed-as (came-beat _ _ _ a e c.in-Beat.is) (c.beat_end.ensures _),
     ))
     (λ c. search rules)
-    (λ c.
-    let w = c in
-    let m = c in
-    let s = c in (
-      call-beside [] _ _ false (w.work_call.ensures []) s.requires.0,
-      λ a e. fed-as (came-call _ _ _ a e false m.in-ProgramEnd.is) (w.work_call.ensures _),
+    (λ c. (
+      call-beside [] _ _ false (c.work_call.ensures []) c.requires.0,
+      λ a e. fed-as (came-call _ _ _ a e false c.in-ProgramEnd.is) (c.work_call.ensures _),
     ))
     (λ c. search rules)
-    (λ c.
-    let w = c in
-    let m = c in
-    let s = c in (
-      call-beside [] _ _ true (w.work_call-in-ControlReset.ensures []) s.requires.0,
-      λ a e. fed-as (came-call _ _ _ a e true m.in-ControlReset.is) (w.work_call-in-ControlReset.ensures _),
+    (λ c. (
+      call-beside [] _ _ true (c.work_call-in-ControlReset.ensures []) c.requires.0,
+      λ a e. fed-as (came-call _ _ _ a e true c.in-ControlReset.is) (c.work_call-in-ControlReset.ensures _),
     )))

@@ -20,21 +20,15 @@ work_beat_spec =
     (λ c κs. search rules)
     (λ c κs. search rules)
     (λ c κs.
-    let b = c in
     let s = c.before.before.before.before.before.before.before.before.before.before.before.before.before.before.before.before.before.before in
-    end-near s.args.set.now (before s).totals (lent_in s.args.lent) s.requires.1.1 b.tally_beat-t.ensures.1)
+    end-near s.args.set.now (before s).totals (lent_in s.args.lent) s.requires.1.1 c.tally_beat-t.ensures.1)
     (λ c κs. search rules)
-    (λ c. let e = c in e.put_end-end.auto.out ∙ e.tally_beat-t.auto.out)
+    (λ c. c.put_end-end.auto.out ∙ c.tally_beat-t.auto.out)
     (λ c t.
-    let e = c in
-    let y = c in
-    let i = c in
-    let b = c in
     let s = c.before.before.before.before.before.before.before.before.before.before.before.before.before.before.before.before.before.before.before.before.before.before in
-    fed (beat-last t s.args.set.now (before s) (lent_in s.args.lent) b.tally_beat-t.ensures.0 i.if-next-eq-LAST_LINE.true c.stop.ensures)
-    (put_both b.tally_beat-t.ensures.1 (ended-in s.args.set.now b.tally_beat-t.result.counts y.state_in-state.ensures e.put_end-end.ensures)))
+    fed (beat-last t s.args.set.now (before s) (lent_in s.args.lent) c.tally_beat-t.ensures.0 c.if-next-eq-LAST_LINE.true c.stop.ensures)
+    (put_both c.tally_beat-t.ensures.1 (ended-in s.args.set.now c.tally_beat-t.result.counts c.state_in-state.ensures c.put_end-end.ensures)))
     (λ c. search rules)
     (λ c t.
-    let b = c in
     let s = c.before.before.before.before.before.before.before.before.before.before.before.before.before.before.before in
-    fed (beat-more t s.args.set.now (before s) (lent_in s.args.lent) b.tally_beat-t.ensures.0 c.if-next-eq-LAST_LINE.false) b.tally_beat-t.ensures.1))
+    fed (beat-more t s.args.set.now (before s) (lent_in s.args.lent) c.tally_beat-t.ensures.0 c.if-next-eq-LAST_LINE.false) c.tally_beat-t.ensures.1))

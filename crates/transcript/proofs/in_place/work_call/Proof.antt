@@ -27,24 +27,14 @@ work_call_spec =
     (λ c κs. search rules)
     (λ c. search rules)
     (λ c t.
-    let e = c in
-    let i = c in
-    let n = c in
-    let h = c in
-    let l = c in
-    let y = c in
     let s = c.before.before.before.before.before.before.before.before.before.before.before.before.before.before.before.before.before.before.before.before.before in
     let a = s.args in
-    let held = h.hold.ensures _ (ap (λ (k : Counts). k.channels) n.count_call-next.ensures) in
-    let totals = held-called a.counts n.count_call-next.ensures held (before s).totals.state ∙ ap (calling (before s).totals) (l.call_left-left.ensures ∙ ap (call_left a.reset a.set.now) y.state_in-before.ensures) in
-    fed (call-last t a.set.now (before s) a.reset totals i.if-next-eq-LAST_LINE.true c.stop.ensures) (ended-in a.set.now n.count_call-next.result (sym held) e.put_end-end.ensures))
+    let held = c.hold.ensures _ (ap (λ (k : Counts). k.channels) c.count_call-next.ensures) in
+    let totals = held-called a.counts c.count_call-next.ensures held (before s).totals.state ∙ ap (calling (before s).totals) (c.call_left-left.ensures ∙ ap (call_left a.reset a.set.now) c.state_in-before.ensures) in
+    fed (call-last t a.set.now (before s) a.reset totals c.if-next-eq-LAST_LINE.true c.stop.ensures) (ended-in a.set.now c.count_call-next.result (sym held) c.put_end-end.ensures))
     (λ c t.
-    let n = c in
-    let h = c in
-    let l = c in
-    let y = c in
     let s = c.before.before.before.before.before.before.before.before.before.before.before.before.before.before.before.before in
     let a = s.args in
-    let held = h.hold.ensures _ (ap (λ (k : Counts). k.channels) n.count_call-next.ensures) in
-    let totals = held-called a.counts n.count_call-next.ensures held (before s).totals.state ∙ ap (calling (before s).totals) (l.call_left-left.ensures ∙ ap (call_left a.reset a.set.now) y.state_in-before.ensures) in
+    let held = c.hold.ensures _ (ap (λ (k : Counts). k.channels) c.count_call-next.ensures) in
+    let totals = held-called a.counts c.count_call-next.ensures held (before s).totals.state ∙ ap (calling (before s).totals) (c.call_left-left.ensures ∙ ap (call_left a.reset a.set.now) c.state_in-before.ensures) in
     fed (call-more t a.set.now (before s) a.reset totals c.if-next-eq-LAST_LINE.false) put-nothing))

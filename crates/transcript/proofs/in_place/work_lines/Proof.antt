@@ -26,32 +26,23 @@ work_lines_spec =
     invariant-loop
     decreases-loop
     (λ c κs. c.requires.0)
-    (λ c. let s = c in (set_out _ _ _ (s.requires.1 _), c.look-known.ensures))
+    (λ c. (set_out _ _ _ (c.requires.1 _), c.look-known.ensures))
     (λ c κs. search rules)
     (λ c. omega (arith, c.run_end-end.ensures))
     (λ c. omega (arith, c.run_end-end.ensures))
-    (λ c. let e = c in end-within _ _ _ e.run_end-end.ensures e.loop-at.invariant.0.within)
+    (λ c. end-within _ _ _ c.run_end-end.ensures c.loop-at.invariant.0.within)
     (λ c κs. c.loop-at.invariant.0.lives.intake)
     (λ c.
-    let t = c in
-    let e = c in
-    let g = e.loop-at.invariant.0 in
-    work-is (going-ends g e.loop-at-test.true e.run_end-end.ensures (taken_in _ _ _ _ t.take_in-kept.ensures.0 t.take_in-kept.ensures.1) c.if-input-end.true) g.put)
+    let g = c.loop-at.invariant.0 in
+    work-is (going-ends g c.loop-at-test.true c.run_end-end.ensures (taken_in _ _ _ _ c.take_in-kept.ensures.0 c.take_in-kept.ensures.1) c.if-input-end.true) g.put)
     (λ c κs.
-    let t = c in
-    let e = c in
-    let l = c in
-    let i = l.loop-at.invariant in
-    let k = e.loop-at-test.true in
-    (i.1, (lives-on l.loop-at.n (going-lives i.0 k e.run_end-end.ensures (taken_in _ _ _ _ t.take_in-kept.ensures.0 t.take_in-kept.ensures.1)), k)))
-    (λ c. let h = c in omega (arith, h.if-input-end.false, h.well_formed.1.1.1.1.1.1.1.1.1.1.1.1.1.0))
-    (λ c. let h = c in omega (arith, h.if-input-end.false, h.run_end-end.ensures))
-    (λ c.
-    let l = c in
-    let h = c in
-    let t = c in
-    let e = c in (
-      going_on e.loop-at.invariant.0 e.loop-at-test.true e.run_end-end.ensures (taken_in _ _ _ _ t.take_in-kept.ensures.0 t.take_in-kept.ensures.1) h.if-input-end.false l.line_end-f.ensures.1,
-      l.line_end-f.ensures.0,
+    let i = c.loop-at.invariant in
+    let k = c.loop-at-test.true in
+    (i.1, (lives-on c.loop-at.n (going-lives i.0 k c.run_end-end.ensures (taken_in _ _ _ _ c.take_in-kept.ensures.0 c.take_in-kept.ensures.1)), k)))
+    (λ c. omega (arith, c.if-input-end.false, c.well_formed.1.1.1.1.1.1.1.1.1.1.1.1.1.0))
+    (λ c. omega (arith, c.if-input-end.false, c.run_end-end.ensures))
+    (λ c. (
+      going_on c.loop-at.invariant.0 c.loop-at-test.true c.run_end-end.ensures (taken_in _ _ _ _ c.take_in-kept.ensures.0 c.take_in-kept.ensures.1) c.if-input-end.false c.line_end-f.ensures.1,
+      c.line_end-f.ensures.0,
     ))
     (λ c. let g = c.loop-at.invariant.0 in work-is (going-full g c.loop-at-test.false) g.put))

@@ -32,25 +32,12 @@ finish_spec =
     (λ c κs. search rules)
     (λ c κs. search rules)
     (λ c κs.
-    let k = c in
-    let b = c in
-    let q = c in
-    let l = c in
-    let i = c in
-    let f = fit_parts _ (fit _ i.is_fit.ensures i.if-not-is_fit.false-raw) in
-    (rw k.counts_of.ensures q.look-known.ensures, (record { kept = input-told _ f.intake b.end_input.ensures; counts = λ h y. rw k.counts_of.ensures (fit-counts (counts_of i.args.session.totals) f.totals y) }, omega arith)))
+    let f = fit_parts _ (fit _ c.is_fit.ensures c.if-not-is_fit.false-raw) in
+    (rw c.counts_of.ensures c.look-known.ensures, (record { kept = input-told _ f.intake c.end_input.ensures; counts = λ h y. rw c.counts_of.ensures (fit-counts (counts_of c.args.session.totals) f.totals y) }, omega arith)))
     (λ c κs. search rules)
     (λ c κs.
-    let w = c in
-    let b = c in
-    end-has-room (w.work_arrival-f.ensures.1 (input_over b.args.session.intake) b.end_input.ensures) (arrival-room _ _))
+    end-has-room (c.work_arrival-f.ensures.1 (input_over c.args.session.intake) c.end_input.ensures) (arrival-room _ _))
     (λ c.
-    let y = c in
-    let w = c in
-    let k = c in
-    let b = c in
-    let p = c in
-    let i = c in
-    let x = i.args.session in
-    put-after (finish-fit _ _ _ (fit _ i.is_fit.ensures i.if-not-is_fit.false-raw) (totals-apart x.totals k.counts_of.ensures p.spread_cells-cells.ensures))
-    (w.work_arrival-f.ensures.1 (input_over x.intake) b.end_input.ensures) (end-in _ _ w.work_arrival-f.result.counts y.state_in-last.ensures c.put_last.ensures)))
+    let x = c.args.session in
+    put-after (finish-fit _ _ _ (fit _ c.is_fit.ensures c.if-not-is_fit.false-raw) (totals-apart x.totals c.counts_of.ensures c.spread_cells-cells.ensures))
+    (c.work_arrival-f.ensures.1 (input_over x.intake) c.end_input.ensures) (end-in _ _ c.work_arrival-f.result.counts c.state_in-last.ensures c.put_last.ensures)))

@@ -19,20 +19,12 @@ step_spec =
     (λ c κs. search rules)
     (λ c κs. search rules)
     (λ c κs.
-    let k = c in
-    let l = c in
-    let i = c in
-    let f = c in
-    let x = f.args.session in
-    let h = sym f.is_fit.ensures ∙ not-false _ i.if-not-is_fit.false-raw in
-    (l.read_lines.ensures, λ y. rw k.counts_of.ensures (fit_on x.intake (counts_of x.totals) x.totals.state h y)))
+    let x = c.args.session in
+    let h = sym c.is_fit.ensures ∙ not-false _ c.if-not-is_fit.false-raw in
+    (c.read_lines.ensures, λ y. rw c.counts_of.ensures (fit_on x.intake (counts_of x.totals) x.totals.state h y)))
     (λ c κs. search rules)
     (λ c κs. search rules)
     (λ c.
-    let y = c in
-    let w = c in
-    let k = c in
-    let p = c in
-    let a = p.args in
+    let a = c.args in
     let x = a.session in
-    step_is (step-as a.text.now a.set.now a.input.now x.intake (totals-apart x.totals k.counts_of.ensures p.spread_cells-cells.ensures) (c.totals_of.ensures ∙ ap (totals_of w.work_lines-w.result.counts) y.state_in-next.ensures) w.work_lines-w.ensures)))
+    step_is (step-as a.text.now a.set.now a.input.now x.intake (totals-apart x.totals c.counts_of.ensures c.spread_cells-cells.ensures) (c.totals_of.ensures ∙ ap (totals_of c.work_lines-w.result.counts) c.state_in-next.ensures) c.work_lines-w.ensures)))
