@@ -21,7 +21,8 @@ pub fn public_calls(library: &Crate) -> Vec<(String, Function)> {
     let root = &library.files["src/lib.rt"].text;
     calls.extend(functions(root).into_iter().filter(|one| one.public).map(|one| (String::new(), one)));
     shown(library, "", root, &mut calls);
-    let passed: BTreeSet<(String, String)> = root.lines().filter_map(passed_on).collect();
+    let passed: BTreeSet<(String, String)> =
+        shows(root).iter().filter_map(|one| passed_on(one)).flatten().collect();
     for (module, item) in passed {
         let Some(file) = library.files.get(&format!("src/{module}.rt")) else { continue };
         calls.extend(
@@ -31,25 +32,48 @@ pub fn public_calls(library: &Crate) -> Vec<(String, Function)> {
     calls
 }
 
-/// What this program would not see: a `pub use` that is not one item of a file of the crate, and methods.
+/// What this program would not see: a `pub use` that is not of items of one file of the crate, methods, and traits.
 fn unread(library: &Crate) -> Vec<String> {
     let mut faults = Vec::new();
     for file in library.within("src/", ".rt") {
-        for line in file.text.lines().filter(|line| line.starts_with("pub use ") || line.starts_with("impl"))
-        {
-            let passed = passed_on(line).filter(|_| file.path.ends_with("/lib.rt"));
-            let source = passed
-                .and_then(|(module, item)| Some((library.files.get(&format!("src/{module}.rt"))?, item)));
-            let seen = source.is_some_and(|(source, item)| {
-                functions(&source.text).iter().any(|one| one.name == item)
-                    || items(&source.text).any(|one| one == item)
-            });
-            if !seen {
+        let methods = file
+            .text
+            .lines()
+            .filter(|line| ["impl", "trait ", "pub trait "].iter().any(|it| line.starts_with(it)));
+        for line in shows(&file.text).into_iter().chain(methods.map(String::from)) {
+            let passed = passed_on(&line).filter(|_| file.path.ends_with("/lib.rt"));
+            if !passed.is_some_and(|all| all.iter().all(|(module, item)| has(library, module, item))) {
                 faults.push(format!("{}: what does this show? {line}", file.path));
             }
         }
     }
     faults
+}
+
+/// Whether a module of the crate has this function or item.
+fn has(library: &Crate, module: &str, item: &str) -> bool {
+    library.files.get(&format!("src/{module}.rt")).is_some_and(|source| {
+        functions(&source.text).iter().any(|one| one.name == item)
+            || items(&source.text).any(|one| one == item)
+    })
+}
+
+/// Each `pub use .. ;` of a text, on one line.
+fn shows(text: &str) -> Vec<String> {
+    let mut found = Vec::new();
+    let mut lines = text.lines();
+    while let Some(line) = lines.next() {
+        if !line.starts_with("pub use ") {
+            continue;
+        }
+        let mut whole = line.to_string();
+        while !whole.contains(';') {
+            let Some(more) = lines.next() else { break };
+            whole.push_str(more.trim());
+        }
+        found.push(whole);
+    }
+    found
 }
 
 /// The structs, enums and constants that a text shows.
@@ -74,11 +98,18 @@ fn shown(library: &Crate, folder: &str, text: &str, calls: &mut Vec<(String, Fun
     }
 }
 
-/// `pub use a::b::item;` as the module's path and the item.
-fn passed_on(line: &str) -> Option<(String, String)> {
+/// `pub use a::b::item;` or `pub use a::b::{item, item};` as the module's path and the item, for each.
+fn passed_on(line: &str) -> Option<Vec<(String, String)>> {
     let path = line.strip_prefix("pub use ")?.strip_suffix(';')?.trim_start_matches("crate::");
-    let (module, item) = path.rsplit_once("::")?;
-    Some((module.replace("::", "/"), item.to_string()))
+    let (module, items) = match path.split_once("::{") {
+        Some((module, list)) => (module, list.strip_suffix('}')?.trim_end_matches([',', ' '])),
+        None => path.rsplit_once("::")?,
+    };
+    let word =
+        |text: &str| !text.is_empty() && text.chars().all(|letter| letter.is_alphanumeric() || letter == '_');
+    let items: Vec<&str> = items.split(',').map(str::trim).collect();
+    let plain = module.split("::").all(word) && items.iter().all(|item| word(item) && *item != "self");
+    plain.then(|| items.into_iter().map(|item| (module.replace("::", "/"), item.to_string())).collect())
 }
 
 fn faults(function: &Function) -> Vec<String> {
@@ -108,24 +139,21 @@ enum Side {
     Other,
 }
 
-/// `λ x. ⌜ x ≡ .. ⌝` or `λ x. ⌜ now (y .exit) ≡ .. ⌝`, where nothing joins it to more, and neither the result nor an exit stands to the right.
+/// `result ≡ ..` or `y.new ≡ ..`, where nothing joins it to more, and neither the result nor anything at its end stands to the right.
 fn side(promise: &str) -> Side {
-    let Some((result, body)) = promise.strip_prefix('λ').and_then(|rest| rest.split_once('.')) else {
-        return Side::Other;
-    };
-    let body = body.trim().trim_start_matches('⌜').trim_end_matches('⌝').trim();
-    if joins(body) {
+    if joins(promise) {
         return Side::Other;
     }
-    let Some((left, right)) = body.split_once(" ≡ ") else { return Side::Other };
-    let mut words = right.split(|letter: char| " (){}.;".contains(letter));
-    if right.contains(".exit") || words.any(|word| word == result.trim()) {
+    let Some((left, right)) = promise.split_once(" ≡ ") else { return Side::Other };
+    let mut words = right.split(|letter: char| !letter.is_alphanumeric() && letter != '_');
+    if words.any(|word| ["result", "new", "exit"].contains(&word)) {
         return Side::Other;
     }
-    if left == result.trim() {
+    if left == "result" {
         return Side::Result;
     }
-    let lent = left.strip_prefix("now (").and_then(|rest| rest.strip_suffix(" .exit)"));
+    let lent =
+        left.strip_suffix(".new").filter(|name| name.chars().all(|one| one.is_alphanumeric() || one == '_'));
     lent.map_or(Side::Other, |name| Side::Lent(name.into()))
 }
 
@@ -136,7 +164,7 @@ fn joins(body: &str) -> bool {
         match letter {
             '(' | '{' => depth += 1,
             ')' | '}' => depth -= 1,
-            '×' | '→' | '⊎' | '↔' if depth == 0 => return true,
+            '×' | '→' | '⊎' | '↔' | '∗' if depth == 0 => return true,
             _ => {}
         }
     }

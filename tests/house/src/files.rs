@@ -1,4 +1,4 @@
-//! No two files of definitions or laws have one name, so that a reader who is told a file finds it.
+//! No two files of definitions or laws have one name, so that a reader who is told a file finds it. The files of a function's proof go by their folder.
 
 use crate::tree::Tree;
 use crate::Report;
@@ -8,7 +8,7 @@ pub fn check(tree: &Tree, report: &mut Report) {
     let mut places: BTreeMap<&str, Vec<&str>> = BTreeMap::new();
     for one in &tree.crates {
         let all = one.within("specs/", ".antt").chain(one.within("proofs/", ".antt"));
-        for file in all.filter(|file| !["Lib", "Proof"].contains(&file.stem())) {
+        for file in all.filter(|file| !["Lib", "Proof", "Invariants", "Answers"].contains(&file.stem())) {
             places.entry(file.stem()).or_default().push(&file.path);
         }
     }

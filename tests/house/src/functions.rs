@@ -29,12 +29,17 @@ pub fn functions(text: &str) -> Vec<Function> {
 fn function(public: bool, lines: &[&str]) -> Function {
     let mut signature = String::new();
     let (mut requires, mut ensures) = (Vec::new(), Vec::new());
-    for line in lines {
-        let text = line.trim();
-        if let Some(rest) = text.strip_prefix("requires {") {
-            requires.push(inner(rest));
-        } else if let Some(rest) = text.strip_prefix("ensures {") {
-            ensures.push(inner(rest));
+    let mut lines = lines.iter().map(|line| line.trim());
+    while let Some(text) = lines.next() {
+        if let Some((kind, start)) = clause(text) {
+            let mut inside = start.to_string();
+            while !is_closed(&inside) {
+                let Some(more) = lines.next() else { break };
+                inside.push(' ');
+                inside.push_str(more);
+            }
+            let said = if kind == "ensures" { &mut ensures } else { &mut requires };
+            said.push(inner(&inside));
         } else if text == "{" {
             break;
         } else {
@@ -59,7 +64,7 @@ fn function(public: bool, lines: &[&str]) -> Function {
         .split_once('(')
         .map_or("", |(_, rest)| rest.rsplit_once(')').map_or("", |(inside, _)| inside));
     let written =
-        parameters.split(',').filter(|part| part.contains("&mut ")).filter_map(|part| part.split(':').next());
+        parameters.split(',').filter(|part| is_lent(part)).filter_map(|part| part.split(':').next());
     let written = written.map(|name| name.trim().to_string()).collect();
     Function {
         name: name.split('<').next().unwrap_or_default().into(),
@@ -71,7 +76,32 @@ fn function(public: bool, lines: &[&str]) -> Function {
     }
 }
 
-/// What stands in a contract's braces, without them.
+/// A line that begins a clause: its kind, and what stands behind its first brace. A ghost value is something asked, and a starred clause counts as the clause.
+fn clause(text: &str) -> Option<(&'static str, &str)> {
+    let kind = ["requires", "ensures", "ghost"].into_iter().find(|kind| text.starts_with(kind))?;
+    let (name, inside) = text[kind.len()..].trim_start_matches('*').split_once('{')?;
+    let named = name.chars().all(|letter| letter.is_alphanumeric() || "_: ".contains(letter));
+    (name.starts_with(' ') && named).then_some((kind, inside))
+}
+
+/// Whether the clause whose first brace is open ends in this text.
+fn is_closed(text: &str) -> bool {
+    let count = |brace| text.matches(brace).count();
+    count('}') > count('{')
+}
+
+/// Whether a parameter is lent to be written, for a named time or not.
+fn is_lent(parameter: &str) -> bool {
+    parameter.split('&').skip(1).any(|kind| {
+        let time = kind
+            .strip_prefix('\'')
+            .map(|rest| rest.trim_start_matches(|c: char| c.is_alphanumeric() || c == '_'));
+        time.map_or(kind, str::trim_start).starts_with("mut ")
+    })
+}
+
+/// What stands in a contract's braces, without the last of them.
 fn inner(text: &str) -> String {
-    text.trim().trim_end_matches('}').trim().to_string()
+    let text = text.trim();
+    text.strip_suffix('}').unwrap_or(text).trim().to_string()
 }

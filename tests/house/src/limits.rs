@@ -9,7 +9,7 @@ const DEFINITIONS: &str = "specs/Token.antt";
 const ORDER_BYTES: u64 = 8;
 
 /// Names whose number is the same by chance: the place in the output up to which one more line is worked.
-const BY_CHANCE: [&str; 2] = ["pub const LAST_START: usize = ", "lastStart = "];
+const BY_CHANCE: [&str; 2] = ["pub const LAST_START: usize = ", "last_start = "];
 
 struct Limits {
     lines: u64,
@@ -27,9 +27,9 @@ impl Limits {
             (value(definitions, &format!("{defined} = "))? == said).then_some(said)
         };
         Some(Limits {
-            lines: same("LINES", "usize", "maxLines")?,
-            actions: same("ACTIONS", "usize", "maxActions")?,
-            text: same("TEXT_SIZE", "usize", "textSize")?,
+            lines: same("LINES", "usize", "max_lines")?,
+            actions: same("ACTIONS", "usize", "max_actions")?,
+            text: same("TEXT_SIZE", "usize", "text_size")?,
             room: same("ROOM", "u64", "room")?,
         })
     }

@@ -12,14 +12,11 @@ pub fn check(tree: &Tree, report: &mut Report) {
     };
     let listed: Vec<&str> =
         list.text.split("(../").skip(1).filter_map(|rest| rest.split(')').next()).collect();
-    let definitions = || {
-        tree.crates.iter().flat_map(|one| one.within("specs/", ".antt").map(move |file| (&one.name, file)))
-    };
-    for (name, file) in definitions().filter(|(_, file)| file.stem() != "Lib") {
+    let definitions = tree.crates.iter().flat_map(|one| one.within("specs/", ".antt"));
+    for file in definitions.filter(|file| file.stem() != "Lib") {
         let mut faults = Vec::new();
         if let Some(place) = listed.iter().position(|path| *path == file.path) {
-            let later =
-                needed(name, file).into_iter().filter(|path| listed[place + 1..].contains(&path.as_str()));
+            let later = needed(file).into_iter().filter(|path| listed[place + 1..].contains(&path.as_str()));
             faults.extend(
                 later.map(|path| format!("{LIST}: {} stands above {path}, which it needs", file.path)),
             );
@@ -31,11 +28,11 @@ pub fn check(tree: &Tree, report: &mut Report) {
 }
 
 /// The files of specs that a file names in its `use` lines.
-fn needed(own: &str, file: &File) -> Vec<String> {
-    let uses = file.text.lines().filter_map(|line| line.strip_prefix("use Rattle·"));
+fn needed(file: &File) -> Vec<String> {
+    let uses =
+        file.text.lines().filter_map(|line| line.trim_start_matches("pub ").strip_prefix("use Rattle."));
     let path = |rest: &str| {
-        let (name, inside) = rest.split_once("specs.specs.").or_else(|| rest.split_once(".specs."))?;
-        let name = if name.ends_with('·') { own } else { name };
+        let (name, inside) = rest.split_once(".specs.")?;
         Some(format!("crates/{name}/specs/{}.antt", inside.split('.').next()?))
     };
     uses.filter_map(path).collect()

@@ -81,7 +81,7 @@ fn paths(folder: &Path) -> io::Result<Vec<PathBuf>> {
     for entry in fs::read_dir(folder)? {
         let path = entry?.path();
         if path.is_dir() {
-            if !path.ends_with("target") {
+            if !path.ends_with("target") && !path.ends_with("out") {
                 found.extend(paths(&path)?);
             }
         } else {
