@@ -1,11 +1,11 @@
 -- Laws of the conversion: a number of volts by the three fields of its bits; every multiple of one eighth is exact; the nearest, halves to even. Nothing is assumed.
 use Rattle.std.specs.Prelude.{◌≡◌, refl, Bool, true, false, cond, not, T, leb, ltb, eqb, ℤ, pos, nat_abs, Float}
-use Rattle.std.proofs.Common.{sym, ap, subst, ◌∙◌, add-mul, add-zero, one-mul, mod-lt, div-add-mod', mul_comm, mul_assoc, mul_right_comm, le_trans, le_of_eq, mul-le-mul, mul-le-mul_right, mul-le-mul_left, mod-eq_of_lt, le-div_iff_mul-le, lt_of_lt_of_le, mul-lt-mul_of_pos_right, arith, leb→le, eqb→eq, pow-add, pow_pos, pow_mono, shl_lt, ltb-true, ltb-false, lt-ltb, le-ltb, le-leb, ne_eqb, eq-eqb}
+use Rattle.std.proofs.Common.{sym, ap, subst, ◌∙◌, add-mul, add-zero, one-mul, mod-lt, div-add-mod', mul_assoc, mul_right_comm, mul-le-mul, mod-eq_of_lt, le-div_iff_mul-le, lt_of_lt_of_le, arith, leb→le, eqb→eq, pow-add, pow_pos, pow_mono, shl_lt, ltb-true, ltb-false, lt-ltb, le-ltb, le-leb, ne_eqb, eq-eqb}
 use Prim.Native.Nat.{ℕ, zero, suc, ◌+◌, ◌-◌, ◌*◌, ◌/◌, ◌%◌, ◌^◌, ◌≤◌, ◌<◌, compare, Ordering}
 use Rattle.std.proofs.Math.Nat.{div-eq_of_lt}
 use Rattle.std.proofs.Math.Dec.{is_le, compare_is_eq, nleb→lt}
 use Rattle.std.specs.Float.{nan, inf, fin, binary32}
-use Rattle.std.specs.Float.Ieee.{up, down, odd, nearest, round, of_bits, of_fields, to_bits, fits, is_nan}
+use Rattle.std.specs.Float.Ieee.{up, down, odd, nearest, round, of_bits, of_fields, to_bits, fits}
 use Rattle.std.specs.Float.Ieee.Nearest.{closest, closest_same}
 use Rattle.std.specs.Float.Ieee.Exact.{HasValue, odd_sign, round_exact}
 use Rattle.std.specs.Float.Ieee.Fits.{down_pos, round-fits}
@@ -19,7 +19,6 @@ use Rattle.values.specs.Value.{top, unit, in_range, valued}
 use Rattle.values.specs.declared.arithmetic.Worked.{Worked}
 use Rattle.values.specs.declared.arithmetic.Worked.TheVariants.{Value, Alarm}
 use Rattle.couplers.specs.Conversion.{nearest_even, signed_thousandths, thousandths_of, converted, value_of}
-use Rattle.couplers.specs.declared.reading.Converted.{Converted}
 use Rattle.couplers.specs.declared.reading.Converted.TheVariants.{Thousandths, Fault}
 
 -- ---- nearest, halves to even

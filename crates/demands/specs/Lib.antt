@@ -1,29 +1,9 @@
--- Demand 3. History, Run, Acts, Deed, RuleCount, Asks and ChannelReadings are the definitions; Demand3, Consequences, WhatWasDone, Refusals, CountSays, StatusSays, FromALoadOn, CouplerRuns and EngineUnique the theorems, in their order; the files named ..Laws
--- hold what these need; Cases, CurveCases and PTable are computed.
+-- The definitions of demand 3, and of what is said of it: History, Run, Acts, Deed, RuleCount, Asks, ChannelReadings; PTable has the cases of the proved table. The theorems over them stand in proofs/.
 pub mod History
 pub mod Run
-pub mod FlagLaws
-pub mod ActionRuleLaws
-pub mod TurnRuleLaws
-pub mod EndRuleLaws
-pub mod Demand3
 pub mod Acts
 pub mod Deed
-pub mod DeedLaws
-pub mod ActLaws
-pub mod Consequences
-pub mod WhatWasDone
-pub mod Refusals
 pub mod RuleCount
-pub mod RuleCountLaws
-pub mod CountSays
-pub mod StatusSays
 pub mod Asks
-pub mod AskLaws
-pub mod FromALoadOn
 pub mod ChannelReadings
-pub mod CouplerRuns
-pub mod EngineUnique
-pub mod Cases
-pub mod CurveCases
 pub mod PTable

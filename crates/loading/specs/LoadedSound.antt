@@ -17,8 +17,8 @@ use Rattle.soundness.specs.Call.{Call, do_beat, do_lock, do_unlock, do_cancel, d
 use Rattle.soundness.specs.SoundLaws.{Whole, call-keeps, call-not22, power-on-whole, always-sound, never-22}
 use Rattle.demands.specs.Run.{Now, Reply, step, run_from, engine_run}
 use Rattle.demands.specs.Asks.{Ask, standing, last_text, calls_since}
-use Rattle.demands.specs.AskLaws.{load-power-on}
-use Rattle.demands.specs.FromALoadOn.{since-the-load}
+use Rattle.demands.proofs.AskLaws.{load-power-on}
+use Rattle.demands.proofs.FromALoadOn.{since-the-load}
 use Rattle.reader.specs.Row.{by_number}
 use Rattle.reader.specs.Load.{load_answer, load_set}
 use Rattle.loading.specs.LoadAnswers.{taken-answer, refused-empty, by-outcome}

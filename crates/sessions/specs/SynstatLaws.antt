@@ -14,8 +14,8 @@ use Rattle.engine.specs.Sound.{is_sound}
 use Rattle.engine.specs.Status.{status_of}
 use Rattle.engine.specs.State.{power_on}
 use Rattle.soundness.specs.Call.{Call, do_beat, do_program_end, do_control_reset, state_after, after_all}
-use Rattle.demands.specs.AskLaws.{load-power-on}
-use Rattle.demands.specs.StatusSays.{status-by-rank}
+use Rattle.demands.proofs.AskLaws.{load-power-on}
+use Rattle.demands.proofs.StatusSays.{status-by-rank}
 use Rattle.loading.specs.LoadedSound.{load-always-sound}
 use Rattle.reader.specs.Load.{load_answer, load_set}
 use Rattle.transcript.specs.Input.{input_of}

@@ -1,5 +1,5 @@
 -- Laws on the faults of single things: a fault 7 hides a higher one.
-use Rattle.std.specs.Prelude.{◌≡◌, refl, Bool, true, false, ℕ, ◌-◌, ◌<◌}
+use Rattle.std.specs.Prelude.{◌≡◌, refl, Bool, true, false, ℕ, ◌<◌}
 use Rattle.std.proofs.Common.{arith, ne_eqb}
 use Rattle.values.specs.Codes.{outside}
 use Rattle.tokens.specs.SingleFault.{lower, unless}

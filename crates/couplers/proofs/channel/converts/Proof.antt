@@ -1,6 +1,6 @@
 -- `channel::converts` meets its contract.
 use borrow.Author.Rules.{rules}
-use mathlib.Core.Path.{◌≡◌, sym, ap, ◌∙◌}
+use mathlib.Core.Path.{sym, ap, ◌∙◌}
 use Rattle.couplers.specs.Conversion.{is_converted}
 use Rattle.couplers.proofs.channel.converts.Statement.{statement}
 use Rattle.couplers.proofs.channel.converts.Tie as tie

@@ -1,7 +1,7 @@
 -- `channel::is_channel` meets its contract.
 use borrow.Author.Rules.{rules}
 use borrow.Author.Tests.{not-true, not-false}
-use mathlib.Core.Path.{◌≡◌, sym, ap, ◌∙◌}
+use mathlib.Core.Path.{sym, ◌∙◌}
 use Rattle.couplers.specs.Channel.{is_channel}
 use Rattle.couplers.proofs.channel.is_channel.Statement.{statement}
 use Rattle.couplers.proofs.channel.is_channel.Tie as tie

@@ -1,6 +1,6 @@
 -- `channel::sample` meets its contract.
 use borrow.Author.Rules.{rules}
-use mathlib.Core.Path.{◌≡◌, sym, ap, ◌∙◌}
+use mathlib.Core.Path.{sym, ap, ◌∙◌}
 use Rattle.couplers.specs.Channel.{sampled}
 use Rattle.couplers.proofs.channel.sample.Statement.{statement}
 use Rattle.couplers.proofs.channel.sample.Tie as tie

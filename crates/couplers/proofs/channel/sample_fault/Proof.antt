@@ -1,7 +1,6 @@
 -- `channel::sample_fault` meets its contract.
 use borrow.Author.Rules.{rules}
 use borrow.Author.Tests.{le-leb, lt-leb, not-true, not-false}
-use mathlib.Core.Path.{◌≡◌, sym, ap, ◌∙◌}
 use mir.Syntax.{w32}
 use mir.ValLaws.{to_z-of_z}
 use Rattle.couplers.specs.Channel.{sampled_fault}

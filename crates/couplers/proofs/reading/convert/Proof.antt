@@ -6,8 +6,7 @@ use lib.Dec.{T, leb}
 use Prim.Native.Nat.{ℕ, ◌+◌, ◌-◌, ◌*◌, ◌/◌, ◌%◌, ◌^◌, ◌≤◌, ◌<◌}
 use native.Mathlib.Nat.{mod-eq_of_lt, one-mul}
 use lib.Pow.{pow_pos, pow_mono}
-use mathlib.Core.Bool.{Bool, true, false, not}
-use lib.IntN.{pos}
+use mathlib.Core.Bool.{true, false, not}
 use lib.Ieee.{Float, nan, inf, fin, binary32, fits, is_nan, ne, to_bits, of_fields}
 use lib.Ieee.Compare.{differs_from_itself, nan_differs}
 use Rattle.couplers.specs.Conversion.{thousandths_of, signed_thousandths, nearest_even}

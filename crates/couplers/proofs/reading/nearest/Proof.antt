@@ -1,7 +1,6 @@
 -- `reading::nearest` meets its contract: each return by the tests that led to it.
 use borrow.Author.Rules.{rules}
 use borrow.Author.Tests.{lt-ltb, le-ltb}
-use Prim.Native.Nat.{◌/◌, ◌%◌, ◌≤◌, ◌<◌}
 use native.Mathlib.Nat.{div-le_self, mod-lt}
 use native.Mathlib.Omega.{arith}
 use Rattle.couplers.specs.Conversion.{nearest_even}

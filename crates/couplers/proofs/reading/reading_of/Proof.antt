@@ -1,9 +1,9 @@
 -- `reading::reading_of` meets its contract: a NaN's pattern is above that of the infinity.
-use mathlib.Core.Path.{◌≡◌, sym, ap, subst, ◌∙◌}
+use mathlib.Core.Path.{sym, subst, ◌∙◌}
 use borrow.Author.Tests.{lt-ltb, le-ltb}
 use lib.Dec.{T}
 use mathlib.Core.Bool.{Bool, not}
-use lib.Ieee.{binary32, nan_bits}
+use lib.Ieee.{binary32}
 use lib.Ieee.Bits.{nan_bits_above}
 use Rattle.couplers.specs.Conversion.{reading_of}
 use Rattle.couplers.proofs.reading.reading_of.Statement.{statement}

@@ -1,6 +1,6 @@
 -- `reading::signed_thousandths` meets its contract: the sign put back by the arithmetic of values.
 use borrow.Author.Rules.{rules}
-use mathlib.Core.Path.{◌≡◌, sym, ap, ◌∙◌}
+use mathlib.Core.Path.{sym, ap, ◌∙◌}
 use mir.Syntax.{w32}
 use mir.ValLaws.{to_z-of_z}
 use Rattle.couplers.specs.declared.reading.Converted.TheVariants.{Thousandths}

@@ -11,7 +11,7 @@ use lib.Signed.{lt_z}
 use mir.Syntax.{w32}
 use mir.Val.{SFits}
 use Rattle.values.specs.Value.{top, less_than}
-use Rattle.values.specs.Time.{timer, millis_of}
+use Rattle.values.specs.Time.{millis_of}
 use Rattle.values.specs.TimeLaws.{stopped, running}
 use Rattle.values.specs.declared.time.Millis.{Millis}
 use Rattle.values.specs.Numbers.{clash}

@@ -25,11 +25,11 @@ use Rattle.engine.specs.SetCountLaws.{sound-count}
 use Rattle.demands.specs.History.{History, after, is_cancelled, is_locked}
 use Rattle.soundness.specs.Call.{Call, do_beat, do_lock, do_unlock, do_cancel, do_program_end, do_control_reset}
 use Rattle.demands.specs.Run.{Now, coded, entries_of, end_entries, rank_of, hosted, beaten, step, run_from, engine_run, by_rank, cancelled_by, locked_by, remembers_by, memory_by, Rest, rest_of, with_rest, state_by, samples_by, begun_by, ended_by, turns_by_rule, beat_by_rule, code_by_rule, end_code_by_rule, hosted_by_rule, beaten_by_rule, cleared, control_reset_by_rule, step_by_rule, run_by_rule_from, run_by_rule}
-use Rattle.demands.specs.FlagLaws.{by_rank-at, lock-locked, reset-locked, reset-cancelled, reset-memory, new-locked, new-cancelled, new-memory}
+use Rattle.demands.proofs.FlagLaws.{by_rank-at, lock-locked, reset-locked, reset-cancelled, reset-memory, new-locked, new-cancelled, new-memory}
 use Rattle.tokens.specs.AnswerLaws.{Ok, is_ok, bind_ok}
 use Rattle.tokens.specs.ChooseLaws.{choose}
-use Rattle.demands.specs.EndRuleLaws.{cancel-state, ended-state}
-use Rattle.demands.specs.TurnRuleLaws.{flagged_turn, turns_same, turns-quiet}
+use Rattle.demands.proofs.EndRuleLaws.{cancel-state, ended-state}
+use Rattle.demands.proofs.TurnRuleLaws.{flagged_turn, turns_same, turns-quiet}
 
 -- ---- a beat
 

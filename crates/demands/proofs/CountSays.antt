@@ -28,14 +28,14 @@ use Rattle.soundness.specs.Call.{Call, do_beat, do_lock, do_unlock, do_cancel, d
 use Rattle.soundness.specs.CallCodes.{ended-well}
 use Rattle.demands.specs.History.{after}
 use Rattle.demands.specs.Run.{Now, coded, step, engine_run, Rest, rest_of, by_rank, cancelled_by, state_by, ended_by, beat_by_rule, beaten_by_rule, cleared, control_reset_by_rule, step_by_rule, run_by_rule_from, run_by_rule}
-use Rattle.demands.specs.FlagLaws.{by_rank-at, reset-cancelled}
-use Rattle.demands.specs.Demand3.{step_same, demand-3, same-variables}
-use Rattle.demands.specs.Consequences.{no-bit}
-use Rattle.demands.specs.Refusals.{beat-refused}
+use Rattle.demands.proofs.FlagLaws.{by_rank-at, reset-cancelled}
+use Rattle.demands.proofs.Demand3.{step_same, demand-3, same-variables}
+use Rattle.demands.proofs.Consequences.{no-bit}
+use Rattle.demands.proofs.Refusals.{beat-refused}
 use Rattle.demands.specs.Acts.{acts_now}
-use Rattle.demands.specs.WhatWasDone.{AtItsTurn, at-its-turn}
+use Rattle.demands.proofs.WhatWasDone.{AtItsTurn, at-its-turn}
 use Rattle.demands.specs.RuleCount.{newest, acts_then, acts_from, acts_since_start}
-use Rattle.demands.specs.RuleCountLaws.{counted-length, counted-at, reset-acts-length, reset-acts-at, more-up-to}
+use Rattle.demands.proofs.RuleCountLaws.{counted-length, counted-at, reset-acts-length, reset-acts-at, more-up-to}
 
 -- ---- over a run by the rule
 

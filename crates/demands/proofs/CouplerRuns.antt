@@ -36,8 +36,8 @@ use Rattle.soundness.specs.Call.{Call, do_beat, do_lock, do_unlock, do_cancel, d
 use Rattle.soundness.specs.ProgramEndLaws.{program-end-keeps}
 use Rattle.demands.specs.Run.{Now, Reply, step}
 use Rattle.demands.specs.Asks.{Ask, do_load, do_call, Standing, newly_loaded, ask_all, standing}
-use Rattle.demands.specs.AskLaws.{load-clears-channels}
-use Rattle.demands.specs.Refusals.{good-is-all, one-channel-23, refused-keeps-channels, good-keeps-samples, good-beat-samples, control-reset-keeps-channels}
+use Rattle.demands.proofs.AskLaws.{load-clears-channels}
+use Rattle.demands.proofs.Refusals.{good-is-all, one-channel-23, refused-keeps-channels, good-keeps-samples, good-beat-samples, control-reset-keeps-channels}
 use Rattle.demands.specs.ChannelReadings.{sent_by, counted_of, counted_readings, analogue_in}
 
 -- ---- of all channels, one

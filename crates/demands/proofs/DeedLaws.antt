@@ -29,7 +29,7 @@ use Rattle.engine.specs.Keyword.{tries, acts, remembers}
 use Rattle.engine.specs.Turn.{Entry, worked, Turned, remembered, takes_turn, do_turn, try_turn, turn_of}
 use Rattle.tokens.specs.AnswerLaws.{Ok, is_ok, bind_ok}
 use Rattle.soundness.specs.ActedLaws.{synfct-variables, Fair, actions-fair}
-use Rattle.demands.specs.ActionRuleLaws.{Noted, actions-noted}
+use Rattle.demands.proofs.ActionRuleLaws.{Noted, actions-noted}
 use Rattle.demands.specs.Deed.{LeftAlone, acting, DidAll, bytes_of, Each, Gave}
 
 -- ---- orders, one behind the other

@@ -24,11 +24,11 @@ unfolding ranks
 length-ranks f zero = refl
 length-ranks f (suc n) = ap suc (length-ranks (λ k. f (suc k)) n)
 
-get_d-ranks : (f : ℕ → Bool) (n i : ℕ) → i < n → get_or (ranks f n) i false ≡ f i
+get_or-ranks : (f : ℕ → Bool) (n i : ℕ) → i < n → get_or (ranks f n) i false ≡ f i
 unfolding ranks
-get_d-ranks f zero i h = absurd (omega arith)
-get_d-ranks f (suc n) zero h = refl
-get_d-ranks f (suc n) (suc i) h = get_d-ranks (λ k. f (suc k)) n i (omega arith)
+get_or-ranks f zero i h = absurd (omega arith)
+get_or-ranks f (suc n) zero h = refl
+get_or-ranks f (suc n) (suc i) h = get_or-ranks (λ k. f (suc k)) n i (omega arith)
 
 pub length-by_rank : (f : ℕ → Bool) → length (by_rank f) ≡ max_lines
 unfolding by_rank
@@ -36,7 +36,7 @@ length-by_rank f = length-ranks f max_lines
 
 pub by_rank-at : (f : ℕ → Bool) (k : ℕ) → k < max_lines → get_or (by_rank f) k false ≡ f k
 unfolding by_rank
-by_rank-at f k h = get_d-ranks f max_lines k h
+by_rank-at f k h = get_or-ranks f max_lines k h
 
 -- a list of 32 is by rank what it holds at each
 pub as-by_rank : (l : List Bool) (f : ℕ → Bool) → length l ≡ max_lines → ((j : ℕ) → j < max_lines → get_or l j false ≡ f j) → l ≡ by_rank f
@@ -45,8 +45,8 @@ as-by_rank l f n h = ext_get_or false l (by_rank f) (n ∙ sym (length-by_rank f
 pub by_rank-none : (f : ℕ → Bool) → ((j : ℕ) → j < max_lines → f j ≡ false) → replicate max_lines false ≡ by_rank f
 by_rank-none f h = as-by_rank (replicate max_lines false) f (length-replicate max_lines false) (λ j b. get_or-replicate max_lines j false false b ∙ sym (h j b))
 
-get_d_set : (l : List Bool) (k j : ℕ) (v : Bool) → k < length l → get_or (set l k v) j false ≡ cond (eqb k j) v (get_or l j false)
-get_d_set l k j v h = go (eqb k j) refl
+get_or_set : (l : List Bool) (k j : ℕ) (v : Bool) → k < length l → get_or (set l k v) j false ≡ cond (eqb k j) v (get_or l j false)
+get_or_set l k j v h = go (eqb k j) refl
   where
     go : (e : Bool) → eqb k j ≡ e → get_or (set l k v) j false ≡ cond e v (get_or l j false)
     go true e = let p : k ≡ j = eqb-true k j e in rw (← p) (get_or-set_same l k v false h)
@@ -55,7 +55,7 @@ get_d_set l k j v h = go (eqb k j) refl
 pub by_rank-set : (f g : ℕ → Bool) (k : ℕ) (v : Bool) → k < max_lines → ((j : ℕ) → j < max_lines → cond (eqb k j) v (f j) ≡ g j) → set (by_rank f) k v ≡ by_rank g
 by_rank-set f g k v b h =
     as-by_rank (set (by_rank f) k v) g (length-set (by_rank f) k v ∙ length-by_rank f)
-    (λ j c. get_d_set (by_rank f) k j v (rw (length-by_rank f) b) ∙ rw (by_rank-at f j c) (h j c))
+    (λ j c. get_or_set (by_rank f) k j v (rw (length-by_rank f) b) ∙ rw (by_rank-at f j c) (h j c))
 
 -- ---- what each entry does to the flags that the history gives
 
@@ -151,7 +151,7 @@ module _ (ls : Lines) where
   unfolding reset_cancelled
   reset-at cs zero j h = rw (leb-suc-zero j)
   reset-at cs (suc n) j h =
-      get_d_set (reset_cancelled ls.items cs n) n j _ (rw (reset-length cs n) (omega arith))
+      get_or_set (reset_cancelled ls.items cs n) n j _ (rw (reset-length cs n) (omega arith))
       ∙ go (eqb n j) (ltb j n) (ltb j (suc n)) refl refl refl (reset-at cs n j (omega arith))
     where
       new : ℕ → Bool

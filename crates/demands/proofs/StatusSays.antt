@@ -15,10 +15,10 @@ use Rattle.engine.specs.SetCountLaws.{sound-count}
 use Rattle.soundness.specs.Call.{Call}
 use Rattle.demands.specs.History.{is_cancelled, is_locked}
 use Rattle.demands.specs.Run.{engine_run}
-use Rattle.demands.specs.Demand3.{flags-say-the-history}
+use Rattle.demands.proofs.Demand3.{flags-say-the-history}
 use Rattle.demands.specs.RuleCount.{acts_since_start}
-use Rattle.demands.specs.RuleCountLaws.{filled_at}
-use Rattle.demands.specs.CountSays.{count-says-the-record}
+use Rattle.demands.proofs.RuleCountLaws.{filled_at}
+use Rattle.demands.proofs.CountSays.{count-says-the-record}
 
 -- a cancelled line has no lock
 standing-once : (c l : Bool) → standing_of c (l && not c) ≡ standing_of c l

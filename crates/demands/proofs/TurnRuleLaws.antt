@@ -22,10 +22,10 @@ use Rattle.engine.specs.Keyword.{tries, acts}
 use Rattle.tokens.specs.ChooseLaws.{through, choose-by}
 use Rattle.demands.specs.History.{History, after, is_automatic, is_cancelled, is_locked, was_true, ever_true, takes_by_rule, tries_by_rule, acts_by_rule}
 use Rattle.demands.specs.Run.{by_rank, cancelled_by, locked_by, remembers_by, memory_by, try_by_rule, turn_by_rule, turns_by_rule}
-use Rattle.demands.specs.FlagLaws.{by_rank-at, worked-memory, lock-locked}
+use Rattle.demands.proofs.FlagLaws.{by_rank-at, worked-memory, lock-locked}
 use Rattle.tokens.specs.AnswerLaws.{Ok, is_ok, bind_ok}
 use Rattle.soundness.specs.ActedLaws.{Live, Fair, actions-fair}
-use Rattle.demands.specs.ActionRuleLaws.{dress, note_all, dress_did, actions-dress}
+use Rattle.demands.proofs.ActionRuleLaws.{dress, note_all, dress_did, actions-dress}
 
 pub after-append : (es fs : List Entry) (r : History) → after (es ++ fs) r ≡ after fs (after es r)
 after-append [] fs r = refl

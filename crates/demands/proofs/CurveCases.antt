@@ -35,7 +35,7 @@ use Rattle.text.specs.First.{word_first, behind_point, number_with, number_first
 use Rattle.text.specs.Tokens.{tokens_from, tokens_of}
 use Rattle.soundness.specs.Call.{Call}
 use Rattle.demands.specs.Run.{engine_run, step, run_from}
-use Rattle.demands.specs.Cases.{beat}
+use Rattle.demands.proofs.Cases.{beat}
 
 -- the tokens of a line
 abbrev tokens_in : String → List ℕ

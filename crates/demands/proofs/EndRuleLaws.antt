@@ -16,8 +16,8 @@ use Rattle.engine.specs.Calls.{with_cancelled, ended_line, program_ended}
 use Rattle.soundness.specs.ProgramEnd.{live_ids}
 use Rattle.demands.specs.History.{History, after, is_cancelled, ever_true}
 use Rattle.demands.specs.Run.{by_rank, cancelled_by, Rest, state_by, end_entries}
-use Rattle.demands.specs.FlagLaws.{by_rank-at, cancel-locked, cancel-cancelled, cancel-memory}
-use Rattle.demands.specs.TurnRuleLaws.{after-append}
+use Rattle.demands.proofs.FlagLaws.{by_rank-at, cancel-locked, cancel-cancelled, cancel-memory}
+use Rattle.demands.proofs.TurnRuleLaws.{after-append}
 
 -- cancels say nothing of conditions
 cancels-ever : (ks : List ℕ) (j : ℕ) (r : History) → ever_true j (after (map cancels ks) r) ≡ ever_true j r

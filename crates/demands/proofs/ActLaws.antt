@@ -25,9 +25,9 @@ use Rattle.engine.specs.ActCount.{is_acted}
 use Rattle.demands.specs.Acts.{is_yes_answer, condition_now, tries_now, acts_now}
 use Rattle.tokens.specs.AnswerLaws.{Ok, is_ok, bind_ok}
 use Rattle.soundness.specs.ActedLaws.{Fair, actions-fair, power, next_bit, none_from}
-use Rattle.demands.specs.TurnRuleLaws.{after-append}
+use Rattle.demands.proofs.TurnRuleLaws.{after-append}
 use Rattle.demands.specs.Deed.{Gave, OfActed}
-use Rattle.demands.specs.DeedLaws.{gave-none, gave-more, gave-map, Ends, actions-end}
+use Rattle.demands.proofs.DeedLaws.{gave-none, gave-more, gave-map, Ends, actions-end}
 
 -- ---- a turn
 

@@ -18,15 +18,15 @@ use Rattle.demands.specs.Run.{Rest}
 use Rattle.engine.specs.ActCount.{acts_top, is_acted}
 use Rattle.engine.specs.Status.{standing_of, no_status, status_of}
 use Rattle.demands.specs.Acts.{condition_now, acted_since}
-use Rattle.demands.specs.Demand3.{with_flags, step_same, load_same}
+use Rattle.demands.proofs.Demand3.{with_flags, step_same, load_same}
 use Rattle.demands.specs.Deed.{bytes_of, Each, OfActed}
-use Rattle.demands.specs.Consequences.{once, edge}
-use Rattle.demands.specs.WhatWasDone.{AtItsTurn, at-its-turn, no-other-bit, orders-of-acting-lines}
+use Rattle.demands.proofs.Consequences.{once, edge}
+use Rattle.demands.proofs.WhatWasDone.{AtItsTurn, at-its-turn, no-other-bit, orders-of-acting-lines}
 use Rattle.demands.specs.RuleCount.{acts_since_start}
-use Rattle.demands.specs.CountSays.{count-says-the-record}
-use Rattle.demands.specs.StatusSays.{status-says-the-record}
+use Rattle.demands.proofs.CountSays.{count-says-the-record}
+use Rattle.demands.proofs.StatusSays.{status-says-the-record}
 use Rattle.demands.specs.Asks.{Ask, do_load, do_call, Standing, newly_loaded, ask_all, standing, newly_loaded_by_rule, ask_all_by_rule, standing_by_rule, last_text, calls_since}
-use Rattle.demands.specs.AskLaws.{load-power-on, refused-no-set, ran_over, load-ran, asks-ran}
+use Rattle.demands.proofs.AskLaws.{load-power-on, refused-no-set, ran_over, load-ran, asks-ran}
 
 -- ---- demand 3, with loads
 

@@ -36,11 +36,11 @@ use Rattle.demands.specs.Run.{Now, coded, noted, rank_of, end_entries, code_by_r
 use Rattle.engine.specs.ActCount.{is_acted}
 use Rattle.demands.specs.Acts.{condition_now, tries_now, acts_now, acted_since}
 use Rattle.tokens.specs.AnswerLaws.{Ok, is_ok, bind_ok}
-use Rattle.demands.specs.ActionRuleLaws.{note_all, Noted, actions-noted}
-use Rattle.demands.specs.TurnRuleLaws.{flagged, flagged_turn, Quiet, takes_same, turn-same, turns_same, turns-quiet}
-use Rattle.demands.specs.EndRuleLaws.{end-ever}
-use Rattle.demands.specs.ActLaws.{Done, done, no_other}
-use Rattle.demands.specs.Demand3.{beat-same, demand-3}
+use Rattle.demands.proofs.ActionRuleLaws.{note_all, Noted, actions-noted}
+use Rattle.demands.proofs.TurnRuleLaws.{flagged, flagged_turn, Quiet, takes_same, turn-same, turns_same, turns-quiet}
+use Rattle.demands.proofs.EndRuleLaws.{end-ever}
+use Rattle.demands.proofs.ActLaws.{Done, done, no_other}
+use Rattle.demands.proofs.Demand3.{beat-same, demand-3}
 
 -- ---- a beat that ended well, by the rule
 

@@ -22,13 +22,13 @@ use Rattle.soundness.specs.CallCodes.{ended-well}
 use Rattle.tokens.specs.AnswerLaws.{is_ok}
 use Rattle.demands.specs.History.{History, after, takes_by_rule}
 use Rattle.demands.specs.Run.{engine_run, run_by_rule, Rest, state_by, begun_by, turns_by_rule}
-use Rattle.demands.specs.Demand3.{demand-3}
+use Rattle.demands.proofs.Demand3.{demand-3}
 use Rattle.engine.specs.ActCount.{is_acted}
 use Rattle.demands.specs.Acts.{acts_now}
 use Rattle.demands.specs.Deed.{LeftAlone, DidAll, bytes_of, Each, Gave, OfActed}
-use Rattle.demands.specs.DeedLaws.{bytes-length, LeftOrDid, turn-took}
-use Rattle.demands.specs.ActLaws.{turns-gave}
-use Rattle.demands.specs.Consequences.{beat-turns, unflagged, no-bit, acts-just, acts-no-other}
+use Rattle.demands.proofs.DeedLaws.{bytes-length, LeftOrDid, turn-took}
+use Rattle.demands.proofs.ActLaws.{turns-gave}
+use Rattle.demands.proofs.Consequences.{beat-turns, unflagged, no-bit, acts-just, acts-no-other}
 
 -- ---- of one line
 
