@@ -1,7 +1,5 @@
 -- The proved table of document 01 holds: every case of PTable gives what it says, computed. Assumes nothing.
-use Rattle.std.specs.Prelude.{◌≡◌, refl, true, List, [], ◌∷◌, ◌++◌, map, reverse, ℕ, ℤ, pos, negsuc, length, get_or, take, replicate}
-use Prim.Native.String.{String}
-use Rattle.values.specs.Codes.{out_of_range, zero_divisor, fifo_full}
+use Rattle.std.specs.Prelude.{◌≡◌, refl, map}
 use Rattle.values.specs.Value.{in_range, valued, sum_of, difference_of, product_of, quotient_of, negation_of, less_than, equal_to, whole_units, nearest_units, marker_of, output_of, feed_of, sign_of}
 use Rattle.values.specs.Time.{millis_of, grown_timer, written_timer}
 use Rattle.values.specs.Fifo.{fits, append_answer, appended, shifted, remove_answer, removed, oldest_of, newest_of, sum_first, sum_all, total_of, count_of, cleared, empty_answer, emptied}
@@ -9,15 +7,14 @@ use Rattle.engine.specs.Order.{four_bytes, order_bytes}
 use Rattle.values.specs.Complement.{twos_complement}
 use Rattle.tokens.specs.Descent.{is_index, index_of, is_indexed, index_at, joined, more, read_product, read_sum, read_rest, read_expression, read_variable, operand_from, read_operand, read_close, read_truth, sum_at, expression_at}
 use Rattle.tokens.specs.Index.{is_inside}
-use Rattle.working.specs.Variables.{position_count, cell_of, beat_count, fifo_value, fifo_at, variable_value}
+use Rattle.working.specs.Variables.{cell_of, beat_count, fifo_value, fifo_at, variable_value}
 use Rattle.tokens.specs.SingleFault.{lower, opens_too_many, wanting_fault, number_fault, read_fault, is_writable, write_fault, code_fault, id_fault, call_fault}
 use Rattle.checking.specs.Fault.{join_sights, sight, count_fault, is_among, are_apart, moves_fault, number_of, is_removal, assigned_at, assignment_at, command_at, unindexed_at, action_at, moves_at, actions_at, line_parts, body_at, rest_at, line_at}
 use Rattle.working.specs.Operators.{join_logic, join_truths, join_values}
 use Rattle.working.specs.Working.{value_over, condition_value, right_value}
 use Rattle.engine.specs.Set.{lines_from, lines_read, rank_in, names_known, curves_sound, all_known, named_lines, sound_lines, empty_set, without_mark, with_line}
-use Rattle.engine.specs.declared.state.State.{State}
 use Rattle.couplers.specs.Conversion.{nearest_even, signed_thousandths, thousandths_of}
-use Rattle.couplers.specs.Channel.{fresh_channels, zero_readings, is_channel, are_channels, all_good, values_sampled, channels_sampled, sampled_all}
+use Rattle.couplers.specs.Channel.{fresh_channels, is_channel, are_channels, all_good, values_sampled, channels_sampled, sampled_all}
 use Rattle.engine.specs.State.{power_on}
 use Rattle.engine.specs.Timers.{grown_cells}
 use Rattle.engine.specs.Cells.{input_cells, beat_cells}
@@ -29,16 +26,15 @@ use Rattle.engine.specs.Action.{alarm_of, lock_of, taken_at, assignment_of, driv
 use Rattle.engine.specs.Actions.{actions_of}
 use Rattle.engine.specs.Keyword.{tries, acts, remembers}
 use Rattle.engine.specs.Turn.{takes_turn, do_turn, try_turn, turn_of, turns_from}
-use Rattle.engine.specs.Beat.{buffer_size, are_inputs, beat_begun, beat_ended, whole_beat, beat_answer, beat_buffer}
+use Rattle.engine.specs.Beat.{are_inputs, beat_begun, beat_ended, whole_beat, beat_answer, beat_buffer}
 use Rattle.engine.specs.NamedLine.{found_at, found}
 use Rattle.engine.specs.Calls.{called, locked_call, lock_call, unlock_call, cancel_call, reset_cancelled, zeroed, control_reset_state, control_reset_call}
-use Rattle.text.specs.Byte.{bytes, run}
+use Rattle.text.specs.Byte.{run}
 use Rattle.text.specs.Word.{word_token}
 use Rattle.text.specs.Number.{written, is_fit, number_token}
 use Rattle.text.specs.First.{word_first, behind_point, number_with, number_first, sign_first, first_token}
 use Rattle.text.specs.Tokens.{tokens_from, tokens_of}
 use Rattle.text.specs.Lines.{split, without_return, without_comment, bodies, is_blank, numbered, token_lines}
-use Rattle.reader.specs.declared.load_text.Loaded.{Loaded}
 use Rattle.reader.specs.Row.{numbers_of, least_from, least_above, rising, placed, curve_slots, set_of}
 use Rattle.grammar.specs.Tree.{operand_tokens, action_tokens, actions_tokens, condition_tokens, line_tokens}
 use Rattle.grammar.specs.Meaning.{operand_meaning}
@@ -46,9 +42,7 @@ use Rattle.grammar.specs.TreeFault.{right_fault, is_removal_tree, assigned_fault
 use Rattle.grammar.specs.TreeNames.{actions_names, names_in, each_known}
 use Rattle.grammar.specs.TreeOf.{factors_guess, product_guess, terms_guess, sum_guess, sums_guess, expression_guess, operand_first, operand_guess, action_guess, actions_guess, condition_guess, line_guess, same_tokens, if_written, tree_of}
 use Rattle.reader.specs.Load.{fault_of, line_below, tokens_fault, fault_below, kept_with, rows_from, first_not, named, outcome, load_answer, load_set}
-use Rattle.soundness.specs.Call.{Call, do_beat, do_lock, do_unlock}
-use Rattle.demands.specs.Run.{Reply, Now, step, run_from}
-use Rattle.demands.specs.Asks.{newly_loaded}
+use Rattle.demands.specs.Run.{step, run_from}
 use Rattle.demands.specs.PTable.{outcome_of, expected, cases}
 
 -- THE TABLE: each case gives what document 01 says, markers by document 02

@@ -1,54 +1,19 @@
 -- The proved table of document 01 ("On both sides of each edge"): every case marked P, from the load of the set text on, each from power-on. One list of cases, one statement, computed over the
 -- definitions of loading, of a beat and of the host's calls. Assumes nothing.
-use Rattle.std.specs.Prelude.{◌≡◌, refl, true, List, [], ◌∷◌, ◌++◌, map, reverse, ℕ, ℤ, pos, negsuc, length, get_or, take, replicate}
+use Rattle.std.specs.Prelude.{true, List, [], ◌∷◌, ◌++◌, map, reverse, ℕ, ℤ, pos, negsuc, length, get_or, take, replicate}
 use Prim.Native.String.{String}
 use Rattle.values.specs.Codes.{out_of_range, zero_divisor, fifo_full}
-use Rattle.values.specs.Value.{in_range, valued, sum_of, difference_of, product_of, quotient_of, negation_of, less_than, equal_to, whole_units, nearest_units, marker_of, output_of, feed_of, sign_of}
-use Rattle.values.specs.Time.{millis_of, grown_timer, written_timer}
-use Rattle.values.specs.Fifo.{fits, append_answer, appended, shifted, remove_answer, removed, oldest_of, newest_of, sum_first, sum_all, total_of, count_of, cleared, empty_answer, emptied}
-use Rattle.engine.specs.Order.{four_bytes, order_bytes}
+use Rattle.engine.specs.Order.{four_bytes}
 use Rattle.values.specs.Complement.{twos_complement}
-use Rattle.tokens.specs.Descent.{is_index, index_of, is_indexed, index_at, joined, more, read_product, read_sum, read_rest, read_expression, read_variable, operand_from, read_operand, read_close, read_truth, sum_at, expression_at}
-use Rattle.tokens.specs.Index.{is_inside}
-use Rattle.working.specs.Variables.{position_count, cell_of, beat_count, fifo_value, fifo_at, variable_value}
-use Rattle.tokens.specs.SingleFault.{lower, opens_too_many, wanting_fault, number_fault, read_fault, is_writable, write_fault, code_fault, id_fault, call_fault}
-use Rattle.checking.specs.Fault.{join_sights, sight, count_fault, is_among, are_apart, moves_fault, number_of, is_removal, assigned_at, assignment_at, command_at, unindexed_at, action_at, moves_at, actions_at, line_parts, body_at, rest_at, line_at}
-use Rattle.working.specs.Operators.{join_logic, join_truths, join_values}
-use Rattle.working.specs.Working.{value_over, condition_value, right_value}
-use Rattle.engine.specs.Set.{lines_from, lines_read, rank_in, names_known, curves_sound, all_known, named_lines, sound_lines, empty_set, without_mark, with_line}
+use Rattle.working.specs.Variables.{position_count}
 use Rattle.engine.specs.declared.state.State.{State}
-use Rattle.couplers.specs.Conversion.{nearest_even, signed_thousandths, thousandths_of}
-use Rattle.couplers.specs.Channel.{fresh_channels, zero_readings, is_channel, are_channels, all_good, values_sampled, channels_sampled, sampled_all}
-use Rattle.engine.specs.State.{power_on}
-use Rattle.engine.specs.Timers.{grown_cells}
-use Rattle.engine.specs.Cells.{input_cells, beat_cells}
-use Rattle.engine.specs.ActCount.{is_act_count, are_act_counts, one_more, counted_acts, reset_acts}
-use Rattle.engine.specs.Sound.{all_ranged, is_cell, are_cells, all_zero, is_fifo_sound, are_fifos, is_flag, are_flags, state_sound, is_sound}
-use Rattle.engine.specs.Write.{change_answer, changed, change_fifo, write_fifo, write_cell, write_inside, write_to}
-use Rattle.engine.specs.Drive.{drive_order}
-use Rattle.engine.specs.Action.{alarm_of, lock_of, taken_at, assignment_of, drive_of, command_of, action_of}
-use Rattle.engine.specs.Actions.{actions_of}
-use Rattle.engine.specs.Keyword.{tries, acts, remembers}
-use Rattle.engine.specs.Turn.{takes_turn, do_turn, try_turn, turn_of, turns_from}
-use Rattle.engine.specs.Beat.{buffer_size, are_inputs, beat_begun, beat_ended, whole_beat, beat_answer, beat_buffer}
-use Rattle.engine.specs.NamedLine.{found_at, found}
-use Rattle.engine.specs.Calls.{called, locked_call, lock_call, unlock_call, cancel_call, reset_cancelled, zeroed, control_reset_state, control_reset_call}
-use Rattle.text.specs.Byte.{bytes, run}
-use Rattle.text.specs.Word.{word_token}
-use Rattle.text.specs.Number.{written, is_fit, number_token}
-use Rattle.text.specs.First.{word_first, behind_point, number_with, number_first, sign_first, first_token}
-use Rattle.text.specs.Tokens.{tokens_from, tokens_of}
-use Rattle.text.specs.Lines.{split, without_return, without_comment, bodies, is_blank, numbered, token_lines}
+use Rattle.couplers.specs.Channel.{zero_readings}
+use Rattle.engine.specs.Beat.{buffer_size}
+use Rattle.text.specs.Byte.{bytes}
 use Rattle.reader.specs.declared.load_text.Loaded.{Loaded}
-use Rattle.reader.specs.Row.{numbers_of, least_from, least_above, rising, placed, curve_slots, set_of}
-use Rattle.grammar.specs.Tree.{operand_tokens, action_tokens, actions_tokens, condition_tokens, line_tokens}
-use Rattle.grammar.specs.Meaning.{operand_meaning}
-use Rattle.grammar.specs.TreeFault.{right_fault, is_removal_tree, assigned_fault, action_fault, actions_fault, moves_of, parts_fault, line_fault}
-use Rattle.grammar.specs.TreeNames.{actions_names, names_in, each_known}
-use Rattle.grammar.specs.TreeOf.{factors_guess, product_guess, terms_guess, sum_guess, sums_guess, expression_guess, operand_first, operand_guess, action_guess, actions_guess, condition_guess, line_guess, same_tokens, if_written, tree_of}
-use Rattle.reader.specs.Load.{fault_of, line_below, tokens_fault, fault_below, kept_with, rows_from, first_not, named, outcome, load_answer, load_set}
+use Rattle.reader.specs.Load.{load_answer, load_set}
 use Rattle.soundness.specs.Call.{Call, do_beat, do_lock, do_unlock}
-use Rattle.demands.specs.Run.{Reply, Now, step, run_from}
+use Rattle.demands.specs.Run.{Reply, Now, run_from}
 use Rattle.demands.specs.Asks.{newly_loaded}
 
 -- ---- what a case says

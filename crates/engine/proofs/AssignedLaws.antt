@@ -5,7 +5,6 @@ use mathlib.Core.List.{List}
 use Prim.Native.Nat.{ℕ, ◌+◌}
 use native.Mathlib.Omega.{arith}
 use lib.Dec.{eqb}
-use lib.IntN.{ℤ}
 use borrow.Author.Tests.{eqb-true, ne_eqb}
 use Rattle.values.specs.Choice.{chosen, refused, contrary}
 use Rattle.values.specs.Curve.{curve_of}
@@ -21,7 +20,7 @@ use Rattle.engine.specs.declared.action.Target.{Target}
 use Rattle.engine.specs.Action.{World, Taken, Did, did, with_vars, curve_assigned, synfct_of, assignment_of, drive_of, command_of, action_of}
 use Rattle.engine.specs.Assigned.{is_assigned, curve_where, curve_value, curve_taken, taken_for, target_of, assigned_of}
 use Rattle.engine.specs.Set.{curve_line}
-use Rattle.engine.specs.Write.{Vars, write_to}
+use Rattle.engine.specs.Write.{write_to}
 
 module _ (s : List ℕ) (x : World) where
   -- what is taken goes into the write and on

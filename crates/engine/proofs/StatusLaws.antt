@@ -1,5 +1,5 @@
 -- Laws of the status picture: a turn of the loop over its rows, and what the call answers.
-use mathlib.Core.Path.{◌≡◌, refl, ap, ◌∙◌}
+use mathlib.Core.Path.{◌≡◌, refl}
 use mathlib.Core.Bool.{true, false}
 use mathlib.Core.List.{List}
 use Prim.Native.Nat.{ℕ, ◌+◌}
@@ -11,7 +11,6 @@ use Rattle.checking.specs.declared.line.Line.{Line}
 use Rattle.engine.specs.declared.set.Lines.{Lines}
 use Rattle.engine.specs.declared.state.State.{State}
 use Rattle.engine.specs.declared.status.LineStatus.{LineStatus}
-use Rattle.engine.specs.declared.status.Status.{Status}
 use Rattle.engine.specs.Set.{no_line, sound_lines}
 use Rattle.engine.specs.Sound.{is_sound}
 use Rattle.engine.specs.Status.{line_status, no_status, status_lines, status_of}

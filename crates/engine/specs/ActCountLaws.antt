@@ -1,6 +1,6 @@
 -- Laws of the counts of acts: a rank that has not been come to is as it was; behind the last line that acted nothing changes.
 use Rattle.std.specs.Prelude.{◌≡◌, refl, Bool, List, ℕ, zero, suc, ◌+◌, ◌/◌, ◌^◌, ◌≤◌, get_or}
-use Rattle.std.proofs.Common.{sym, ap, ◌∙◌, arith, add-one, pow-suc, get_or-set_other}
+use Rattle.std.proofs.Common.{sym, ◌∙◌, arith, add-one, pow-suc, get_or-set_other}
 use Rattle.std.proofs.Math.Nat.{div-div-eq-div-mul}
 use Rattle.std.proofs.lemmas.List.{set-get_or}
 use Rattle.engine.specs.ActCount.{one_more, counted_acts, reset_acts}

@@ -1,5 +1,5 @@
 -- Laws of a beat's inputs: how many cells the input word gives, and how many positions are taken.
-use Rattle.std.specs.Prelude.{◌≡◌, refl, true, List, ℕ, zero, suc, ◌+◌, ℤ, length}
+use Rattle.std.specs.Prelude.{◌≡◌, refl, true, List, ℕ, zero, suc, ℤ, length}
 use Rattle.std.proofs.Common.{arith, eqb-true, length-append}
 use Rattle.values.specs.Choice.{both}
 use Rattle.working.specs.Variables.{position_count}

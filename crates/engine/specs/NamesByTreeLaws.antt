@@ -1,7 +1,7 @@
 -- THE NAMES OF A LINE BY ITS TREE: the check of the names in a line's tokens finds each known exactly if each name in the line's tree is; so it does in a line of which the check of its actions notes none. Nothing is assumed.
 use Rattle.std.specs.Prelude.{◌≡◌, Bool, ◌&&◌}
 use Rattle.std.proofs.Math.Path.{refl, ap}
-use Rattle.std.proofs.Common.{sym, ◌∙◌, eq-eqb, ne_eqb, le-leb, leb-false}
+use Rattle.std.proofs.Common.{sym, ◌∙◌, eq-eqb, ne_eqb, le-leb}
 use Rattle.std.proofs.Math.Bool.{true, false, and_assoc, and-true}
 use Rattle.std.proofs.lemmas.Bool.{false≢true}
 use mathlib.Core.List.{List, [], ◌∷◌, ◌++◌}

@@ -1,5 +1,5 @@
 -- Laws of an order's bytes: what follows from the definitions of Order.
-use Rattle.std.specs.Prelude.{◌≡◌, refl, List, ℕ, ◌+◌, ◌*◌, ◌-◌, ◌/◌, ◌%◌, ℤ, length, get_or, drop}
+use Rattle.std.specs.Prelude.{◌≡◌, refl, List, ℕ, ◌+◌, ◌*◌, ◌/◌, ◌%◌, ℤ, length, get_or, drop}
 use Rattle.std.proofs.Common.{sym, ap, ◌∙◌, arith, SFits}
 use Rattle.std.specs.Int.{w32}
 use Rattle.engine.specs.declared.order.Order.{Order}

@@ -1,5 +1,5 @@
 -- Laws of the table of a set: its sections lie one behind the other and fill it, and so do the places of its lists. Assumes nothing.
-use Rattle.std.specs.Prelude.{◌≡◌, refl, ℕ, ◌+◌, ◌≤◌, ◌<◌}
+use Rattle.std.specs.Prelude.{◌≡◌, refl, ℕ, ◌+◌, ◌≤◌}
 use Rattle.std.proofs.Common.{arith}
 use Rattle.tokens.specs.Token.{max_lines, max_curves, max_lists, max_list_lines}
 use Rattle.engine.specs.Set.{count_place, start_place, curve_place, list_place, list_line_place, first_place}

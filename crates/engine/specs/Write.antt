@@ -7,7 +7,7 @@ use Rattle.values.specs.Fifo.{places, moved_code, append_answer, appended, remov
 use Rattle.values.specs.declared.arithmetic.Worked.{Worked}
 use Rattle.values.specs.declared.fifo.Moved.{Moved}
 use Rattle.values.specs.declared.fifo.Moved.TheVariants as M
-use Rattle.tokens.specs.Token.{OUT, MARKER, PARAM, R, TIMER, M, is_fifo}
+use Rattle.tokens.specs.Token.{OUT, MARKER, PARAM, R, TIMER, is_fifo}
 use Rattle.tokens.specs.Descent.{Answer, good, stop, ◌>>=◌}
 use Rattle.tokens.specs.Index.{is_inside}
 use Rattle.working.specs.Variables.{input_count, count_at, cell_of, fifo_of, run_at, run, beat_count}

@@ -12,7 +12,7 @@ use Rattle.std.proofs.Math.ListN.{length, length-append}
 use borrow.Author.Tests.{le-leb, eq-eqb, ne_eqb, eqb-true}
 use Rattle.values.specs.Choice.{holds, both, decide, chosen, refused, same-choice}
 use Rattle.tokens.specs.Token.{set_size, END, EQUALS, OPEN, CLOSE, COMMA, DO, LEFT, RIGHT, IM, M, SYNFCT, is_variable, is_drive, is_move, is_call, is_whole, is_fifo, is_naming, is_keyword, is_id, is_factor, is_term, NUMBER, whole, whole_token, axis_of, FALSE, FIFO1, FIFO4, IN, LOCK, MINUS, MOV, NOT, OVER, PLUS, POS, SETAL, TIMES, TRUE, UNLOCK}
-use Rattle.grammar.specs.Tree.{Operand, number, variable, position, truth, bracket, minus, not, product, Factors, no_factor, factor, Sum, sum, Terms, no_term, term, compare, Action, assign, assign_position, drive, code, call, synfct, Place, place_word, place_index, place_token, place_tokens, Condition, always, under, Line, line, operand_tokens, factors_tokens, sum_tokens, terms_tokens, action_tokens, actions_tokens, condition_tokens, line_tokens}
+use Rattle.grammar.specs.Tree.{Operand, number, variable, position, truth, bracket, minus, not, product, Factors, no_factor, factor, Sum, sum, Terms, no_term, term, Action, assign, assign_position, drive, code, call, synfct, Place, place_word, place_index, place_token, place_tokens, Condition, always, under, Line, line, operand_tokens, factors_tokens, sum_tokens, terms_tokens, action_tokens, actions_tokens, condition_tokens, line_tokens}
 use Rattle.tokens.specs.Descent.{token, read, is_index, index_of, is_indexed, index_at, sum_at}
 use Rattle.grammar.specs.Meaning.{sum_meaning, expression_meaning, Stands, EndsSum, EndsExpression}
 use Rattle.tokens.specs.SingleFault.{lower, opens_too_many, read_fault, write_fault, id_fault, curve_fault}

@@ -1,5 +1,5 @@
 -- Worked lines of document 02, Req 08, computed over the definitions: two moves of one axis.
-use Rattle.std.specs.Prelude.{◌≡◌, refl, List, [], ◌∷◌, ◌++◌, ℕ, ◌+◌}
+use Rattle.std.specs.Prelude.{refl, List, [], ◌∷◌, ◌++◌, ℕ, ◌+◌}
 use Rattle.values.specs.Codes.{not_in_grammar, outside, m_alone, too_many_actions, two_moves}
 use Rattle.checking.specs.Fault.{line_at, rest_at, body_at, line_parts, moves_at, actions_at, action_at, assignment_at, unindexed_at, command_at, count_fault, is_among, are_apart, moves_fault, number_of, sight}
 use Rattle.tokens.specs.Token.{END, EQUALS, LEFT, RIGHT, ID, DO, POS, FA, MOV, M, X}

@@ -9,7 +9,7 @@ use native.Mathlib.Omega.{arith}
 use Rattle.std.proofs.Math.ListN.{length-map}
 use Rattle.std.proofs.lemmas.Bool.{lt-leb}
 use Rattle.values.specs.Choice.{decide, chosen, refused}
-use Rattle.tokens.specs.Token.{END, EQUALS, MINUS, OPEN, CLOSE, COMMA, LEFT, RIGHT, IM, NUMBER, IN, FIFO4, X, W, TIMES, OVER, PLUS, SAME, ATLEAST, AND, XOR, POS, MOV, SETAL, UNLOCK, WHEN, EVERY, ID, IDS, is_number, number_carried, whole, whole_token}
+use Rattle.tokens.specs.Token.{END, EQUALS, MINUS, OPEN, CLOSE, COMMA, LEFT, RIGHT, IM, NUMBER, IN, FIFO4, X, W, TIMES, OVER, PLUS, SAME, ATLEAST, AND, XOR, POS, MOV, SETAL, UNLOCK, WHEN, EVERY, ID, IDS, is_number, number_carried, whole_token}
 use Rattle.tokens.specs.Descent.{Answer, good, stop, ◌>>=◌, Meaning}
 use Rattle.tokens.specs.SingleFault.{brackets_open, opens_too_many, number_fault}
 use Rattle.checking.specs.Fault.{sight}

@@ -1,10 +1,10 @@
 -- ONE AXIS, ONE MOVE IN A LINE (document 02, Req 08): a line without a fault moves no axis twice, 14 is told exactly where nothing else is wrong and an axis is moved twice, and without 14 a line has the fault that it had
 -- before. Theorems; nothing is assumed.
-use Rattle.std.specs.Prelude.{◌≡◌, refl, Bool, true, false, not, ◌&&◌, List, [], ◌∷◌, ◌⊎◌, ◌↔◌, ℕ, zero, suc, ◌<◌, ◌≤◌, eqb, length, get_or}
-use Rattle.std.proofs.Common.{sym, ap, ◌∙◌, inl, inr, arith, eqb-true, eq-eqb, ne_eqb}
-use Rattle.std.proofs.lemmas.Bool.{eqb-false, not-true, not-false}
+use Rattle.std.specs.Prelude.{◌≡◌, refl, Bool, true, false, not, List, [], ◌∷◌, ◌↔◌, ℕ, zero, suc, ◌<◌, eqb, length, get_or}
+use Rattle.std.proofs.Common.{inl, inr, arith, eqb-true, eq-eqb}
+use Rattle.std.proofs.lemmas.Bool.{not-true}
 use Rattle.values.specs.Codes.{two_moves}
-use Rattle.values.specs.Choice.{both, decide, contrary, and-true}
+use Rattle.values.specs.Choice.{both, decide, contrary}
 use Rattle.tokens.specs.SingleFault.{lower, unless}
 use Rattle.tokens.specs.SingleFaultLaws.{none_first}
 use Rattle.checking.specs.Fault.{is_among, are_apart, moves_fault}

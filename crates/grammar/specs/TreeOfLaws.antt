@@ -7,7 +7,7 @@ use Rattle.std.proofs.Math.Option.{Option, none, some, some-injective}
 use Prim.Native.Nat.{ℕ, zero, suc, pred, ◌+◌, ◌-◌, ◌≤◌}
 use Rattle.values.specs.Choice.{holds, told-so, contrary, both, decide, choice, chosen, refused, and-true}
 use Rattle.values.specs.Numbers.{clash}
-use Rattle.tokens.specs.Token.{END, MINUS, CLOSE, COMMA, DO, IM, NUMBER, is_numbered, is_axis, is_drive, is_call, is_keyword, is_id, is_factor, is_term, is_compare, is_logic, number_carried, FIFO4, IN, MOV, POS, SETAL, UNLOCK, X}
+use Rattle.tokens.specs.Token.{END, MINUS, CLOSE, COMMA, DO, IM, NUMBER, is_numbered, is_axis, is_drive, is_call, is_keyword, is_id, is_factor, is_term, is_compare, is_logic, number_carried, FIFO4, IN, MOV, POS, SETAL, UNLOCK}
 use Rattle.grammar.specs.Tree.{Operand, number, variable, position, truth, bracket, minus, not, Product, product, Factors, no_factor, factor, Sum, sum, Terms, no_term, term, Expression, single, compare, row, Sums, last, next, Action, assign, assign_position, drive, code, call, synfct, Place, cell, axis, place_tokens, Condition, always, under, Line, line, operand_tokens, product_tokens, factors_tokens, sum_tokens, terms_tokens, expression_tokens, sums_tokens, action_tokens, actions_tokens, condition_tokens, line_tokens, WrittenAs, Parameter, Definition, parameter_tokens, definition_front, DefinedAs}
 use Rattle.grammar.specs.Meaning.{EndsSum, EndsExpression}
 use Rattle.grammar.specs.TreeOf.{given, first, factors_guess, product_guess, terms_guess, sum_guess, sums_guess, expression_guess, operand_first, operand_guess, place_guess, action_guess, actions_guess, condition_guess, line_guess, same_tokens, if_written, tree_of, parameter_guess, definition_guess, definition_of}

@@ -1,10 +1,10 @@
 -- THE TOKENS OF A LINE THAT IS WRITTEN ARE READ BACK. Assumes nothing.
-use Rattle.std.specs.Prelude.{◌≡◌, Bool, true, false, not, ◌&&◌, ◌||◌, List, [], ◌∷◌, ◌++◌, map, ℕ, zero, suc, ◌+◌, ◌-◌, ◌*◌, ◌/◌, ◌%◌, ◌≤◌, ◌<◌, eqb, leb, length, take, drop}
+use Rattle.std.specs.Prelude.{◌≡◌, Bool, true, false, not, ◌&&◌, ◌||◌, List, [], ◌∷◌, ◌++◌, map, ℕ, ◌/◌, ◌%◌, ◌<◌, eqb, leb, length}
 use Rattle.std.proofs.Math.Path.{refl}
-use Rattle.std.proofs.Common.{sym, ap, ◌∙◌, append-nil, arith, length-append}
+use Rattle.std.proofs.Common.{ap, ◌∙◌, append-nil, arith, length-append}
 use Rattle.std.proofs.Math.Bool.{and-false}
 use Rattle.std.proofs.Math.ListN.{get_or, get_or-append}
-use borrow.Author.Tests.{eqb-true, eqb-false, eq-eqb, ne_eqb, le-leb, lt-leb, leb-true, leb-false, not-true}
+use borrow.Author.Tests.{eqb-true, ne_eqb, lt-leb, leb-true, not-true}
 use Rattle.values.specs.Choice.{decide, both, chosen, refused, contrary}
 use Rattle.values.specs.Value.{unit}
 use Rattle.tokens.specs.Token.{NUMBER, is_number, is_variable, number_carried, thousandths}
@@ -18,7 +18,7 @@ use Rattle.print.specs.TokenText.{part_text, number_text, name_text, token_text,
 use Rattle.print.specs.ReadBack.{read_back}
 use Rattle.print.specs.DecimalLaws.{All, digit-bounds, decimal-digits, decimal-some}
 use Rattle.print.specs.NumberBackLaws.{Stops}
-use Rattle.print.specs.TokenBackLaws.{has_name, name-says, Printable, real, number-goes, sign-no-number, Apart, by_token, token_back}
+use Rattle.print.specs.TokenBackLaws.{has_name, name-says, Printable, number-goes, sign-no-number, Apart, by_token, token_back}
 
 -- ---- bytes that make no sign of two
 

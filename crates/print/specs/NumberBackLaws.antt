@@ -1,7 +1,7 @@
 -- A number that is written is read back: its token, and every byte of it. Assumes nothing.
-use Rattle.std.specs.Prelude.{◌≡◌, refl, Bool, true, false, ◌&&◌, ℕ, zero, suc, ◌+◌, ◌-◌, ◌*◌, ◌/◌, ◌%◌, ◌^◌, ◌≤◌, ◌<◌, eqb, leb, take, drop, get_or}
+use Rattle.std.specs.Prelude.{◌≡◌, refl, true, false, ℕ, suc, ◌+◌, ◌-◌, ◌*◌, ◌/◌, ◌%◌, ◌^◌, ◌≤◌, ◌<◌, eqb, take, drop, get_or}
 use Rattle.std.proofs.Math.Path.{sym, ap}
-use Rattle.std.proofs.Common.{◌∙◌, get_or-append-add, take_at, drop_at, eqb-true, eq-eqb, ne_eqb, le-leb}
+use Rattle.std.proofs.Common.{◌∙◌, get_or-append-add, eqb-true}
 use mathlib.Core.List.{List, [], ◌∷◌, ◌++◌, append_assoc}
 use native.Mathlib.Omega.{arith}
 use Rattle.std.proofs.Math.ListN.{length, length-append}
@@ -10,16 +10,15 @@ use Rattle.std.proofs.lemmas.Bool.{eqb-false}
 use Rattle.values.specs.Choice.{decide, chosen, refused}
 use Rattle.values.specs.Value.{unit, top}
 use Rattle.tokens.specs.Token.{NUMBER}
-use Rattle.text.specs.Byte.{POINT, is_digit, is_letter, run}
-use Rattle.text.specs.Number.{digits_value, written, is_fit, point_mark, number_token}
+use Rattle.text.specs.Byte.{POINT, is_digit, is_letter}
+use Rattle.text.specs.Number.{digits_value, written, point_mark, number_token}
 use Rattle.text.specs.NumberLaws.{value_in}
-use Rattle.text.specs.declared.scan.First.{First}
 use Rattle.text.specs.FirstLaws.{number_is, found_some}
 use Rattle.text.specs.First.{found, behind_point, with_point, number_with, number_first}
 use Rattle.text.specs.Digits.{decimal}
 use Rattle.print.specs.TokenText.{digit, part_digits, part_text, number_text}
 use Rattle.print.specs.ReadBack.{mark}
-use Rattle.print.specs.DecimalLaws.{All, run-over, digit-is, decimal-value, decimal-digits, decimal-length, decimal-some}
+use Rattle.print.specs.DecimalLaws.{All, run-over, digit-is, decimal-value, decimal-digits, decimal-length}
 
 -- a point and the digits behind it; none where there are no digits
 abbrev pub pointed : List ℕ → List ℕ

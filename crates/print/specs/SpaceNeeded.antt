@@ -1,23 +1,23 @@
 -- A SPACE IS PRINTED ONLY WHERE TWO TOKENS WOULD OTHERWISE NOT READ AS THEY STAND, and there it is (document 02, Req 01), both ways: `space-needed` that without a printed space the two read otherwise, `none_needed` that with none printed they read as they stand. Theorems; nothing is assumed.
-use Rattle.std.specs.Prelude.{◌≡◌, refl, Bool, true, false, not, List, [], ◌∷◌, ◌++◌, ℕ, zero, suc, ◌+◌, ◌*◌, ◌%◌, ◌≤◌, eqb, leb, length, drop, get_or}
-use Rattle.std.proofs.Common.{sym, ap, ◌∙◌, arith, get_or-drop, leb-true, le-leb, ne_eqb}
+use Rattle.std.specs.Prelude.{◌≡◌, refl, Bool, true, false, List, [], ◌∷◌, ◌++◌, ℕ, zero, suc, ◌+◌, ◌*◌, ◌%◌, drop, get_or}
+use Rattle.std.proofs.Common.{sym, ap, ◌∙◌, arith, get_or-drop, le-leb, ne_eqb}
 use Rattle.std.proofs.Math.Bool.{and-true}
-use Rattle.std.proofs.lemmas.Bool.{not-true, not-false}
-use Rattle.values.specs.Choice.{decide, both, contrary}
+use Rattle.std.proofs.lemmas.Bool.{not-true}
+use Rattle.values.specs.Choice.{decide, contrary}
 use Rattle.values.specs.Numbers.{clash}
 use Rattle.values.specs.Value.{unit}
 use Rattle.tokens.specs.Token.{NUMBER, is_number, number_carried, thousandths}
 use Rattle.text.specs.Byte.{is_space}
 use Rattle.text.specs.First.{first_token}
-use Rattle.text.specs.Tokens.{Tokens, with_token, tokens_of}
+use Rattle.text.specs.Tokens.{Tokens, tokens_of}
 use Rattle.text.specs.TokensLaws.{tokens_none}
-use Rattle.print.specs.TokenText.{token_text, goes_on, is_following, is_one_sign, needs_space, gap, line_text}
+use Rattle.print.specs.TokenText.{token_text, goes_on, needs_space, line_text}
 use Rattle.print.specs.ReadBack.{mark, read_back}
 use Rattle.print.specs.NameRows.{no_space}
 use Rattle.print.specs.DecimalLaws.{All, all_append, digit-bounds}
 use Rattle.print.specs.TokenBackLaws.{Printable, number-goes, back-number, back-other}
 use Rattle.print.specs.LineBack.{or-none, number-follows, gap-none, line-back}
-use Rattle.print.specs.ToldLaws.{Left, no-sign-one, side_by_side, Told}
+use Rattle.print.specs.ToldLaws.{Left, no-sign-one, side_by_side}
 use Rattle.print.specs.OneSignLaws.{word-space}
 use Rattle.print.specs.LineShorter.{by_bytes}
 use Rattle.print.specs.TokenBytesLaws.{Passed, token-bytes}

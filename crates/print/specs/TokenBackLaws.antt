@@ -1,19 +1,18 @@
 -- A token that is written is read back, where the byte behind it does not go on with it. Assumes nothing.
-use Rattle.std.specs.Prelude.{◌≡◌, refl, Bool, true, false, not, ◌&&◌, ◌||◌, List, [], ◌∷◌, ◌++◌, ℕ, zero, suc, ◌+◌, ◌-◌, ◌*◌, ◌/◌, ◌%◌, ◌≤◌, ◌<◌, eqb, leb, length, take, drop, get_or}
-use Rattle.std.proofs.Common.{sym, ap, ◌∙◌, arith, length-append, eqb-true, eq-eqb, ne_eqb, le-leb, leb-true, leb-false}
-use Rattle.std.proofs.Math.Bool.{and-false}
+use Rattle.std.specs.Prelude.{◌≡◌, refl, Bool, true, false, not, ◌&&◌, ◌||◌, List, [], ◌∷◌, ◌++◌, ℕ, zero, suc, ◌+◌, ◌*◌, ◌/◌, ◌%◌, ◌≤◌, ◌<◌, eqb, leb, length, get_or}
+use Rattle.std.proofs.Common.{sym, ap, ◌∙◌, arith, eqb-true, ne_eqb, le-leb, leb-true}
 use Rattle.std.proofs.Math.Seq.{take-append_seam, drop-append_seam}
-use Rattle.std.proofs.lemmas.Bool.{eqb-false, lt-leb, not-true}
+use Rattle.std.proofs.lemmas.Bool.{lt-leb, not-true}
 use Rattle.values.specs.Choice.{decide, both, chosen, refused, contrary}
 use Rattle.values.specs.Value.{unit, top}
 use Rattle.tokens.specs.Token.{NUMBER, ID, COMMA, is_number, number_carried, thousandths}
-use Rattle.text.specs.Byte.{POINT, DOLLAR, is_digit, is_letter, is_space, starts_word, is_word_byte, run}
+use Rattle.text.specs.Byte.{DOLLAR, is_digit, is_space, starts_word, is_word_byte, run}
 use Rattle.text.specs.Word.{pairs, singles, names, token_in, word_token}
 use Rattle.text.specs.WordLaws.{rows, is_named, name-passes}
 use Rattle.text.specs.declared.scan.First.{First}
 use Rattle.text.specs.First.{found, word_first, number_first, sign_first, first_token}
 use Rattle.text.specs.FirstLaws.{found_some}
-use Rattle.text.specs.Tokens.{Tokens, with_token, tokens_of}
+use Rattle.text.specs.Tokens.{with_token, tokens_of}
 use Rattle.text.specs.TokensLaws.{tokens-one, no-pair}
 use Rattle.text.specs.Digits.{decimal}
 use Rattle.print.specs.TokenText.{part_text, number_text, name_text, token_text, goes_on}

@@ -1,5 +1,5 @@
 -- Laws of the bytes of what is written: what a computed test says of every name of the table, and of the bytes of numbers, it says of every token and line. Assumes nothing.
-use Rattle.std.specs.Prelude.{◌≡◌, refl, Bool, true, false, not, ◌&&◌, ℕ, ◌+◌, ◌/◌, ◌%◌, ◌<◌, eqb}
+use Rattle.std.specs.Prelude.{◌≡◌, refl, Bool, true, ℕ, ◌/◌, ◌%◌, ◌<◌, eqb}
 use mathlib.Core.List.{List, [], ◌∷◌, ◌++◌}
 use Rattle.std.proofs.Common.{arith, eqb-true}
 use Rattle.values.specs.Choice.{decide, both}
@@ -11,7 +11,7 @@ use Rattle.text.specs.WordLaws.{rows}
 use Rattle.text.specs.Digits.{decimal}
 use Rattle.print.specs.TokenText.{part_digits, part_text, number_text, name_text, token_text, needs_space, gap, line_text}
 use Rattle.print.specs.DecimalLaws.{All, all_append, decimal-digits}
-use Rattle.print.specs.NumberBackLaws.{Part, part-is}
+use Rattle.print.specs.NumberBackLaws.{part-is}
 use Rattle.print.specs.TokenBackLaws.{each, each_all, by_token}
 use Rattle.print.specs.LineBack.{gap-none, gap-some}
 

@@ -4,7 +4,7 @@ use Rattle.std.proofs.Common.{sym, ap, ◌∙◌, arith, get_or-drop, drop-drop,
 use Rattle.std.proofs.Math.Bool.{and-false}
 use Rattle.std.proofs.lemmas.Bool.{lt-leb, not-true}
 use Rattle.values.specs.Choice.{decide, both, chosen, refused, contrary}
-use Rattle.tokens.specs.Token.{NUMBER, is_number, is_variable, number_carried, thousandths}
+use Rattle.tokens.specs.Token.{NUMBER, is_number, is_variable}
 use Rattle.text.specs.Byte.{POINT, is_digit, is_letter, starts_word, is_word_byte, run}
 use Rattle.text.specs.ByteLaws.{run_on, run-off, run-within}
 use Rattle.text.specs.Number.{number_token}

@@ -1,5 +1,5 @@
 -- EVERY TOKEN OF A LINE WITHOUT A FAULT, AND OF SUCH A DEFINITION, CAN BE WRITTEN AND READ BACK. Theorems; nothing is assumed.
-use Rattle.std.specs.Prelude.{◌≡◌, refl, Bool, true, false, List, [], ◌∷◌, ◌++◌, ℕ, zero, ◌+◌, ◌*◌, ◌≤◌, ◌<◌, eqb, leb}
+use Rattle.std.specs.Prelude.{◌≡◌, refl, Bool, true, false, List, [], ◌∷◌, ◌++◌, ℕ, ◌+◌, ◌*◌, ◌≤◌, ◌<◌, eqb, leb}
 use Rattle.std.proofs.Common.{subst, append-nil, arith, eqb-true, le-leb, leb-true}
 use Rattle.std.proofs.lemmas.Bool.{lt-leb}
 use Rattle.values.specs.Codes.{outside}

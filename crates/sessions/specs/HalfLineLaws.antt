@@ -18,14 +18,12 @@ use Rattle.text.specs.Byte.{CR, SPACE, is_digit}
 use Rattle.text.specs.Number.{digits_value}
 use Rattle.text.specs.Lines.{before as start_of, split}
 use Rattle.text.specs.LinesLaws.{split-some}
-use Rattle.couplers.specs.declared.reading.Reading.{Reading}
-use Rattle.couplers.specs.declared.reading.Reading.TheVariants.{Break, Short}
 use Rattle.couplers.specs.Conversion.{reading_of}
 use Rattle.transcript.specs.declared.beat_line.HalfLine.{HalfLine}
 use Rattle.transcript.specs.declared.beat_line.Sent.{Sent}
-use Rattle.transcript.specs.BeatLine.{Lent, fields, mode_of, all_digits, are_digits, whole_of, word_of, positive, negative, lent_number, is_hex, hex_digit, all_hex, hex_value, sending, lent_reading, left_off, behind_first, each_of, filled, readings_of, lent_positions, positions_of, lending, lent_of, fields_lent, line_lent}
+use Rattle.transcript.specs.BeatLine.{Lent, fields, mode_of, all_digits, are_digits, whole_of, word_of, positive, negative, lent_number, is_hex, hex_digit, all_hex, hex_value, sending, lent_reading, left_off, behind_first, each_of, filled, readings_of, lent_positions, positions_of, lent_of, fields_lent, line_lent}
 use Rattle.transcript.specs.IntakeLaws.{closed-field}
-use Rattle.transcript.specs.HalfLine.{no_half_line, ill_formed, with_stage, highest, is_reading, eight_digits, short_value, reading_by, greatest, signed, with_field, closed, space_after, letter_stage, followed, call_stage, mode_byte, minus_byte, digit_byte, number_byte, reading_stage, digits_so_far, hex_byte, reading_byte, field_byte, read_byte, read_on, read_lent}
+use Rattle.transcript.specs.HalfLine.{no_half_line, ill_formed, with_stage, highest, is_reading, reading_by, greatest, signed, with_field, closed, space_after, letter_stage, followed, call_stage, mode_byte, minus_byte, digit_byte, number_byte, reading_stage, digits_so_far, hex_byte, reading_byte, field_byte, read_byte, read_on, read_lent}
 
 -- ---- the bytes of one field
 

@@ -11,8 +11,8 @@ use Rattle.values.specs.Curve.{curve_of}
 use Rattle.values.specs.CurveLaws.{curve-in-range, curve-alarm}
 use Rattle.values.specs.declared.curve.Curve.{Curve}
 use Rattle.values.specs.Numbers.{clash}
-use Rattle.tokens.specs.Token.{END, EQUALS, OPEN, CLOSE, COMMA, LEFT, RIGHT, IN, IM, POS, FA, MOV, M, SETAL, LOCK, UNLOCK, SYNFCT, X, W, between, is_variable, is_axis, has_axis, is_fifo, is_drive, is_call, is_whole, whole, set_size, max_lines, is_lock, is_naming}
-use Rattle.tokens.specs.Descent.{token, Answer, good, stop, ◌>>=◌, Read, read, ends, then, is_index, index_of, is_indexed, index_at, sum_at, expression_at}
+use Rattle.tokens.specs.Token.{END, EQUALS, OPEN, CLOSE, COMMA, LEFT, RIGHT, IN, IM, POS, FA, MOV, M, SETAL, LOCK, UNLOCK, SYNFCT, between, is_variable, is_axis, has_axis, is_fifo, is_drive, is_call, is_whole, whole, set_size, max_lines, is_lock, is_naming}
+use Rattle.tokens.specs.Descent.{token, Answer, good, stop, ◌>>=◌, Read, read, ends, then, is_index, is_indexed, index_at, sum_at, expression_at}
 use Rattle.tokens.specs.SingleFault.{lower, curve_fault, read_fault, write_fault, id_fault, call_fault}
 use Rattle.checking.specs.Fault.{Sight, wanting, sight, fault_for, is_removal, assigned_at, assignment_at, command_at, is_given, is_synfct, synfct_fault, synfct_at, unindexed_at, action_at}
 use Rattle.working.specs.Variables.{variable_value}

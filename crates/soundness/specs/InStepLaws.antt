@@ -1,6 +1,6 @@
 -- Laws of reading: two meanings that agree on each number, variable and operator agree on what is read and where it ends, and on what may stop it.
 -- So where the check finds no fault, a worked value is in range, and working stops only by an alarm. Nothing is assumed.
-use Rattle.std.specs.Prelude.{◌≡◌, refl, Bool, not, List, eqb}
+use Rattle.std.specs.Prelude.{◌≡◌, refl, Bool, List, eqb}
 use Rattle.std.proofs.Math.Bool.{true, false}
 use Prim.Native.Nat.{ℕ, zero, suc, ◌+◌}
 use Rattle.values.specs.Choice.{either, either_both}

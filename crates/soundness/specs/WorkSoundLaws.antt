@@ -1,5 +1,5 @@
 -- Laws of working an expression beside its check: where the check finds no fault, the value is in range, and the working stops only by an alarm, never by 22. Nothing is assumed.
-use Rattle.std.specs.Prelude.{◌≡◌, refl, Bool, true, false, not, ◌&&◌, List, ℕ, ◌-◌, ◌<◌, ◌≤◌, eqb, leb, ℤ, pos, nat_abs, length, get_or}
+use Rattle.std.specs.Prelude.{◌≡◌, refl, Bool, true, false, not, ◌&&◌, List, ℕ, ◌<◌, ◌≤◌, eqb, leb, ℤ, pos, nat_abs, length, get_or}
 use Rattle.std.proofs.Common.{arith, leb-true, le-ltb}
 use Rattle.std.proofs.lemmas.Bool.{eqb-false, not-true}
 use Rattle.values.specs.Codes.{outside, read_only, out_of_range, zero_divisor, fifo_empty}

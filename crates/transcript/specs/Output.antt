@@ -1,5 +1,5 @@
 -- The lines that a session prints (document 01, "On both sides of each edge"; document 02, Req 06). Definitions only.
-use Rattle.std.specs.Prelude.{Bool, cond, List, [], ◌∷◌, ◌++◌, ℕ, zero, suc, ◌+◌, ◌*◌, get_or, drop}
+use Rattle.std.specs.Prelude.{cond, List, [], ◌∷◌, ◌++◌, ℕ, zero, suc, ◌+◌, ◌*◌, get_or, drop}
 use Rattle.tokens.specs.Token.{max_lines}
 use Rattle.engine.specs.Order.{order_size, max_orders}
 use Rattle.engine.specs.declared.status.Standing.{Standing}

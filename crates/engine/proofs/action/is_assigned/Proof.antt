@@ -1,9 +1,6 @@
 -- `action::is_assigned` meets its contract.
 use borrow.Author.Rules.{rules}
-use mathlib.Core.Path.{sym, ap, ◌∙◌}
-use mathlib.Core.Bool.{Bool, ◌||◌}
-use lib.Dec.{eqb}
-use Rattle.tokens.specs.Token.{SYNFCT}
+use mathlib.Core.Path.{sym, ◌∙◌}
 use Rattle.engine.proofs.action.is_assigned.Statement.{statement}
 use Rattle.engine.proofs.action.is_assigned.Tie as tie
 

@@ -1,7 +1,6 @@
 -- `action::take_for` meets its contract: by the word.
 use borrow.Author.Rules.{rules}
 use borrow.Author.Tests.{eq-eqb, ne_eqb}
-use native.Mathlib.Omega.{arith}
 use Rattle.engine.specs.Assigned.{taken_for}
 use Rattle.engine.proofs.action.take_for.Statement.{statement}
 use Rattle.engine.proofs.action.take_for.Tie as tie

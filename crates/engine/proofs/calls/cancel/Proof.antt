@@ -1,7 +1,5 @@
 -- `calls::cancel` meets its contract: the line that `find` names, cancelled; its rank is below 32.
 use borrow.Author.Rules.{rules}
-use native.Mathlib.Omega.{arith}
-use mathlib.Core.Path.{ap, ◌∙◌}
 use Rattle.engine.specs.Calls.{with_cancelled, cancel_call}
 use Rattle.engine.proofs.NamedLineLaws.{found_below}
 use Rattle.engine.proofs.CallLaws.{called-refused, called-done}

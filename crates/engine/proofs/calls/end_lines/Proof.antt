@@ -1,7 +1,7 @@
 -- `calls::end_lines` meets its contract: after k turns the ID lines of the first k are cancelled.
 use borrow.Author.Rules.{rules}
 use native.Mathlib.Omega.{arith}
-use mathlib.Core.Path.{◌≡◌, ◌∙◌}
+use mathlib.Core.Path.{◌≡◌}
 use Prim.Native.Nat.{◌-◌, ◌≤◌}
 use Rattle.engine.specs.Calls.{program_ended}
 use Rattle.engine.proofs.CallLaws.{end_none, end-turn}

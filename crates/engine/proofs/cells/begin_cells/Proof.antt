@@ -1,6 +1,6 @@
 -- `cells::begin_cells` meets its contract: the timers grow behind the input cells, the inputs are put, then the analogues and the positions copied behind them.
 use borrow.Author.Rules.{rules}
-use mathlib.Core.Path.{◌≡◌, refl, ap, ◌∙◌}
+use mathlib.Core.Path.{refl, ap, ◌∙◌}
 use mathlib.Core.List.{List, ◌++◌}
 use lib.IntN.{ℤ}
 use lib.ListN.{take, drop}

@@ -1,7 +1,7 @@
 -- `one_beat::is_sound_over` meets its contract: the lines, then the state for so many of them.
 use borrow.Author.Rules.{rules}
 use borrow.Author.Tests.{not-true, not-false}
-use mathlib.Core.Path.{◌≡◌, sym, ◌∙◌}
+use mathlib.Core.Path.{sym, ◌∙◌}
 use native.Mathlib.Omega.{arith}
 use lib.ListN.{length-drop}
 use Rattle.engine.proofs.CellLaws.{behind-inputs}

@@ -1,6 +1,6 @@
 -- `read::store` meets its contract: six writes at the places 0 to 5 are the places of the line.
 use borrow.Author.Rules.{rules}
-use mathlib.Core.Path.{◌≡◌, ◌∙◌}
+use mathlib.Core.Path.{◌∙◌}
 use mathlib.Core.List.{[], ◌∷◌}
 use native.Mathlib.Omega.{arith}
 use lib.ListN.{length-set, drop_of_length-le}

@@ -3,7 +3,6 @@ use borrow.Author.Rules.{rules}
 use borrow.Author.Tests.{not-true, not-false}
 use native.Mathlib.Omega.{arith}
 use mathlib.Core.Path.{◌≡◌, refl, sym, ◌∙◌}
-use mathlib.Core.Logic.{⊎_elim}
 use Rattle.engine.specs.Set.{names_known, asked_table}
 use Rattle.engine.proofs.SetLaws.{names-end, names-other, names-not, names-on, names-none}
 use Rattle.tokens.specs.Token.{set_size}

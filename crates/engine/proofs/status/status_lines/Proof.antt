@@ -1,7 +1,7 @@
 -- `status::status_lines` meets its contract: after k turns the first k rows stand.
 use borrow.Author.Rules.{rules}
 use native.Mathlib.Omega.{arith}
-use mathlib.Core.Path.{◌≡◌, ◌∙◌}
+use mathlib.Core.Path.{◌≡◌}
 use Prim.Native.Nat.{◌-◌, ◌≤◌}
 use Rattle.engine.specs.Status.{line_status, status_lines}
 use Rattle.engine.proofs.StatusLaws.{rows_none, rows-turn}

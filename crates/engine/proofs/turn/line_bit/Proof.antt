@@ -1,6 +1,6 @@
 -- `turn::line_bit` meets its contract: a bit below the last of 64 is shifted whole.
 use borrow.Author.Rules.{rules}
-use mathlib.Core.Path.{◌≡◌, ◌∙◌}
+use mathlib.Core.Path.{◌∙◌}
 use native.Mathlib.Omega.{arith}
 use native.Mathlib.Nat.{one-mul}
 use lib.Pow.{shl_exact}

@@ -6,7 +6,6 @@ use mathlib.Core.List.{List}
 use Prim.Native.Nat.{ℕ}
 use lib.ListN.{length}
 use Rattle.values.specs.PutAt.{put_at}
-use Rattle.print.specs.TokenText.{name_text}
 use Rattle.print.specs.NameRowsLaws.{sign-row, keyword-row, variable-row, action-row, no_name}
 use Rattle.print.proofs.name.put_name.Statement.{statement}
 use Rattle.print.proofs.name.put_name.Tie as tie

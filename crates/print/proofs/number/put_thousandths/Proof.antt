@@ -1,7 +1,6 @@
 -- `number::put_thousandths` meets its contract: the units, and the part behind them.
 use borrow.Author.Rules.{rules}
 use native.Mathlib.Omega.{arith}
-use mathlib.Core.Path.{◌∙◌}
 use Prim.Native.Nat.{◌/◌}
 use Rattle.values.specs.PutLaws.{put-sized, put_both}
 use Rattle.text.specs.Digits.{decimal}

@@ -1,5 +1,4 @@
 -- `alone::lay` meets its contract: in the loop the tokens from place `i` on, put there, come to what all of them come to.
-use borrow.Author.Rules.{rules}
 use native.Mathlib.Omega.{arith}
 use mathlib.Core.Path.{◌≡◌, refl, sym, ◌∙◌}
 use Prim.Native.Nat.{◌-◌, ◌≤◌}

@@ -1,5 +1,4 @@
 -- `alone::wipe` meets its contract: in the loop the zeros from place `i` on come to what all of them come to; AloneLaws has the turn.
-use borrow.Author.Rules.{rules}
 use native.Mathlib.Omega.{arith}
 use native.Mathlib.Nat.{sub-zero}
 use mathlib.Core.Path.{◌≡◌, sym, ◌∙◌}

@@ -1,14 +1,13 @@
 -- `lines::take_line` meets its contract: a line of spaces and comment is none of those that are numbered.
 use borrow.Author.Rules.{rules}
 use native.Mathlib.Omega.{arith}
-use mathlib.Core.List.{List, [], ◌∷◌}
-use mathlib.Core.Path.{◌≡◌, refl, sym, ap, ◌∙◌}
-use Prim.Native.Nat.{ℕ, ◌+◌, ◌<◌}
+use mathlib.Core.List.{[]}
+use mathlib.Core.Path.{refl, sym, ap, ◌∙◌}
+use Prim.Native.Nat.{◌<◌}
 use lib.ListN.{length}
 use Rattle.tokens.specs.Token.{max_lines}
 use Rattle.text.specs.Lines.{numbered}
 use Rattle.reader.specs.Load.{rows_from}
-use Rattle.reader.specs.Draft.{Says}
 use Rattle.reader.proofs.TokenLineLaws.{line-blank, line-full}
 use Rattle.reader.proofs.lines.take_line.Statement.{statement}
 use Rattle.reader.proofs.lines.take_line.Tie as tie

@@ -1,9 +1,7 @@
 -- `in_place::call_left` meets its contract: what the call leaves, by which it is.
 use borrow.Author.Rules.{rules}
-use mathlib.Core.Path.{sym, ap, ◌∙◌}
-use mathlib.Core.Bool.{Bool}
+use mathlib.Core.Path.{ap}
 use Rattle.engine.specs.declared.calls.Called.{Called}
-use Rattle.transcript.specs.InPlace.{call_left}
 use Rattle.transcript.proofs.in_place.call_left.Statement.{statement}
 use Rattle.transcript.proofs.in_place.call_left.Tie as tie
 

@@ -3,7 +3,7 @@ use borrow.Author.Rules.{rules}
 use mathlib.Core.Path.{◌≡◌, ◌∙◌}
 use Prim.Native.Nat.{◌+◌}
 use native.Mathlib.Omega.{arith}
-use lib.ListN.{length, drop, length-drop}
+use lib.ListN.{length, length-drop}
 use Rattle.tokens.specs.Token.{set_size}
 use Rattle.working.specs.Variables.{input_count, r_count, state_cells}
 use Rattle.engine.specs.HeldLaws.{sound-by-lines}

@@ -1,7 +1,6 @@
 -- `in_place::work_lines` meets its contract: in the loop the input from place `i` on comes to what all of it comes to; WorkLaws has the turn.
 use borrow.Author.Rules.{rules}
 use native.Mathlib.Omega.{arith}
-use mathlib.Core.Path.{◌≡◌}
 use Prim.Native.Nat.{◌-◌}
 use lib.ListN.{length}
 use Rattle.transcript.specs.InPlace.{state_in, session_in}
