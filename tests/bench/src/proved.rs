@@ -1,4 +1,4 @@
-//! The proved calls of the crate `exports`. They ask nothing of their caller; the array types give the lengths, a text is lent by its place and length.
+//! The proved calls of the crate `exports`, as `exports_c` has them for C. They ask nothing of their caller; the array types give the lengths, a text is lent by its place and length.
 
 /// Places of a set (crates/tokens/specs/Token): the count of lines, where each of 32 starts, the places of 3 curves and of 8 lists of 16 lines; then the tokens.
 pub const FIRST: usize = 1 + 32 + 3 + 8 * (1 + 16);

@@ -52,14 +52,16 @@ impl Tree {
             let Some((name, _)) = line.split('#').next().unwrap_or_default().split_once(':') else {
                 continue;
             };
-            let folder = root.join("crates").join(name.trim());
+            // Behind a name may stand what kind of crate it is.
+            let name = name.split_whitespace().next().unwrap_or_default();
+            let folder = root.join("crates").join(name);
             let mut files = BTreeMap::new();
             for path in paths(&folder)? {
                 let within = relative(&folder, &path);
                 let text = fs::read_to_string(&path).unwrap_or_default();
                 files.insert(within, File { path: relative(root, &path), text });
             }
-            crates.push(Crate { name: name.trim().into(), files });
+            crates.push(Crate { name: name.into(), files });
         }
         let mut documents = Vec::new();
         for path in paths(&root.join("docs"))? {
