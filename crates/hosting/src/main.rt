@@ -1,5 +1,5 @@
 // hosting, a test: works the requests of a host session by the proved calls and answers each in numbers. tests/HOST-SESSIONS.md, "Requests and answers", gives their form.
-// It is proved safe and to end, no more.
+// It is proved safe and to end, no more. Where reading fails the input ends there; what cannot be written is left out.
 #![tactic(auto)]
 
 mod numbers;
@@ -7,38 +7,48 @@ mod places;
 mod requests;
 
 use engine::{empty_set, power_on};
-use libc::STDIN_FILENO;
 use numbers::{REQUEST, letter};
 use requests::{TEXT, work};
+use std::io::Read;
 use tokens::token::SIZE;
 
 // More requests are not worked.
 const REQUESTS: u32 = 1000000;
 
+// Fills a buffer. Where the input ends before that, or fails, the rest of the buffer stays as it was.
+fn read_full(input: &mut impl Read, buffer: &mut [u8]) {
+    let mut done: usize = 0;
+    while done < buffer.len() {
+        match input.read(&mut buffer[done..]) {
+            Ok(0) | Err(_) => return,
+            Ok(n) => done += n,
+        }
+    }
+}
+
 // The next request; all 0 at the end of the input.
-fn next() -> [u8; REQUEST] {
+fn next(input: &mut impl Read) -> [u8; REQUEST] {
     let mut request = [0u8; REQUEST];
-    io::read_full(STDIN_FILENO, &mut request);
+    read_full(input, &mut request);
     request
 }
 
 // Works each request up to the first without a letter.
-fn work_all(text: &[u8; TEXT], set: &mut [u32; SIZE]) {
+fn work_all(rt: &impl Print, input: &mut impl Read, text: &[u8; TEXT], set: &mut [u32; SIZE]) {
     let mut state = power_on();
-    let mut left = REQUESTS;
-    while 0 < left {
-        let request = next();
+    for _ in 0..REQUESTS {
+        let request = next(input);
         if letter(&request) == 0 {
             return;
         }
-        state = work(&request, text, set, state);
-        left -= 1;
+        state = work(rt, &request, text, set, state);
     }
 }
 
-fn main() {
+fn main(rt: HostRuntime) {
+    let mut input = rt.stdin();
     let mut text = [0u8; TEXT];
     let mut set = empty_set();
-    io::read_full(STDIN_FILENO, &mut text);
-    work_all(&text, &mut set);
+    read_full(&mut input, &mut text);
+    work_all(&rt, &mut input, &text, &mut set);
 }

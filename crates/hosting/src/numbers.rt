@@ -1,8 +1,6 @@
 // Numbers of four bytes, low byte first, as requests and answers have them.
 ghost use Rattle.std.specs.Prelude.{◌≤◌};
 
-use libc::STDOUT_FILENO;
-
 // The bytes of a request, and those of the longest part of an answer.
 pub const REQUEST: usize = 148;
 
@@ -83,13 +81,13 @@ pub fn put_word(out: &mut [u8; OUT], at: usize, n: u32) -> usize {
     put_byte(out, c, n / 16777216)
 }
 
-// The first n bytes are written.
-pub fn write_first(bytes: &[u8], n: usize) {
-    io::write_all(STDOUT_FILENO, first(bytes, n));
+// The first n bytes are written, or as many as can be.
+pub fn write_first(rt: &impl Print, bytes: &[u8], n: usize) {
+    let _ = rt.write_all(first(bytes, n));
 }
 
-pub fn write(out: &[u8; OUT], n: usize) {
-    write_first(out, n);
+pub fn write(rt: &impl Print, out: &[u8; OUT], n: usize) {
+    write_first(rt, out, n);
 }
 
 // One more than the low half of a number of 64 bits holds.
@@ -100,11 +98,11 @@ pub fn low_half(n: u64) -> u32 {
 }
 
 // Answers two numbers, and one of 64 bits as two, its low half first.
-pub fn answer(a: u32, b: u32, c: u64) {
+pub fn answer(rt: &impl Print, a: u32, b: u32, c: u64) {
     let mut out = [0u8; OUT];
     let second = put_word(&mut out, 0, a);
     let third = put_word(&mut out, second, b);
     let fourth = put_word(&mut out, third, low_half(c));
     put_word(&mut out, fourth, (c / HALF) as u32);
-    write(&out, 16);
+    write(rt, &out, 16);
 }

@@ -114,93 +114,83 @@ pub fn with_value(request: &[u8; REQUEST], state: State) -> State {
 // ---- answering
 
 // Answers the numbers of 1,024 places of the set, from a place on; those past its end are 0.
-pub fn write_set(request: &[u8; REQUEST], set: &[u32; SIZE]) {
+pub fn write_set(rt: &impl Print, request: &[u8; REQUEST], set: &[u32; SIZE]) {
     let from = word(request, 4) as usize;
     let mut out = [0u8; OUT];
     let mut to: usize = 0;
-    let mut i: usize = 0;
-    while i < PLACES {
+    for i in 0..PLACES {
         to = put_word(&mut out, to, token_at(set, from + i));
-        i += 1;
     }
-    write(&out, to);
+    write(rt, &out, to);
 }
 
-fn write_values(values: &[i32]) {
+fn write_values(rt: &impl Print, values: &[i32]) {
     let mut out = [0u8; OUT];
     let mut to: usize = 0;
-    let mut i: usize = 0;
-    while i < values.len() {
-        to = put_word(&mut out, to, twos_complement(values[i]));
-        i += 1;
+    for value in values {
+        to = put_word(&mut out, to, twos_complement(*value));
     }
-    write(&out, to);
+    write(rt, &out, to);
 }
 
-fn write_flags(flags: &[bool]) {
+fn write_flags(rt: &impl Print, flags: &[bool]) {
     let mut out = [0u8; OUT];
     let mut to: usize = 0;
-    let mut i: usize = 0;
-    while i < flags.len() {
-        to = put_word(&mut out, to, flags[i] as u32);
-        i += 1;
+    for flag in flags {
+        to = put_word(&mut out, to, *flag as u32);
     }
-    write(&out, to);
+    write(rt, &out, to);
 }
 
-fn write_words(words: &[u32]) {
+fn write_words(rt: &impl Print, words: &[u32]) {
     let mut out = [0u8; OUT];
     let mut to: usize = 0;
-    let mut i: usize = 0;
-    while i < words.len() {
-        to = put_word(&mut out, to, words[i]);
-        i += 1;
+    for n in words {
+        to = put_word(&mut out, to, *n);
     }
-    write(&out, to);
+    write(rt, &out, to);
 }
 
 // The bits of a number; those of a NaN, which no channel keeps, are 0.
 fn bits_of(x: f32) -> u32 {
-    if x != x {
+    if x.is_nan() {
         return 0;
     }
-    f32::to_bits(x)
+    x.to_bits()
 }
 
-fn write_channels(channels: [Channel; CHANNELS]) {
+fn write_channels(rt: &impl Print, channels: [Channel; CHANNELS]) {
     let mut known = [0u32; CHANNELS];
     let mut last = [0u32; CHANNELS];
     let mut faults = [0u32; CHANNELS];
-    let mut i: usize = 0;
-    while i < CHANNELS {
+    for i in 0..CHANNELS {
         let c = channels[i];
         known[i] = c.known as u32;
         last[i] = bits_of(c.last);
         faults[i] = c.faults as u32;
-        i += 1;
     }
-    write_words(&known);
-    write_words(&last);
-    write_words(&faults);
+    write_words(rt, &known);
+    write_words(rt, &last);
+    write_words(rt, &faults);
 }
 
 // Answers every place of the state.
-pub fn dump(state: State) -> State {
+pub fn dump(rt: &impl Print, state: State) -> State {
     let r = state.r;
-    write_values(&r);
+    write_values(rt, &r);
     let cells = state.cells;
-    write_values(&cells);
+    write_values(rt, &cells);
     let runs = state.runs;
-    write_flags(&runs);
+    write_flags(rt, &runs);
     let locked = state.locked;
-    write_flags(&locked);
+    write_flags(rt, &locked);
     let cancelled = state.cancelled;
-    write_flags(&cancelled);
+    write_flags(rt, &cancelled);
     let memory = state.memory;
-    write_flags(&memory);
+    write_flags(rt, &memory);
     let channels = state.channels;
-    write_channels(channels);
+    write_channels(rt, channels);
     let acts = state.acts;
-    write_words(&acts);
+    write_words(rt, &acts);
     state
 }

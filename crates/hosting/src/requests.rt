@@ -33,9 +33,14 @@ fn first_text(text: &[u8; TEXT], n: u32) -> &[u8] {
 }
 
 // Loads the first bytes of the set text; answers code and line.
-fn load_first(request: &[u8; REQUEST], text: &[u8; TEXT], set: &mut [u32; SIZE]) -> State {
+fn load_first(
+    rt: &impl Print,
+    request: &[u8; REQUEST],
+    text: &[u8; TEXT],
+    set: &mut [u32; SIZE],
+) -> State {
     let l = load(first_text(text, word(request, 4)), set);
-    answer(l.code as u32, l.line, 0);
+    answer(rt, l.code as u32, l.line, 0);
     l.state
 }
 
@@ -60,21 +65,17 @@ fn reading_at(request: &[u8; REQUEST], channel: usize) -> Reading {
 fn readings_of(request: &[u8; REQUEST]) -> [Reading; CHANNELS] {
     let none = Reading::Break;
     let mut readings = [none; CHANNELS];
-    let mut k: usize = 0;
-    while k < CHANNELS {
+    for k in 0..CHANNELS {
         let r = reading_at(request, k);
         readings[k] = r;
-        k += 1;
     }
     readings
 }
 
 fn list_of(request: &[u8; REQUEST]) -> [i32; LIST] {
     let mut numbers = [0i32; LIST];
-    let mut k: usize = 0;
-    while k < LIST {
+    for k in 0..LIST {
         numbers[k] = value_of(word(request, LIST_AT + 4 * k));
-        k += 1;
     }
     numbers
 }
@@ -117,7 +118,7 @@ fn beat_over(
 }
 
 // Answers code, orders, the word of the lines that acted, and the buffer.
-fn work_beat(request: &[u8; REQUEST], set: &[u32; SIZE], state: State) -> State {
+fn work_beat(rt: &impl Print, request: &[u8; REQUEST], set: &[u32; SIZE], state: State) -> State {
     let list = list_of(request);
     let mut buffer = [FILL; OUT];
     let b = beat_over(
@@ -127,8 +128,8 @@ fn work_beat(request: &[u8; REQUEST], set: &[u32; SIZE], state: State) -> State 
         lent(&list, word(request, 16)),
         &mut buffer,
     );
-    answer(b.code as u32, b.orders, b.acted);
-    write(&buffer, word(request, 12) as usize);
+    answer(rt, b.code as u32, b.orders, b.acted);
+    write(rt, &buffer, word(request, 12) as usize);
     b.state
 }
 
@@ -152,26 +153,24 @@ fn put_row(out: &mut [u8; OUT], at: usize, row: LineStatus) -> usize {
     put_word(out, acts, row.acts)
 }
 
-fn write_rows(rows: [LineStatus; LINES], count: usize) {
+fn write_rows(rt: &impl Print, rows: [LineStatus; LINES], count: usize) {
     let n = least(count, LINES);
     let mut out = [0u8; OUT];
     let mut to: usize = 0;
-    let mut k: usize = 0;
-    while k < n {
+    for k in 0..n {
         let row = rows[k];
         to = put_row(&mut out, to, row);
-        k += 1;
     }
-    write(&out, to);
+    write(rt, &out, to);
 }
 
 // Answers code and lines, then the row of each line.
-fn work_status(set: &[u32; SIZE], state: State) {
+fn work_status(rt: &impl Print, set: &[u32; SIZE], state: State) {
     let x = status_of(set, state);
     let count = x.count;
     let rows = x.lines;
-    answer(x.code as u32, low_half(count as u64), 0);
-    write_rows(rows, count);
+    answer(rt, x.code as u32, low_half(count as u64), 0);
+    write_rows(rt, rows, count);
 }
 
 // ---- prints
@@ -184,19 +183,19 @@ fn print_over(set: &[u32; SIZE], n: usize, buffer: &mut [u8]) -> Printed {
 }
 
 // Answers code, bytes, and the buffer.
-fn work_print(request: &[u8; REQUEST], set: &[u32; SIZE]) {
+fn work_print(rt: &impl Print, request: &[u8; REQUEST], set: &[u32; SIZE]) {
     let n = word(request, 4) as usize;
     let mut buffer = [FILL; PRINT];
     let p = print_over(set, n, &mut buffer);
-    answer(p.code as u32, low_half(p.size as u64), 0);
-    write_first(&buffer, n);
+    answer(rt, p.code as u32, low_half(p.size as u64), 0);
+    write_first(rt, &buffer, n);
 }
 
 // ---- host calls
 
 // Answers the code.
-fn called(c: Called) -> State {
-    answer(c.code as u32, 0, 0);
+fn called(rt: &impl Print, c: Called) -> State {
+    answer(rt, c.code as u32, 0, 0);
     c.state
 }
 
@@ -216,32 +215,33 @@ fn host_call(request: &[u8; REQUEST], set: &[u32; SIZE], state: State) -> Called
 
 // A request is worked. One of another letter than these is a host call.
 pub fn work(
+    rt: &impl Print,
     request: &[u8; REQUEST],
     text: &[u8; TEXT],
     set: &mut [u32; SIZE],
     state: State,
 ) -> State {
     match letter(request) {
-        b'N' => load_first(request, text, set),
-        b'B' => work_beat(request, set, state),
+        b'N' => load_first(rt, request, text, set),
+        b'B' => work_beat(rt, request, set, state),
         b'V' => with_value(request, state),
-        b'D' => dump(state),
+        b'D' => dump(rt, state),
         b'P' => {
             put(request, set);
             state
         }
         b'Q' => {
-            work_print(request, set);
+            work_print(rt, request, set);
             state
         }
         b'I' => {
-            work_status(set, state);
+            work_status(rt, set, state);
             state
         }
         b'W' => {
-            write_set(request, set);
+            write_set(rt, request, set);
             state
         }
-        _ => called(host_call(request, set, state)),
+        _ => called(rt, host_call(request, set, state)),
     }
 }

@@ -9,9 +9,12 @@ ghost use Rattle.transcript.specs.Machine.{LeadsTo};
 ghost use Rattle.transcript.specs.SessionAnswers.{machine_of};
 
 use engine::empty_set;
-use libc::{STDERR_FILENO, STDIN_FILENO, STDOUT_FILENO};
+use std::io::Read;
 use tokens::token::SIZE;
 use transcript::{KEPT, OUT, Session, View, begin, finish, is_over, step};
+
+// The bytes that are read at once.
+const PIECE: usize = 65536;
 
 // A session, whether more of its input is wanted, and whether reading or writing failed.
 #[derive(Drop)]
@@ -21,23 +24,25 @@ struct Next {
     failed: bool,
 }
 
-// Says on standard error what cannot be done.
-fn complain(program: &[u8], what: &[u8]) {
-    io::write_all(STDERR_FILENO, program);
-    io::write_all(STDERR_FILENO, what);
+// Says what cannot be done. Where not even that can be written, nothing more is said.
+fn complain(errors: &impl Print, program: &[u8], what: &[u8]) {
+    let _ = errors.write_all(program);
+    let _ = errors.write_all(what);
 }
 
 // Writes what was printed; whether that failed.
-fn not_written(program: &[u8], part: &[u8]) -> bool {
-    if io::write_all(STDOUT_FILENO, part) {
+fn not_written(output: &impl Print, errors: &impl Print, program: &[u8], part: &[u8]) -> bool {
+    if output.write_all(part).is_ok() {
         return false;
     }
-    complain(program, b": standard output cannot be written\n");
+    complain(errors, program, b": standard output cannot be written\n");
     true
 }
 
 // Hands over one piece of input, and writes what it prints, up to a write that fails.
 fn hand_over(
+    output: &impl Print,
+    errors: &impl Print,
     session: Session,
     text: &mut [u8; KEPT],
     set: &mut [u32; SIZE],
@@ -54,7 +59,7 @@ fn hand_over(
         let x = step(s, text, set, &piece[at..], &mut out);
         let written = x.written;
         let next = x.session;
-        if not_written(program, &out[..written]) {
+        if not_written(output, errors, program, &out[..written]) {
             return Next {
                 session: next,
                 more: false,
@@ -74,30 +79,41 @@ fn hand_over(
 
 // Reads once and hands over what came; at the end of input, or of the session, no more is wanted.
 fn read_some(
+    input: &mut impl Read,
+    output: &impl Print,
+    errors: &impl Print,
     session: Session,
     text: &mut [u8; KEPT],
     set: &mut [u32; SIZE],
     program: &[u8],
 ) -> Next {
-    let mut piece = io::large_buffer();
-    let got = libc::read(STDIN_FILENO, &mut piece);
-    let n = io::count(got, &piece);
-    if n == 0 {
-        let bad = got < 0;
-        if bad {
-            complain(program, b": standard input cannot be read\n");
-        }
-        return Next {
+    let mut piece = [0u8; PIECE];
+    match input.read(&mut piece) {
+        Ok(0) => Next {
             session: session,
             more: false,
-            failed: bad,
-        };
+            failed: false,
+        },
+        Ok(n) => hand_over(output, errors, session, text, set, &piece[..n], program),
+        Err(_) => {
+            complain(errors, program, b": standard input cannot be read\n");
+            Next {
+                session: session,
+                more: false,
+                failed: true,
+            }
+        }
     }
-    hand_over(session, text, set, &piece[..n], program)
 }
 
-// All of standard input through a session of this view.
-pub fn pipe_through(view: View, program: &[u8]) {
+// All of the input through a session of this view. The programs hand it their standard input, output and error.
+pub fn pipe_through(
+    mut input: impl Read + Drop,
+    output: &impl Print,
+    errors: &impl Print,
+    view: View,
+    program: &[u8],
+) {
     let mut text = [0u8; KEPT];
     let mut set = empty_set();
     let mut s = begin(view);
@@ -109,7 +125,7 @@ pub fn pipe_through(view: View, program: &[u8]) {
             return;
         }
         rounds -= 1;
-        let x = read_some(s, &mut text, &mut set, program);
+        let x = read_some(&mut input, output, errors, s, &mut text, &mut set, program);
         if x.failed {
             return;
         }
@@ -119,5 +135,5 @@ pub fn pipe_through(view: View, program: &[u8]) {
     }
     let mut out = [0u8; OUT];
     let n = finish(s, &text, &set, &mut out);
-    not_written(program, &out[..n]);
+    not_written(output, errors, program, &out[..n]);
 }

@@ -8,9 +8,9 @@ ghost use Rattle.values.specs.PutAt.{put_at};
 ghost use Rattle.synprint.specs.Synprint.{synprint};
 
 use engine::empty_set;
-use libc::{STDERR_FILENO, STDIN_FILENO, STDOUT_FILENO};
 use print::print;
 use reader::load;
+use std::io::Read;
 use tokens::token::TEXT_SIZE;
 use transcript::{put_refusal, set_text_size};
 
@@ -41,25 +41,28 @@ fn answer(input: &[u8], out: &mut [u8; TEXT_SIZE]) -> usize
 }
 
 // Reads once into a part of a buffer.
-fn read_part(part: &mut [u8]) -> Came
+fn read_part(source: &mut impl Read, part: &mut [u8]) -> Came
     ensures { result.size ≤ length part.old }
 {
-    let got = libc::read(STDIN_FILENO, part);
-    let n = io::count(got, part);
-    let bad = got < 0;
-    Came {
-        size: n,
-        failed: bad,
+    match source.read(part) {
+        Ok(n) => Came {
+            size: n,
+            failed: false,
+        },
+        Err(_) => Came {
+            size: 0,
+            failed: true,
+        },
     }
 }
 
 // Reads until the input is over, or enough of it has come.
-fn read_input(input: &mut [u8]) -> Came
+fn read_input(source: &mut impl Read, input: &mut [u8]) -> Came
     ensures { result.size ≤ length input.old }
 {
     let mut size: usize = 0;
     while size < input.len() {
-        let c = read_part(&mut input[size..]);
+        let c = read_part(source, &mut input[size..]);
         let n = c.size;
         if n == 0 {
             return Came {
@@ -75,20 +78,18 @@ fn read_input(input: &mut [u8]) -> Came
     }
 }
 
-fn main() {
+// Where not even standard error can be written, nothing is said.
+fn main(rt: HostRuntime) {
     let mut input = [0u8; INPUT];
-    let came = read_input(&mut input);
+    let came = read_input(&mut rt.stdin(), &mut input);
     if came.failed {
-        io::write_all(STDERR_FILENO, b"synprint: standard input cannot be read\n");
+        let _ = eprintln!(rt; "synprint: standard input cannot be read");
         return;
     }
     let size = came.size;
     let mut out = [0u8; TEXT_SIZE];
     let n = answer(&input[..size], &mut out);
-    if !io::write_all(STDOUT_FILENO, &out[..n]) {
-        io::write_all(
-            STDERR_FILENO,
-            b"synprint: standard output cannot be written\n",
-        );
+    if rt.write_all(&out[..n]).is_err() {
+        let _ = eprintln!(rt; "synprint: standard output cannot be written");
     }
 }

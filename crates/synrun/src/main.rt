@@ -4,6 +4,6 @@
 use piping::pipe_through;
 use transcript::View;
 
-fn main() {
-    pipe_through(View::Run, b"synrun");
+fn main(rt: HostRuntime) {
+    pipe_through(rt.stdin(), &rt.stdout(), &rt.stderr(), View::Run, b"synrun");
 }

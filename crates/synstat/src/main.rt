@@ -4,6 +4,12 @@
 use piping::pipe_through;
 use transcript::View;
 
-fn main() {
-    pipe_through(View::Status, b"synstat");
+fn main(rt: HostRuntime) {
+    pipe_through(
+        rt.stdin(),
+        &rt.stdout(),
+        &rt.stderr(),
+        View::Status,
+        b"synstat",
+    );
 }

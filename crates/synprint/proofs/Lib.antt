@@ -1,0 +1,2 @@
+-- Handed: the bytes that are handed to load.
+pub mod Handed
