@@ -3,6 +3,7 @@ use borrow.Author.Rules.{rules}
 use native.Mathlib.Omega.{arith}
 use mathlib.Core.Path.{◌≡◌, sym, ◌∙◌}
 use Prim.Native.Nat.{◌+◌}
+use Rattle.tokens.specs.Token.{max_lines}
 use Rattle.engine.specs.Set.{curve_place}
 use Rattle.print.specs.PrintOrderLaws.{slot-curve, slot-line}
 use Rattle.print.proofs.set_print.slot_at.Statement.{statement}
@@ -13,6 +14,6 @@ slot_at_spec =
     tie.close
     (tie.spec
     (λ c. search rules)
-    (λ c. let k = c.args.k in let e : 33 + k ≡ curve_place (k + 1) = omega arith in e ∙ sym (slot-curve k c.if-k-lt-CURVES.true))
+    (λ c. let k = c.args.k in let e : 1 + max_lines + k ≡ curve_place (k + 1) = omega arith in e ∙ sym (slot-curve k c.if-k-lt-CURVES.true))
     (λ c. search rules)
     (λ c. sym (slot-line c.args.k c.if-k-lt-CURVES.false)))
