@@ -5,16 +5,10 @@ use crate::tree::{Crate, Tree};
 use crate::Report;
 use std::collections::BTreeSet;
 
-/// The library that reads and writes: of the readers and writers that it is lent no contract says anything (docs/ASSUMPTIONS.md).
-const READS_AND_WRITES: &str = "piping";
-
 pub fn check(tree: &Tree, report: &mut Report) {
     for library in tree.crates.iter().filter(|one| one.is_library()) {
         report.test(unread(library));
-        for (module, mut function) in public_calls(library) {
-            if library.name == READS_AND_WRITES {
-                function.written.retain(|name| !function.streams.contains(name));
-            }
+        for (module, function) in public_calls(library) {
             let name = format!("{}::{module}{}", library.name, function.name);
             report.test(faults(&function).into_iter().map(|fault| format!("{name}: {fault}")).collect());
         }

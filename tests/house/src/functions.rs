@@ -4,9 +4,8 @@
 pub struct Function {
     pub name: String,
     pub public: bool,
-    /// Names of the parameters that are lent to be written, and those of them that are any reader or writer.
+    /// Names of the parameters that are lent to be written.
     pub written: Vec<String>,
-    pub streams: Vec<String>,
     pub answers: bool,
     pub requires: Vec<String>,
     pub ensures: Vec<String>,
@@ -65,14 +64,11 @@ fn function(public: bool, lines: &[&str]) -> Function {
         .split_once('(')
         .map_or("", |(_, rest)| rest.rsplit_once(')').map_or("", |(inside, _)| inside));
     let named = |part: &str| part.split(':').next().map(|name| name.trim().to_string());
-    let lent = || parameters.split(',').filter(|part| is_lent(part));
-    let written = lent().filter_map(named).collect();
-    let streams = lent().filter(|part| is_stream(part)).filter_map(named).collect();
+    let written = parameters.split(',').filter(|part| is_lent(part)).filter_map(named).collect();
     Function {
         name: name.split('<').next().unwrap_or_default().into(),
         public,
         written,
-        streams,
         answers,
         requires,
         ensures,
@@ -101,11 +97,6 @@ fn is_lent(parameter: &str) -> bool {
             .map(|rest| rest.trim_start_matches(|c: char| c.is_alphanumeric() || c == '_'));
         time.map_or(kind, str::trim_start).starts_with("mut ")
     })
-}
-
-/// Whether a parameter that is lent to be written is any reader or writer.
-fn is_stream(parameter: &str) -> bool {
-    parameter.ends_with(": &mut impl Read") || parameter.ends_with(": &mut impl Write")
 }
 
 /// What stands in a contract's braces, without the last of them.
