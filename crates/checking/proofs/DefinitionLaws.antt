@@ -11,10 +11,12 @@ use borrow.Author.Tests.{le-leb, lt-leb, eq-eqb, ne_eqb}
 use Rattle.values.specs.Codes.{too_deep, not_in_grammar}
 use Rattle.values.specs.Choice.{chosen, refused}
 use Rattle.values.specs.declared.curve.Curve.{Curve}
+use Rattle.std.specs.Prelude.{Result, Ok, Err}
+use Rattle.checking.specs.declared.definition.Definition.{Definition}
 use Rattle.checking.specs.declared.definition.Part.{Part}
-use Rattle.tokens.specs.Token.{END, MINUS, OPEN, CLOSE, COMMA, FCTDEF, NUMBER, is_whole, number_carried, thousandths, whole}
+use Rattle.tokens.specs.Token.{MINUS, OPEN, COMMA, FCTDEF, NUMBER, is_whole, number_carried, thousandths, whole}
 use Rattle.tokens.specs.SingleFault.{curve_fault, lower, number_fault, opens_too_many}
-use Rattle.checking.specs.CurveDefinition.{faulty_definition, no_part, limits_fault, judged_curve, number_place, parameter_at, part_at, part_behind, curve_from, ended_by, defined_by, is_defining, definition_at}
+use Rattle.checking.specs.CurveDefinition.{limits_fault, judged_curve, number_place, parameter_at, part_at, part_behind, defined_by, is_defining, definition_at}
 
 -- ---- a parameter
 
@@ -40,7 +42,7 @@ module _ (s : List ℕ) (p : ℕ) {t : ℕ} (e : t ≡ get_or s p 0) where
 
 -- the token n at p, and u behind it
 module _ (s : List ℕ) (f t p : ℕ) {n : ℕ} (e : n ≡ get_or s p 0) where
-  pub part_none : n < NUMBER → no_part ≡ part_at s f t p
+  pub part_none : n < NUMBER → Err not_in_grammar ≡ part_at s f t p
   unfolding part_at
   part_none h = let l : get_or s p 0 < NUMBER = omega arith in sym (simp (part_at, lt-leb NUMBER (get_or s p 0) l))
 
@@ -48,56 +50,31 @@ module _ (s : List ℕ) (f t p : ℕ) {n : ℕ} (e : n ≡ get_or s p 0) where
     number-there : NUMBER ≤ get_or s p 0
     number-there = omega arith
 
-    pub part-other : (u ≡ t → ⊥) → no_part ≡ part_at s f t p
+    pub part-other : (u ≡ t → ⊥) → Err not_in_grammar ≡ part_at s f t p
     unfolding part_at
     part-other o = sym (simp (part_at, le-leb NUMBER (get_or s p 0) number-there, ne_eqb (get_or s (p + 1) 0) t (λ z. o (g ∙ z))))
 
-    pub part-some : u ≡ t → {k x : ℕ} → k ≡ number_fault (n - NUMBER) → x ≡ lower f k → ◌≡◌ {A = Part} (record { fault = x; next = p + 2 }) (part_at s f t p)
+    pub part-some : u ≡ t → {k x : ℕ} → k ≡ number_fault (n - NUMBER) → x ≡ lower f k → ◌≡◌ {A = Result Part ℕ} (Ok (record { fault = x; next = p + 2 })) (part_at s f t p)
     unfolding part_at
     part-some o a b = rw (b, a, e) (sym (simp (part_at, le-leb NUMBER (get_or s p 0) number-there, eq-eqb (get_or s (p + 1) 0) t (sym g ∙ o))))
 
-module _ (s : List ℕ) (b : Part) (t : ℕ) where
-  pub behind-none : b.next ≡ 0 → no_part ≡ part_behind s b t
-  unfolding part_behind
-  behind-none e = sym (chosen _ _ _ (eq-eqb b.next 0 e))
+pub behind : (s : List ℕ) (b : Part) (t : ℕ) {i : ℕ} → i ≡ number_place s b.next → part_at s b.fault t i ≡ part_behind s b t
+unfolding part_behind
+behind s b t k = rw k
 
-  pub behind-some : (b.next ≡ 0 → ⊥) → {i : ℕ} → i ≡ number_place s b.next → part_at s b.fault t i ≡ part_behind s b t
-  unfolding part_behind
-  behind-some o k = rw k (sym (refused _ _ _ (ne_eqb b.next 0 o)))
-
--- ---- a curve, and the line's end
+-- ---- a curve
 
 module _ (n f : ℕ) (c : Curve) (q : ℕ) {k x : ℕ} (e : k ≡ limits_fault c) (g : x ≡ lower f k) where
   lowest : x ≡ lower f (limits_fault c)
   lowest = rw (← e) g
 
-  pub judged-faulty : (x ≡ 0 → ⊥) → faulty_definition x ≡ judged_curve n f c q
+  pub judged-faulty : (x ≡ 0 → ⊥) → Err x ≡ judged_curve n f c q
   unfolding judged_curve
   judged-faulty o = rw lowest (sym (refused _ _ _ (ne_eqb (lower f (limits_fault c)) 0 (λ z. o (lowest ∙ z)))))
 
-  pub judged-good : x ≡ 0 → record { fault = 0; number = n; curve = c; end = q } ≡ judged_curve n f c q
+  pub judged-good : x ≡ 0 → ◌≡◌ {A = Result Definition ℕ} (Ok (record { number = n; curve = c; end = q })) (judged_curve n f c q)
   unfolding judged_curve
   judged-good o = sym (chosen _ _ _ (eq-eqb (lower f (limits_fault c)) 0 (sym lowest ∙ o)))
-
-module _ (s : List ℕ) (n : ℕ) (c : Curve) (d : Part) where
-  pub ended-none : d.next ≡ 0 → faulty_definition not_in_grammar ≡ ended_by s n c d
-  unfolding ended_by
-  ended-none e = sym (chosen _ _ _ (eq-eqb d.next 0 e))
-
-  module _ (o : d.next ≡ 0 → ⊥) {t : ℕ} (e : t ≡ get_or s d.next 0) where
-    pub ended-not : (t ≡ END → ⊥) → faulty_definition not_in_grammar ≡ ended_by s n c d
-    unfolding ended_by
-    ended-not h = sym (refused _ _ _ (ne_eqb d.next 0 o) ∙ refused _ _ _ (ne_eqb (get_or s d.next 0) END (λ z. h (e ∙ z))))
-
-    pub ended_so : t ≡ END → judged_curve n d.fault c d.next ≡ ended_by s n c d
-    unfolding ended_by
-    ended_so h = sym (refused _ _ _ (ne_eqb d.next 0 o) ∙ chosen _ _ _ (eq-eqb (get_or s d.next 0) END (sym e ∙ h)))
-
--- six parameters, one behind the other
-pub six-parts : (s : List ℕ) (n : ℕ) (h : Part) {l u a b c d : Part} → l ≡ part_behind s h COMMA → u ≡ part_behind s l COMMA → a ≡ part_behind s u COMMA → b ≡ part_behind s a COMMA → c ≡ part_behind s b COMMA → d ≡ part_behind s c CLOSE →
-    ended_by s n (curve_from s h.next l.next u.next a.next b.next c.next) d ≡ defined_by s n h
-unfolding defined_by
-six-parts s n h l u a b c d = rw (d, c, b, a, u, l)
 
 -- ---- how the line begins
 
@@ -106,12 +83,12 @@ unfolding is_defining
 defining s p t w n c e f g h = rw (e, f, g, h)
 
 module _ (s : List ℕ) (p : ℕ) {o : Bool} (e : o ≡ opens_too_many (drop p s) 0) where
-  pub defined-deep : o ≡ true → faulty_definition too_deep ≡ definition_at s p
+  pub defined-deep : o ≡ true → Err too_deep ≡ definition_at s p
   unfolding definition_at
   defined-deep h = sym (chosen _ _ _ (sym e ∙ h))
 
   module _ (h : o ≡ false) where
-    pub defined-not : is_defining s p ≡ false → faulty_definition not_in_grammar ≡ definition_at s p
+    pub defined-not : is_defining s p ≡ false → Err not_in_grammar ≡ definition_at s p
     unfolding definition_at
     defined-not d = sym (refused _ _ _ (sym e ∙ h) ∙ refused _ _ _ d)
 

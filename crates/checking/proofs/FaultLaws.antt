@@ -8,10 +8,11 @@ use lib.Dec.{eqb}
 use lib.ListN.{get_or, drop}
 use borrow.Author.Tests.{not-true, not-false, eq-eqb, ne_eqb}
 use Rattle.values.specs.Codes.{too_deep, not_in_grammar}
+use Rattle.std.specs.Prelude.{Result, Ok, Err}
 use Rattle.checking.specs.declared.line.Line.{Line}
 use Rattle.tokens.specs.Token.{set_size, FIFO1, FIFO4, END, EQUALS, OPEN, CLOSE, COMMA, IDS, DO, M, SYNFCT, is_arithmetic, is_variable, is_fifo, is_call, is_naming, is_keyword, is_whole, whole}
 use Rattle.tokens.specs.Descent.{Read, read, ends, then, is_indexed, index_at, expression_at}
-use Rattle.checking.specs.Fault.{sight, fault_for, is_removal, assignment_at, command_at, is_given, is_synfct, synfct_fault, synfct_at, unindexed_at, action_at, count_fault, moves_fault, moves_at, actions_at, names_from, number_of, faulty_line, judged, line_parts, body_at, rest_at}
+use Rattle.checking.specs.Fault.{sight, fault_for, is_removal, assignment_at, command_at, is_given, is_synfct, synfct_fault, synfct_at, unindexed_at, action_at, count_fault, moves_fault, moves_at, actions_at, names_from, number_of, judged, line_parts, body_at, rest_at}
 use Rattle.tokens.specs.SingleFault.{lower, code_fault, call_fault, curve_fault, read_fault, write_fault, opens_too_many}
 use Rattle.values.specs.Choice.{both, chosen, refused}
 use Rattle.tokens.specs.BetweenLaws.{tested}
@@ -244,31 +245,31 @@ module _ {s : List ℕ} {kw k t n : ℕ} {m : List ℕ} {low a x p i : ℕ} {who
 -- ---- a line
 
 module _ (s : List ℕ) (p kw cp b : ℕ) where
-  faulty-parts : (f e : ℕ) → (f ≡ 0 → ⊥) → line_parts s p kw cp b (read f e) ≡ faulty_line f
+  faulty-parts : (f e : ℕ) → (f ≡ 0 → ⊥) → line_parts s p kw cp b (read f e) ≡ Err f
   unfolding line_parts
   faulty-parts f e ne = simp (line_parts, ne_eqb _ _ ne)
 
-  good-parts : (e : ℕ) → line_parts s p kw cp b (read 0 e) ≡ record { fault = 0; number = number_of (whole (get_or s (p + 2) 0)); ids = eqb (get_or s p 0) IDS; keyword = kw; condition = cp; actions = b; end = e; names = names_from s kw set_size set_size b }
+  good-parts : (e : ℕ) → line_parts s p kw cp b (read 0 e) ≡ Ok (record { number = number_of (whole (get_or s (p + 2) 0)); ids = eqb (get_or s p 0) IDS; keyword = kw; condition = cp; actions = b; end = e; names = names_from s kw set_size set_size b })
   unfolding line_parts
   good-parts e = refl
 
   -- a tells of all that was read
   module _ (a : ℕ) {q : ℕ} (h : q ≡ next_of a) where
-    pub parts-end : q ≡ 0 → line_parts s p kw cp b (faulted a) ≡ faulty_line not_in_grammar
+    pub parts-end : q ≡ 0 → line_parts s p kw cp b (faulted a) ≡ Err not_in_grammar
     unfolding line_parts
     parts-end g = ap (line_parts s p kw cp b) (faulted-stop a h g)
 
     module _ (g : q ≡ 0 → ⊥) {f : ℕ} (m : f ≡ fault_of a) where
-      pub parts-faulty : (f ≡ 0 → ⊥) → line_parts s p kw cp b (faulted a) ≡ faulty_line f
+      pub parts-faulty : (f ≡ 0 → ⊥) → line_parts s p kw cp b (faulted a) ≡ Err f
       parts-faulty ne = ap (line_parts s p kw cp b) (faulted-read a h g ∙ ap (λ (x : ℕ). read x q) (sym m)) ∙ faulty-parts _ _ ne
 
       pub parts-good : {n : ℕ} {i j : Bool} → f ≡ 0 → n ≡ number_of (whole (get_or s (p + 2) 0)) → i ≡ eqb (get_or s p 0) IDS → j ≡ truth_of a → Noted s kw b a →
-          ◌≡◌ {A = Line} (record { fault = 0; number = n; ids = i; keyword = kw; condition = cp; actions = b; end = q; names = j }) (line_parts s p kw cp b (faulted a))
+          ◌≡◌ {A = Result Line ℕ} (Ok (record { number = n; ids = i; keyword = kw; condition = cp; actions = b; end = q; names = j })) (line_parts s p kw cp b (faulted a))
       parts-good z e r t u = rw (e, r, t ∙ u (λ y. g (h ∙ y))) (sym (ap (line_parts s p kw cp b) (faulted-read a h g ∙ ap (λ (x : ℕ). read x q) (sym m ∙ z)) ∙ good-parts q))
 
 -- 4 comes first
-module _ (s : List ℕ) (p : ℕ) (l : Line) {o : Bool} (e : o ≡ opens_too_many (drop p s) 0) where
-  pub judged-deep : o ≡ true → faulty_line too_deep ≡ judged s p l
+module _ (s : List ℕ) (p : ℕ) (l : Result Line ℕ) {o : Bool} (e : o ≡ opens_too_many (drop p s) 0) where
+  pub judged-deep : o ≡ true → Err too_deep ≡ judged s p l
   judged-deep h = sym (chosen _ _ _ (sym e ∙ h))
 
   pub judged-not : o ≡ false → l ≡ judged s p l
@@ -276,7 +277,7 @@ module _ (s : List ℕ) (p : ℕ) (l : Line) {o : Bool} (e : o ≡ opens_too_man
 
 -- DO stands at q, or does not
 module _ (s : List ℕ) (p kw cp f q : ℕ) {t : ℕ} (e : t ≡ get_or s q 0) where
-  pub body-none : (t ≡ DO → ⊥) → faulty_line not_in_grammar ≡ body_at s p kw cp f q
+  pub body-none : (t ≡ DO → ⊥) → Err not_in_grammar ≡ body_at s p kw cp f q
   unfolding body_at
   body-none h = sym (simp (body_at, ne_eqb (get_or s q 0) DO (λ z. h (e ∙ z))))
 

@@ -1,5 +1,5 @@
 -- Faults 4 to 10 and 14 of a line, from its tokens, and where its parts lie (document 01, "Lines of text" and "Codes"; document 02, Req 03 and Req 08). Definitions only.
-use Rattle.std.specs.Prelude.{Bool, true, false, cond, not, ◌&&◌, ◌||◌, List, [], ◌∷◌, ◌++◌, ℕ, zero, suc, ◌+◌, eqb, leb, drop}
+use Rattle.std.specs.Prelude.{Bool, true, false, cond, not, ◌&&◌, ◌||◌, List, [], ◌∷◌, ◌++◌, ℕ, zero, suc, ◌+◌, eqb, leb, drop, Result, Ok, Err}
 use Rattle.values.specs.Codes.{too_deep, not_in_grammar, too_many_actions, two_moves}
 use Rattle.checking.specs.declared.line.Line.{Line}
 use Rattle.tokens.specs.Token.{set_size, END, EQUALS, OPEN, CLOSE, COMMA, IDS, DO, M, SYNFCT, is_variable, is_fifo, is_drive, is_move, is_call, is_naming, is_keyword, is_id, is_arithmetic, is_logic, is_whole, whole, max_actions}
@@ -43,7 +43,7 @@ abbrev pub fault_for : Bool → Read Sight → Read ℕ
 fault_for t (read a q) = read (signed t a).fault q
 fault_for t (ends k) = ends k
 
--- ---- 10, 14, a line's number, a line with a fault
+-- ---- 10, 14, a line's number, a line's fault
 
 -- 10: at most eight actions
 unfoldable pub count_fault : ℕ → ℕ
@@ -66,9 +66,10 @@ moves_fault xs = unless (are_apart xs) two_moves
 unfoldable pub number_of : ℕ → ℕ
 number_of n = cond (leb n 255) n 0
 
--- a line with a fault has no parts
-abbrev pub faulty_line : ℕ → Line
-faulty_line k = record { fault = k; number = 0; ids = false; keyword = 0; condition = 0; actions = 0; end = 0; names = false }
+-- what is told of a line is its parts, or its lowest fault: that fault as a number, 0 for none
+abbrev pub fault_of_line : Result Line ℕ → ℕ
+fault_of_line (Ok l) = 0
+fault_of_line (Err k) = k
 
 module _ (s : List ℕ) where
   -- ---- 5 to 9 in an action
@@ -163,11 +164,10 @@ module _ (s : List ℕ) where
   -- ---- a line
 
   -- the line at p, with the keyword kw over a condition at cp (0 and 0 if it has none) and actions from a on, which have the lowest fault f and end at e
-  unfoldable pub line_parts : ℕ → ℕ → ℕ → ℕ → Read ℕ → Line
+  unfoldable pub line_parts : ℕ → ℕ → ℕ → ℕ → Read ℕ → Result Line ℕ
   line_parts p kw cp a (read f e) =
       elim (eqb f 0) [
-        | true ↦ record {
-          fault = 0;
+        | true ↦ Ok (record {
           number = number_of (whole (token s (p + 2)));
           ids = eqb (token s p) IDS;
           keyword = kw;
@@ -175,39 +175,39 @@ module _ (s : List ℕ) where
           actions = a;
           end = e;
           names = names_from kw set_size set_size a;
-        }
-        | false ↦ faulty_line f
+        })
+        | false ↦ Err f
       ]
-  line_parts p kw cp a (ends k) = faulty_line k
+  line_parts p kw cp a (ends k) = Err k
 
   -- DO at q and the actions behind it, where f is the lowest fault before them
-  unfoldable pub body_at : ℕ → ℕ → ℕ → ℕ → ℕ → Line
+  unfoldable pub body_at : ℕ → ℕ → ℕ → ℕ → ℕ → Result Line ℕ
   body_at p kw cp f q =
       elim (eqb (token s q) DO) [
         | true ↦ line_parts p kw cp (q + 1) (actions_at kw set_size set_size 0 [] f (q + 1))
-        | false ↦ faulty_line not_in_grammar
+        | false ↦ Err not_in_grammar
       ]
 
   -- behind the head: DO, or a keyword, an expression that is a yes/no, and DO
-  unfoldable pub rest_at : ℕ → ℕ → Line
+  unfoldable pub rest_at : ℕ → ℕ → Result Line ℕ
   rest_at p f =
       elim (is_keyword (token s (p + 3))) [
         | true ↦
             elim (fault_for true (expression_at s sight set_size (p + 4))) [
               | read g q ↦ body_at p (token s (p + 3)) (p + 4) (lower f g) q
-              | ends k ↦ faulty_line k
+              | ends k ↦ Err k
             ]
         | false ↦ body_at p 0 0 f (p + 3)
       ]
 
   -- the line that begins at p, of which 5 to 10 and 14 tell l: 4 comes first
-  abbrev pub judged : ℕ → Line → Line
-  judged p l = elim (opens_too_many (drop p s) 0) [ true ↦ faulty_line too_deep | false ↦ l ]
+  abbrev pub judged : ℕ → Result Line ℕ → Result Line ℕ
+  judged p l = elim (opens_too_many (drop p s) 0) [ true ↦ Err too_deep | false ↦ l ]
 
   -- the line that begins at p: its lowest fault of 4 to 10, or 14, or its parts
-  unfoldable pub line_at : ℕ → Line
+  unfoldable pub line_at : ℕ → Result Line ℕ
   line_at p =
       judged p (elim (is_id (token s p) && (eqb (token s (p + 1)) EQUALS && is_whole (token s (p + 2)))) [
         | true ↦ rest_at p (id_fault (whole (token s (p + 2))))
-        | false ↦ faulty_line not_in_grammar
+        | false ↦ Err not_in_grammar
       ])

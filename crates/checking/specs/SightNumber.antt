@@ -1,11 +1,11 @@
 -- What the check sees, as one number of 64 bits: its remainder by `room` is the next place, 0 where it is not in the grammar; its quotient has one bit for a yes/no or, of actions, for a name, the lowest fault, and the greatest depth of brackets, counted to nine; and what its steps read. Definitions only.
-use Rattle.std.specs.Prelude.{◌≡◌, Bool, true, false, cond, List, ℕ, zero, suc, ◌+◌, ◌*◌, ◌/◌, ◌%◌, ◌^◌, max, eqb, get_or}
+use Rattle.std.specs.Prelude.{◌≡◌, Bool, true, false, cond, List, ℕ, zero, suc, ◌+◌, ◌*◌, ◌/◌, ◌%◌, ◌^◌, max, eqb, get_or, Result, Err}
 use Rattle.values.specs.Codes.{not_in_grammar, two_moves}
 use Rattle.tokens.specs.Token.{room, set_size, MINUS, is_move}
 use Rattle.tokens.specs.Descent.{Read, read, ends}
 use Rattle.checking.specs.declared.line.Line.{Line}
 use Rattle.tokens.specs.SingleFault.{lower, unless}
-use Rattle.checking.specs.Fault.{Sight, signed, count_fault, names_from, body_at, faulty_line}
+use Rattle.checking.specs.Fault.{Sight, signed, count_fault, names_from, body_at}
 
 abbrev pub number_seen : ℕ → ℕ → ℕ → ℕ
 number_seen f d p = (d * 256 + f) * 2 * room + p % room
@@ -73,6 +73,6 @@ signs_behind s zero p = 0
 signs_behind s (suc k) p = elim (eqb (get_or s (p + 1) 0) MINUS) [ true ↦ 1 + signs_behind s k (p + 1) | false ↦ 0 ]
 
 -- DO and the actions behind what was read, if that is in the grammar
-abbrev pub body_from : List ℕ → ℕ → ℕ → ℕ → Read ℕ → Line
+abbrev pub body_from : List ℕ → ℕ → ℕ → ℕ → Read ℕ → Result Line ℕ
 body_from s p kw cp (read f q) = body_at s p kw cp f q
-body_from s p kw cp (ends k) = faulty_line k
+body_from s p kw cp (ends k) = Err k

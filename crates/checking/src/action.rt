@@ -24,13 +24,7 @@ pub fn is_removal(set: &[u32; SIZE], at: usize) -> bool
     ensures { result ≡ is_removal set.now at }
 {
     let w = token_at(set, at);
-    if !is_fifo(w) {
-        return false;
-    }
-    if !is_indexed(set, w, at) {
-        return false;
-    }
-    if index_at(set, w, at) != 0 {
+    if !is_fifo(w) || !is_indexed(set, w, at) || index_at(set, w, at) != 0 {
         return false;
     }
     !is_arithmetic(token_at(set, at + 4))
@@ -78,13 +72,7 @@ fn command(set: &[u32; SIZE], keyword: u32, w: u32, at: usize) -> u64
         }
         return number_seen(code_fault(keyword, whole_of(n)), 0, at + 3);
     }
-    if !is_call(w) {
-        return NOTHING;
-    }
-    if sign != OPEN {
-        return NOTHING;
-    }
-    if token_at(set, at + 3) != CLOSE {
+    if !is_call(w) || sign != OPEN || token_at(set, at + 3) != CLOSE {
         return NOTHING;
     }
     number_seen(call_fault(w, whole_of(n)), 1, at + 4)
@@ -98,10 +86,7 @@ fn is_given(set: &[u32; SIZE], at: usize) -> bool
         return false;
     }
     let w = token_at(set, at + 1);
-    if !is_variable(w) {
-        return false;
-    }
-    is_indexed(set, w, at + 1)
+    is_variable(w) && is_indexed(set, w, at + 1)
 }
 
 // Whether the curve's number, the target and the variable of a SYNFCT stand in brackets behind the word at a place.
@@ -109,16 +94,10 @@ fn is_synfct(set: &[u32; SIZE], at: usize) -> bool
     requires { at < set_size }
     ensures { result ≡ is_synfct set.now at }
 {
-    if token_at(set, at + 1) != OPEN {
+    if token_at(set, at + 1) != OPEN || !is_whole(token_at(set, at + 2)) {
         return false;
     }
-    if !is_whole(token_at(set, at + 2)) {
-        return false;
-    }
-    if !is_given(set, at + 3) {
-        return false;
-    }
-    if !is_given(set, at + 8) {
+    if !is_given(set, at + 3) || !is_given(set, at + 8) {
         return false;
     }
     token_at(set, at + 13) == CLOSE
@@ -179,10 +158,7 @@ fn action(set: &[u32; SIZE], keyword: u32, at: usize) -> u64
 fn or_naming(names: bool, t: u32) -> bool
     ensures { result ≡ names || is_naming t }
 {
-    if names {
-        return true;
-    }
-    is_naming(t)
+    names || is_naming(t)
 }
 
 // What was seen of actions, and whether one of them names a line or a curve.
@@ -229,11 +205,9 @@ pub fn actions(set: &[u32; SIZE], keyword: u32, w: u64) -> u64
     ensures { (faulted result ≡ actions_at set.now keyword set_size set_size 0 [] (fault_of w) (next_of w)) × (Onward set.now w result × Noted set.now keyword (next_of w) result) }
 {
     let mut low = w;
-    let mut n: usize = 0;
     let mut names = false;
     let mut moved: u64 = 0;
-    let mut rounds: usize = SIZE;
-    while 0 < rounds {
+    for n in 0..SIZE {
         let at = next_of(low);
         let first = token_at(set, at);
         names = or_naming(names, first);
@@ -242,15 +216,13 @@ pub fn actions(set: &[u32; SIZE], keyword: u32, w: u64) -> u64
         if i == 0 {
             return NOTHING;
         }
-        n += 1;
         moved = with_move(set, moved, first, at);
         if token_at(set, i) == END {
             return noted(
                 names,
-                join_faults(low, number_seen(end_fault(n, moved), 0, i)),
+                join_faults(low, number_seen(end_fault(n + 1, moved), 0, i)),
             );
         }
-        rounds -= 1;
     }
     NOTHING
 }

@@ -22,14 +22,12 @@ fn signs_behind(set: &[u32; SIZE], at: usize, most: usize) -> usize
     requires { at < set_size }
     ensures { (result ≡ signs_behind set.now most at) × ((result ≤ most) × (at + result < set_size)) }
 {
-    let mut n: usize = 0;
-    while n < most {
+    for n in 0..most {
         if token_at(set, at + n + 1) != MINUS {
             return n;
         }
-        n += 1;
     }
-    n
+    most
 }
 
 // What was seen in brackets, if they are closed behind it: one deeper, but nine stays nine.

@@ -1,11 +1,11 @@
-// The check of a line: its lowest fault of 4 to 10, or 14, from its tokens, and where its parts lie. A fault is the documents' code, 0 for none.
-ghost use Rattle.std.specs.Prelude.{◌≡◌, ◌+◌, ◌<◌, drop};
+// The check of a line: its lowest fault of 4 to 10, or 14, from its tokens, or where its parts lie. A fault is the documents' code: a C call hands it out as a number, and theorems speak of it so.
+ghost use Rattle.std.specs.Prelude.{◌≡◌, ◌+◌, ◌<◌, drop, Err};
 ghost use Rattle.tokens.specs.Token.{set_size};
 ghost use Rattle.tokens.specs.SingleFault.{opens_too_many};
 ghost use Rattle.values.specs.Codes.{not_in_grammar};
 ghost use Rattle.checking.specs.SightNumber.{faulted, Noted, body_from};
 ghost use Rattle.checking.specs.Brackets.{CountsOn, Counted};
-ghost use Rattle.checking.specs.Fault.{number_of, faulty_line, judged, line_parts, rest_at, line_at};
+ghost use Rattle.checking.specs.Fault.{number_of, judged, line_parts, rest_at, line_at};
 
 use crate::action::actions;
 use crate::expression::expression;
@@ -15,11 +15,9 @@ use tokens::fault::{id_fault, opens_too_many};
 use tokens::token::{DO, EQUALS, IDS, SIZE, is_id, is_keyword, is_whole, token_at, whole_of};
 use values::codes::{NOT_IN_GRAMMAR, TOO_DEEP};
 
-// The parts of a line: its number, whether it is IDS, its keyword (0: none), where its condition and its actions begin, where it ends, and whether an action of it names a line or a curve. A
-// line with a fault has none.
+// The parts of a line: its number, whether it is IDS, its keyword (0: none), where its condition and its actions begin, where it ends, and whether an action of it names a line or a curve.
 #[derive(Clone, Copy)]
 pub struct Line {
-    pub fault: u8,
     pub number: u8,
     pub ids: bool,
     pub keyword: u32,
@@ -27,21 +25,6 @@ pub struct Line {
     pub actions: usize,
     pub end: usize,
     pub names: bool,
-}
-
-fn faulty(fault: u8) -> Line
-    ensures { result ≡ faulty_line fault }
-{
-    Line {
-        fault: fault,
-        number: 0,
-        ids: false,
-        keyword: 0,
-        condition: 0,
-        actions: 0,
-        end: 0,
-        names: false,
-    }
 }
 
 // A line's number as a byte; 0 for one above 255.
@@ -58,23 +41,20 @@ fn is_too_deep(set: &[u32; SIZE], at: usize, a: u64) -> bool
     ensures { result ≡ opens_too_many (drop at set.now) 0 }
 {
     let i = next_of(a);
-    if i == 0 {
-        return opens_too_many(set, at);
-    }
-    if DEEPEST < depth_of(a) {
+    if i == 0 || DEEPEST < depth_of(a) {
         return opens_too_many(set, at);
     }
     opens_too_many(set, i)
 }
 
 // A line that is not in the grammar.
-fn refused(set: &[u32; SIZE], at: usize) -> Line
-    ensures { result ≡ judged set.now at (faulty_line not_in_grammar) }
+fn refused(set: &[u32; SIZE], at: usize) -> Result<Line, u8>
+    ensures { result ≡ judged set.now at (Err not_in_grammar) }
 {
     if opens_too_many(set, at) {
-        return faulty(TOO_DEEP);
+        return Err(TOO_DEEP);
     }
-    faulty(NOT_IN_GRAMMAR)
+    Err(NOT_IN_GRAMMAR)
 }
 
 // The parts of the line at `at`, if nothing is wrong with it; `a` is all that was read of it.
@@ -85,23 +65,22 @@ fn parts(
     condition: usize,
     actions: usize,
     a: u64,
-) -> Line
+) -> Result<Line, u8>
     requires { (at < set_size) × (Counted set.now at a × Noted set.now keyword actions a) }
     ensures { result ≡ judged set.now at (line_parts set.now at keyword condition actions (faulted a)) }
 {
     if is_too_deep(set, at, a) {
-        return faulty(TOO_DEEP);
+        return Err(TOO_DEEP);
     }
     let end = next_of(a);
     if end == 0 {
-        return faulty(NOT_IN_GRAMMAR);
+        return Err(NOT_IN_GRAMMAR);
     }
     let fault = fault_of(a);
     if fault != 0 {
-        return faulty(fault);
+        return Err(fault);
     }
-    Line {
-        fault: 0,
+    Ok(Line {
         number: number_of(whole_of(token_at(set, at + 2))),
         ids: token_at(set, at) == IDS,
         keyword: keyword,
@@ -109,19 +88,16 @@ fn parts(
         actions: actions,
         end: end,
         names: truth_of(a),
-    }
+    })
 }
 
 // DO and the actions behind it; `a` is all that was read before them.
-fn body(set: &[u32; SIZE], at: usize, keyword: u32, condition: usize, a: u64) -> Line
+fn body(set: &[u32; SIZE], at: usize, keyword: u32, condition: usize, a: u64) -> Result<Line, u8>
     requires { (at < set_size) × Counted set.now at a }
     ensures { result ≡ judged set.now at (body_from set.now at keyword condition (faulted a)) }
 {
     let i = next_of(a);
-    if i == 0 {
-        return refused(set, at);
-    }
-    if token_at(set, i) != DO {
+    if i == 0 || token_at(set, i) != DO {
         return refused(set, at);
     }
     parts(
@@ -135,7 +111,7 @@ fn body(set: &[u32; SIZE], at: usize, keyword: u32, condition: usize, a: u64) ->
 }
 
 // What follows a line's head: DO, or a keyword, an expression and DO; `fault` is the fault of the head.
-fn rest(set: &[u32; SIZE], at: usize, fault: u8) -> Line
+fn rest(set: &[u32; SIZE], at: usize, fault: u8) -> Result<Line, u8>
     requires { (at < set_size) × CountsOn set.now at 0 (at + 3) }
     ensures { result ≡ judged set.now at (rest_at set.now at fault) }
 {
@@ -148,35 +124,16 @@ fn rest(set: &[u32; SIZE], at: usize, fault: u8) -> Line
     body(set, at, keyword, at + 4, join_faults(head, a))
 }
 
-// The same, field by field: to copy whole what was just written in parts makes the processor wait for all of them.
-fn again(l: Line) -> Line
-    ensures { result ≡ l }
-{
-    Line {
-        fault: l.fault,
-        number: l.number,
-        ids: l.ids,
-        keyword: l.keyword,
-        condition: l.condition,
-        actions: l.actions,
-        end: l.end,
-        names: l.names,
-    }
-}
-
 // The line that begins at place `at`: its lowest fault of 4 to 10, or 14, or its parts.
-pub fn line_at(set: &[u32; SIZE], at: usize) -> Line
+pub fn line_at(set: &[u32; SIZE], at: usize) -> Result<Line, u8>
     ensures { result ≡ line_at set.now at }
 {
-    if !is_id(token_at(set, at)) {
-        return refused(set, at);
-    }
-    if token_at(set, at + 1) != EQUALS {
+    if !is_id(token_at(set, at)) || token_at(set, at + 1) != EQUALS {
         return refused(set, at);
     }
     let n = token_at(set, at + 2);
     if !is_whole(n) {
         return refused(set, at);
     }
-    again(rest(set, at, id_fault(whole_of(n))))
+    rest(set, at, id_fault(whole_of(n)))
 }

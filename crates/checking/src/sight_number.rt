@@ -1,4 +1,4 @@
-// What the check sees, in one number of 64 bits: the walk hands it on in a register.
+// What the check sees, in one number of 64 bits: the walk hands it on in a register. So it is no struct: speed (docs/PERFORMANCE.md).
 //
 // Its remainder by ROOM is the place behind it, 0 where it is not in the grammar; its quotient has one bit for a yes/no or, of actions, for a name, the lowest fault, and the greatest depth of
 // brackets in it, counted to nine.

@@ -1,13 +1,10 @@
 -- A number of volts in thousandths (document 02, Req 05). Definitions only; ConversionLaws has what follows from them.
-use Rattle.std.specs.Prelude.{Bool, true, false, cond, ℕ, ◌+◌, ◌*◌, ◌/◌, ◌%◌, leb, ltb, ℤ, pos, Float}
+use Rattle.std.specs.Prelude.{Bool, cond, ℕ, ◌+◌, ◌*◌, ◌/◌, ◌%◌, leb, ltb, ℤ, pos, Float, Option, Some, None}
+use Rattle.std.specs.Option.{unwrap_or}
 use Rattle.std.specs.Float.{nan, inf, fin, binary32}
 use Rattle.std.specs.Float.Ieee.{up, down, nan_bits, of_bits}
 use Rattle.values.specs.Size.{signed_number}
 use Rattle.values.specs.Value.{top, unit}
-use Rattle.values.specs.declared.arithmetic.Worked.{Worked}
-use Rattle.values.specs.declared.arithmetic.Worked.TheVariants.{Value, Alarm}
-use Rattle.couplers.specs.declared.reading.Converted.{Converted}
-use Rattle.couplers.specs.declared.reading.Converted.TheVariants.{Thousandths, Fault}
 use Rattle.couplers.specs.declared.reading.Reading.{Reading}
 use Rattle.couplers.specs.declared.reading.Reading.TheVariants.{Volts, Break}
 
@@ -16,28 +13,18 @@ unfoldable pub nearest_even : ℕ → ℕ → ℕ
 nearest_even n d = cond (ltb (n % d * 2) d) (n / d) (cond (ltb d (n % d * 2)) (n / d + 1) (n / d + n / d % 2))
 
 -- so many thousandths with their sign, if they are a value
-unfoldable pub signed_thousandths : Bool → ℕ → Converted
-signed_thousandths negative size = cond (leb size top) (Thousandths (signed_number negative size)) Fault
+unfoldable pub signed_thousandths : Bool → ℕ → Option ℤ
+signed_thousandths negative size = cond (leb size top) (Some (signed_number negative size)) None
 
 -- a number of volts, m · 2^e with its sign, in thousandths: nearest, halves to even; NaN, the infinities and what is then out of range are a fault
-unfoldable pub thousandths_of : Float → Converted
-thousandths_of nan = Fault
-thousandths_of (inf negative) = Fault
+unfoldable pub thousandths_of : Float → Option ℤ
+thousandths_of nan = None
+thousandths_of (inf negative) = None
 thousandths_of (fin negative m e) = signed_thousandths negative (nearest_even (m * up e * unit) (down e))
 
--- what the arithmetic of values gives, as a conversion
-abbrev pub converted : Worked → Converted
-converted (Value v) = Thousandths v
-converted (Alarm k) = Fault
-
--- whether a number converts, and its value; 0 of a fault
-abbrev pub is_converted : Converted → Bool
-is_converted (Thousandths v) = true
-is_converted Fault = false
-
-abbrev pub value_of : Converted → ℤ
-value_of (Thousandths v) = v
-value_of Fault = pos 0
+-- the value of a number that converts; 0 of a fault
+abbrev pub value_of : Option ℤ → ℤ
+value_of x = unwrap_or x (pos 0)
 
 -- the reading that a pattern of 32 bits stands for; a NaN's counts as a break
 unfoldable pub reading_of : ℕ → Reading

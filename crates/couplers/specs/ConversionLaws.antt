@@ -1,5 +1,5 @@
 -- Laws of the conversion: a number of volts by the three fields of its bits; every multiple of one eighth is exact; the nearest, halves to even. Nothing is assumed.
-use Rattle.std.specs.Prelude.{◌≡◌, refl, Bool, true, false, cond, not, T, leb, ltb, eqb, ℤ, pos, nat_abs, Float}
+use Rattle.std.specs.Prelude.{◌≡◌, refl, Bool, true, false, cond, not, T, leb, ltb, eqb, ℤ, pos, nat_abs, Float, Some, None, Result, Ok, Err}
 use Rattle.std.proofs.Common.{sym, ap, subst, ◌∙◌, add-mul, add-zero, one-mul, mod-lt, div-add-mod', mul_assoc, mul_right_comm, mul-le-mul, mod-eq_of_lt, le-div_iff_mul-le, lt_of_lt_of_le, arith, leb→le, eqb→eq, pow-add, pow_pos, pow_mono, shl_lt, ltb-true, ltb-false, lt-ltb, le-ltb, le-leb, ne_eqb, eq-eqb}
 use Prim.Native.Nat.{ℕ, zero, suc, ◌+◌, ◌-◌, ◌*◌, ◌/◌, ◌%◌, ◌^◌, ◌≤◌, ◌<◌, compare, Ordering}
 use Rattle.std.proofs.Math.Nat.{div-eq_of_lt}
@@ -11,15 +11,14 @@ use Rattle.std.specs.Float.Ieee.Exact.{HasValue, odd_sign, round_exact}
 use Rattle.std.specs.Float.Ieee.Fits.{down_pos, round-fits}
 use Rattle.std.specs.Float.Ieee.Bits.{of_bits-to_bits}
 use Rattle.std.proofs.lemmas.Bool.{lt-leb}
-use Rattle.values.specs.Codes.{out_of_range}
 use Rattle.values.specs.Numbers.{clash}
 use Rattle.values.specs.Size.{signed_number}
 use Rattle.values.specs.SizeLaws.{signed-size}
 use Rattle.values.specs.Value.{top, unit, in_range, valued}
-use Rattle.values.specs.declared.arithmetic.Worked.{Worked}
-use Rattle.values.specs.declared.arithmetic.Worked.TheVariants.{Value, Alarm}
-use Rattle.couplers.specs.Conversion.{nearest_even, signed_thousandths, thousandths_of, converted, value_of}
-use Rattle.couplers.specs.declared.reading.Converted.TheVariants.{Thousandths, Fault}
+use Rattle.std.specs.Result.{result_ok}
+use Rattle.values.specs.declared.codes.Alarm.{Alarm}
+use Rattle.values.specs.declared.codes.Alarm.TheVariants.{OutOfRange}
+use Rattle.couplers.specs.Conversion.{nearest_even, signed_thousandths, thousandths_of, value_of}
 
 -- ---- nearest, halves to even
 
@@ -55,11 +54,11 @@ nearest-least a b = go (ltb (a % b * 2) b) (ltb b (a % b * 2))
     go false false = omega arith
 
 -- the code's way: the sign put back by the arithmetic of values
-pub signed-by-value : (negative : Bool) (size : ℕ) {w : Worked} → valued (signed_number negative size) ≡ w → signed_thousandths negative size ≡ converted w
+pub signed-by-value : (negative : Bool) (size : ℕ) {w : Result ℤ Alarm} → valued (signed_number negative size) ≡ w → signed_thousandths negative size ≡ result_ok w
 unfolding valued in_range signed_thousandths
 signed-by-value negative size e = rw (← e, signed-size negative size) (go (leb size top))
   where
-    go : (b : Bool) → cond b (Thousandths (signed_number negative size)) Fault ≡ converted (cond b (Value (signed_number negative size)) (Alarm out_of_range))
+    go : (b : Bool) → cond b (Some (signed_number negative size)) None ≡ result_ok (cond b (Ok (signed_number negative size)) (Err OutOfRange))
     go true = refl
     go false = refl
 
@@ -85,19 +84,19 @@ low_end p z h l = omega arith
 high_end : (p z : ℕ) → 8388608 * p ≤ z → 1048576000 * (8 * p) ≤ z * 1000
 high_end p z l = omega arith
 
-zero-signed : (s : Bool) → Thousandths (signed_number s 0) ≡ Thousandths (pos 0)
+zero-signed : (s : Bool) → Some (signed_number s 0) ≡ Some (pos 0)
 zero-signed true = refl
 zero-signed false = refl
 
 -- less than half a thousandth
-convert-none : (s : Bool) (q k : ℕ) → q ≤ 16777216 → k ≤ 113 → thousandths_of (odd 24 s q k 149) ≡ Thousandths (pos 0)
+convert-none : (s : Bool) (q k : ℕ) → q ≤ 16777216 → k ≤ 113 → thousandths_of (odd 24 s q k 149) ≡ Some (pos 0)
 unfolding signed_thousandths
 convert-none s q k h l =
     let g : q * 2 ^ k ≤ 16777216 * 2 ^ 113 = mul-le-mul h (pow_mono l) in
     convert-odd s q k ∙ rw (nearest-none (q * 2 ^ k * 1000) (2 ^ 149) (low_end (2 ^ 113) (q * 2 ^ k) (pow_pos 113) g)) (zero-signed s)
 
 -- 2^20 volts and more
-convert-far : (s : Bool) (q k : ℕ) → 8388608 ≤ q → 146 ≤ k → thousandths_of (odd 24 s q k 149) ≡ Fault
+convert-far : (s : Bool) (q k : ℕ) → 8388608 ≤ q → 146 ≤ k → thousandths_of (odd 24 s q k 149) ≡ None
 unfolding signed_thousandths
 convert-far s q k h l =
     let g : 8388608 * 2 ^ 146 ≤ q * 2 ^ k = mul-le-mul h (pow_mono l) in
@@ -109,18 +108,18 @@ convert-far s q k h l =
     more : (x y : ℕ) → 1048576000 ≤ x → x ≤ y → top < y
     more x y u v = omega arith
 
-pub too_small : (s : Bool) (x t : ℕ) → x < 115 → t < 8388608 → thousandths_of (of_fields binary32 s x t) ≡ Thousandths (pos 0)
+pub too_small : (s : Bool) (x t : ℕ) → x < 115 → t < 8388608 → thousandths_of (of_fields binary32 s x t) ≡ Some (pos 0)
 unfolding of_fields
 too_small s zero t h l = convert-none s t 0 (omega arith) (omega arith)
 too_small s (suc k) t h l = rw (ne_eqb (suc k) 255 (λ e. omega arith)) (convert-none s (8388608 + t) k (omega arith) (omega arith))
 
 -- the infinities and NaN too
-pub too-great : (s : Bool) (x t : ℕ) → 146 < x → thousandths_of (of_fields binary32 s x t) ≡ Fault
+pub too-great : (s : Bool) (x t : ℕ) → 146 < x → thousandths_of (of_fields binary32 s x t) ≡ None
 unfolding of_fields thousandths_of
 too-great s zero t h = absurd (omega arith)
 too-great s (suc k) t h = go (eqb (suc k) 255) (eqb t 0)
   where
-    go : (b c : Bool) → thousandths_of (cond b (cond c (inf s) nan) (odd 24 s (8388608 + t) k 149)) ≡ Fault
+    go : (b c : Bool) → thousandths_of (cond b (cond c (inf s) nan) (odd 24 s (8388608 + t) k 149)) ≡ None
     go true true = refl
     go true false = refl
     go false c = convert-far s (8388608 + t) k (omega arith) (omega arith)
@@ -151,7 +150,7 @@ eight k =
     let z : k * 1000 % 8 ≡ 0 = omega arith in
     rw z (omega arith)
 
-pub eighths-exact : (x : Float) (negative : Bool) (k : ℕ) → HasValue x negative k 8 → k * 125 ≤ top → thousandths_of x ≡ Thousandths (signed_number negative (k * 125))
+pub eighths-exact : (x : Float) (negative : Bool) (k : ℕ) → HasValue x negative k 8 → k * 125 ≤ top → thousandths_of x ≡ Some (signed_number negative (k * 125))
 unfolding signed_thousandths
 eighths-exact x negative k v h = convert-value x negative k 8 (omega arith) v ∙ rw (eight k, le-leb (k * 125) top h)
 
@@ -170,7 +169,7 @@ value-in-range nan = refl
 value-in-range (inf negative) = refl
 value-in-range (fin negative m e) = go (leb (nearest_even (m * up e * unit) (down e)) top) refl
   where
-    go : (b : Bool) → leb (nearest_even (m * up e * unit) (down e)) top ≡ b → in_range (value_of (cond b (Thousandths (signed_number negative (nearest_even (m * up e * unit) (down e)))) Fault)) ≡ true
+    go : (b : Bool) → leb (nearest_even (m * up e * unit) (down e)) top ≡ b → in_range (value_of (cond b (Some (signed_number negative (nearest_even (m * up e * unit) (down e)))) None)) ≡ true
     go true h = rw (signed-size negative (nearest_even (m * up e * unit) (down e)), h)
     go false h = refl
 
@@ -213,20 +212,20 @@ near_even n d p h i j = go (ltb (n % d * 2) d) (ltb d (n % d * 2)) refl refl
         let b : n % d * 2 ≤ d = ltb-false _ _ f in
         tie (n / d % 2) refl (omega arith)
 
-same-thousandths : {v w : ℤ} → Thousandths v ≡ Thousandths w → v ≡ w
+same-thousandths : {v w : ℤ} → Some v ≡ Some w → v ≡ w
 same-thousandths h = cc
 
 -- THE NEAREST, HALVES TO EVEN: of m · 2^e volts that convert the size is the nearest number of thousandths, and the sign is theirs
-pub nearest-even : (negative : Bool) (m : ℕ) (e v : ℤ) → thousandths_of (fin negative m e) ≡ Thousandths v → (v ≡ signed_number negative (nat_abs v)) × Nearest (m * up e * unit) (down e) (nat_abs v)
+pub nearest-even : (negative : Bool) (m : ℕ) (e v : ℤ) → thousandths_of (fin negative m e) ≡ Some v → (v ≡ signed_number negative (nat_abs v)) × Nearest (m * up e * unit) (down e) (nat_abs v)
 unfolding thousandths_of signed_thousandths
 nearest-even negative m e v = go (nearest_even (m * up e * unit) (down e)) (near_even (m * up e * unit) (down e) (m * up e * unit / down e * down e) (down_pos e) refl (div-add-mod' (m * up e * unit) (down e)))
   where
-    by-test : (q : ℕ) (b : Bool) → Nearest (m * up e * unit) (down e) q → cond b (Thousandths (signed_number negative q)) Fault ≡ Thousandths v → (v ≡ signed_number negative (nat_abs v)) × Nearest (m * up e * unit) (down e) (nat_abs v)
+    by-test : (q : ℕ) (b : Bool) → Nearest (m * up e * unit) (down e) q → cond b (Some (signed_number negative q)) None ≡ Some v → (v ≡ signed_number negative (nat_abs v)) × Nearest (m * up e * unit) (down e) (nat_abs v)
     by-test q true near h =
         let p : signed_number negative q ≡ v = same-thousandths h in
         let s : nat_abs v ≡ q = ap nat_abs (sym p) ∙ signed-size negative q in
         rw s (sym p, near)
     by-test q false near h = clash (cc)
 
-    go : (q : ℕ) → Nearest (m * up e * unit) (down e) q → signed_thousandths negative q ≡ Thousandths v → (v ≡ signed_number negative (nat_abs v)) × Nearest (m * up e * unit) (down e) (nat_abs v)
+    go : (q : ℕ) → Nearest (m * up e * unit) (down e) q → signed_thousandths negative q ≡ Some v → (v ≡ signed_number negative (nat_abs v)) × Nearest (m * up e * unit) (down e) (nat_abs v)
     go q near h = by-test q (leb q top) near h

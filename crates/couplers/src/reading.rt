@@ -2,7 +2,7 @@
 ghost use Rattle.std.specs.Prelude.{◌≡◌, ◌<◌};
 ghost use Rattle.couplers.specs.Conversion.{nearest_even, signed_thousandths, thousandths_of, reading_of};
 
-use values::arithmetic::{UNIT, Worked, signed};
+use values::arithmetic::{UNIT, signed};
 
 // What a channel sends: a number of volts, a wire break or a short circuit.
 #[derive(Clone, Copy)]
@@ -10,13 +10,6 @@ pub enum Reading {
     Volts(f32),
     Break,
     Short,
-}
-
-// What a number of volts converts to: thousandths, or a fault.
-#[derive(Clone, Copy)]
-pub enum Converted {
-    Thousandths(i32),
-    Fault,
 }
 
 // The fields of a number's bits: its sign above 2^31, its exponent above 2^23, its digits below.
@@ -47,31 +40,28 @@ fn nearest(n: u64, d: u64) -> u64
 }
 
 // So many thousandths with their sign put back; what is no value counts as a fault.
-fn signed_thousandths(negative: bool, size: u64) -> Converted
+fn signed_thousandths(negative: bool, size: u64) -> Option<i32>
     ensures { result ≡ signed_thousandths negative size }
 {
-    match signed(negative, size) {
-        Worked::Value(v) => Converted::Thousandths(v),
-        Worked::Alarm(_) => Converted::Fault,
-    }
+    signed(negative, size).ok()
 }
 
-// A number of volts in thousandths: nearest, halves to even.
-pub fn convert(x: f32) -> Converted
+// A number of volts in thousandths: nearest, halves to even; none of a fault.
+pub fn convert(x: f32) -> Option<i32>
     ensures { result ≡ thousandths_of x }
 {
     if x != x {
-        return Converted::Fault;
+        return None;
     }
     let bits = f32::to_bits(x);
     let field = bits % SIGN / DIGITS;
     let digits = bits % DIGITS;
     let negative = SIGN <= bits;
     if TOO_GREAT <= field {
-        return Converted::Fault;
+        return None;
     }
     if field < LEAST {
-        return Converted::Thousandths(0);
+        return Some(0);
     }
     let n = (DIGITS + digits) as u64 * UNIT as u64;
     let d = 1u64 << (150 - field);

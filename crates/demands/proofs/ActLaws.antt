@@ -16,7 +16,7 @@ use Rattle.checking.specs.declared.line.Line.{Line}
 use Rattle.engine.specs.declared.set.Lines.{Lines}
 use Rattle.engine.specs.declared.order.Order.{Order}
 use Rattle.engine.specs.Set.{no_line}
-use Rattle.engine.specs.Action.{World, Note, from_value_or_alarm}
+use Rattle.engine.specs.Action.{World, Note, from_reached}
 use Rattle.engine.specs.Actions.{actions_of}
 use Rattle.engine.specs.Turn.{Entry, worked, locks, lock_entry, Turned, counted, do_turn}
 use Rattle.demands.specs.History.{History, after, only, or_else, is_automatic, was_true, ever_true, takes_by_rule, tries_by_rule, acts_by_rule}
@@ -81,7 +81,7 @@ module _ (s : List ℕ) (ls : Lines) (l : Line) (k : ℕ) (r : History) (x : Wor
 
   try-after : Ok (After l.number k r x (acts_by_rule l.keyword k r (tries_by_rule l.keyword k r && condition_now s l x)) (tries_by_rule l.keyword k r) (condition_now s l x)) (try_by_rule s ls l k r x)
   unfolding try_by_rule
-  try-after = go (tries_by_rule l.keyword k r) (from_value_or_alarm (condition_value s x.vars.r x.vars.cells l.condition))
+  try-after = go (tries_by_rule l.keyword k r) (from_reached (condition_value s x.vars.r x.vars.cells l.condition))
     where
       acted : Bool → Bool
       acted v = acts_by_rule l.keyword k r v

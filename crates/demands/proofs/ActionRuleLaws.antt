@@ -9,8 +9,8 @@ use Rattle.tokens.specs.Descent.{token, Answer, good, stop, ◌>>=◌, index_at}
 use Rattle.tokens.specs.ChooseLaws.{through, choose}
 use Rattle.working.specs.Operators.{from_worked}
 use Rattle.working.specs.Working.{right_value, variable_at}
-use Rattle.engine.specs.Set.{rank_in, curve_line}
-use Rattle.engine.specs.Action.{World, Note, Did, from_value_or_alarm, taken_at, assignment_of, curve_assigned, synfct_of, lock_of, command_of, drive_of, action_of}
+use Rattle.engine.specs.Set.{rank_in, defined_curve}
+use Rattle.engine.specs.Action.{World, Note, Did, taken_at, assignment_of, curve_assigned, synfct_of, lock_of, command_of, drive_of, action_of, from_reached}
 use Rattle.engine.specs.Actions.{actions_of}
 use Rattle.engine.specs.Drive.{drive_order}
 use Rattle.engine.specs.Write.{write_to}
@@ -44,11 +44,11 @@ module _ (s numbers : List ℕ) (cancelled : List Bool) (number : ℕ) where
     synfct-dress p =
         let w = token s (p + 4) in
         through (dress_did l m) (from_worked (variable_at s x.vars.r x.vars.cells (p + 9))) _ _
-        (λ a. through (dress_did l m) (curve_assigned x.vars (curve_line s (whole (token s (p + 2)))).curve a w (index_at s w (p + 4))) _ _ (λ v. refl))
+        (λ a. through (dress_did l m) (curve_assigned x.vars (defined_curve s (whole (token s (p + 2)))) a w (index_at s w (p + 4))) _ _ (λ v. refl))
 
     drive-dress : (w p : ℕ) → drive_of s number (dress l m x) w p ≡ (drive_of s number x w p >>= dress_did l m)
     unfolding drive_of
-    drive-dress w p = choose (dress_did l m) (is_axis (get_or s (p + 2) 0)) _ _ _ _ (through (dress_did l m) (from_value_or_alarm (right_value s x.vars.r x.vars.cells (p + 5))) _ _ (λ a. through (dress_did l m) (drive_order number w (index_at s w p) a.0) _ _ (λ o. refl))) refl
+    drive-dress w p = choose (dress_did l m) (is_axis (get_or s (p + 2) 0)) _ _ _ _ (through (dress_did l m) (from_reached (right_value s x.vars.r x.vars.cells (p + 5))) _ _ (λ a. through (dress_did l m) (drive_order number w (index_at s w p) a.0) _ _ (λ o. refl))) refl
 
     lock-dress : (b : Bool) (k p : ℕ) → lock_of cancelled (dress l m x) b k p ≡ (lock_of cancelled x b k p >>= dress_did l m)
     unfolding lock_of

@@ -23,7 +23,7 @@ use Rattle.engine.specs.Cells.{input_cells, beat_cells}
 use Rattle.engine.specs.ActCount.{is_act_count, are_act_counts, one_more, counted_acts, reset_acts}
 use Rattle.engine.specs.Sound.{all_ranged, is_cell, are_cells, all_zero, is_fifo_sound, are_fifos, is_flag, are_flags, state_sound, is_sound}
 use Rattle.engine.specs.Write.{write_cell, write_inside, write_to}
-use Rattle.engine.specs.Action.{alarm_of, lock_of, taken_at, assignment_of, command_of, action_of}
+use Rattle.engine.specs.Action.{lock_of, taken_at, assignment_of, command_of, action_of}
 use Rattle.engine.specs.Actions.{actions_of}
 use Rattle.engine.specs.Keyword.{tries, acts, remembers}
 use Rattle.engine.specs.Turn.{takes_turn, do_turn, try_turn, turn_of, turns_from}
@@ -123,5 +123,5 @@ pub runs :
     × (fault_counts (reads volts ∷ reads_undone volts ∷ []) ≡ 1 ∷ 0 ∷ [])
     × (words (beat 1 ∷ do_lock 4 ∷ do_program_end ∷ beat 2 ∷ do_lock 1 ∷ do_program_end ∷ []) ≡ (0, 0) ∷ (unknown_line, 0) ∷ (0, 4) ∷ (0, 0) ∷ (0, 0) ∷ (0, 7) ∷ [])
     × (counts (beat 1 ∷ do_program_end ∷ beat 3 ∷ []) ≡ 1 ∷ 1 ∷ 2 ∷ 1 ∷ [])
-unfolding in_range valued quotient_of less_than equal_to whole_units output_of grown_timer is_index index_of is_indexed index_at joined more read_product read_sum read_rest read_expression read_variable operand_from read_operand sum_at expression_at is_inside cell_of variable_value lower opens_too_many wanting_fault number_fault read_fault join_sights sight is_writable write_fault code_fault id_fault call_fault count_fault number_of is_removal assigned_at assignment_at command_at unindexed_at action_at actions_at line_parts body_at rest_at line_at join_truths join_values value_over condition_value right_value lines_from lines_read rank_in names_known curves_sound all_known named_lines sound_lines power_on fresh_channels thousandths_of signed_thousandths nearest_even is_channel are_channels sampled_fault all_good values_sampled channels_sampled sampled_all grown_cells input_cells beat_cells all_ranged is_cell are_cells all_zero is_fifo_sound are_fifos is_flag are_flags is_act_count are_act_counts one_more counted_acts reset_acts state_sound is_sound write_cell write_inside write_to lock_of taken_at assignment_of command_of action_of actions_of tries acts remembers takes_turn do_turn try_turn turn_of turns_from are_inputs beat_begun beat_ended whole_beat beat_answer beat_buffer found_at found called locked_call lock_call unlock_call cancel_call ended_line program_ended program_end_call live_ids reset_cancelled zeroed control_reset_state control_reset_call step run_from run word_token written is_fit number_token word_first behind_point number_with number_first sign_first first_token tokens_from tokens_of split without_return without_comment bodies is_blank numbered token_lines numbers_of least_from least_above rising placed curve_slots set_of factors_guess product_guess terms_guess sum_guess sums_guess expression_guess operand_first operand_guess action_guess actions_guess condition_guess line_guess same_tokens if_written tree_of operand_tokens action_tokens actions_tokens condition_tokens line_tokens right_fault is_removal_tree assigned_fault action_fault actions_fault line_fault actions_names names_in each_known fault_of tokens_fault fault_below line_below kept_with rows_from first_not named outcome load_set empty_set without_mark with_line operand_meaning moves_at moves_of parts_fault is_among are_apart moves_fault alarm_of
+unfolding in_range valued quotient_of less_than equal_to whole_units output_of grown_timer is_index index_of is_indexed index_at joined more read_product read_sum read_rest read_expression read_variable operand_from read_operand sum_at expression_at is_inside cell_of variable_value lower opens_too_many wanting_fault number_fault read_fault join_sights sight is_writable write_fault code_fault id_fault call_fault count_fault number_of is_removal assigned_at assignment_at command_at unindexed_at action_at actions_at line_parts body_at rest_at line_at join_truths join_values value_over condition_value right_value lines_from lines_read rank_in names_known curves_sound all_known named_lines sound_lines power_on fresh_channels thousandths_of signed_thousandths nearest_even is_channel are_channels sampled_fault all_good values_sampled channels_sampled sampled_all grown_cells input_cells beat_cells all_ranged is_cell are_cells all_zero is_fifo_sound are_fifos is_flag are_flags is_act_count are_act_counts one_more counted_acts reset_acts state_sound is_sound write_cell write_inside write_to lock_of taken_at assignment_of command_of action_of actions_of tries acts remembers takes_turn do_turn try_turn turn_of turns_from are_inputs beat_begun beat_ended whole_beat beat_answer beat_buffer found_at found called locked_call lock_call unlock_call cancel_call ended_line program_ended program_end_call live_ids reset_cancelled zeroed control_reset_state control_reset_call step run_from run word_token written is_fit number_token word_first behind_point number_with number_first sign_first first_token tokens_from tokens_of split without_return without_comment bodies is_blank numbered token_lines numbers_of least_from least_above rising placed curve_slots set_of factors_guess product_guess terms_guess sum_guess sums_guess expression_guess operand_first operand_guess action_guess actions_guess condition_guess line_guess same_tokens if_written tree_of operand_tokens action_tokens actions_tokens condition_tokens line_tokens right_fault is_removal_tree assigned_fault action_fault actions_fault line_fault actions_names names_in each_known fault_of tokens_fault fault_below line_below kept_with rows_from first_not named outcome load_set empty_set without_mark with_line operand_meaning moves_at moves_of parts_fault is_among are_apart moves_fault
 runs = (refl, refl, refl, refl, refl, refl, refl, refl, refl, refl, refl, refl, refl, refl)

@@ -1,6 +1,6 @@
 -- What follows from demand 3, said of the engine's own run: in every beat it acts on just the lines that the rule gives; between two starts a WHEN line acts at most once;
 -- an EVERY line acts only where its condition is true and was not, or was never tried, at its turn before; locking and unlocking change no memory. Assumes nothing.
-use Rattle.std.specs.Prelude.{◌≡◌, Bool, not, ◌&&◌, ◌||◌, eqb, ltb, length}
+use Rattle.std.specs.Prelude.{◌≡◌, Bool, not, ◌&&◌, ◌||◌, eqb, ltb, length, Result, Ok as Found, Err, is_some}
 use Rattle.std.proofs.Math.Path.{refl, sym, ap}
 use Rattle.std.proofs.Common.{◌∙◌, arith}
 use Rattle.std.proofs.Math.Bool.{true, false, cond}
@@ -19,14 +19,12 @@ use Rattle.working.specs.Working.{condition_value}
 use Rattle.checking.specs.declared.line.Line.{Line}
 use Rattle.engine.specs.declared.set.Lines.{Lines}
 use Rattle.engine.specs.declared.state.State.{State}
-use Rattle.engine.specs.declared.named_line.Found.{Found}
-use Rattle.engine.specs.declared.calls.Called.{Called}
-use Rattle.engine.specs.Set.{no_line, sound_lines}
+use Rattle.engine.specs.Set.{no_line, lines_of}
 use Rattle.engine.specs.Sound.{is_sound}
-use Rattle.engine.specs.Action.{World, Note, Did, from_value_or_alarm}
+use Rattle.engine.specs.Action.{World, Note, Did, from_reached}
 use Rattle.engine.specs.Actions.{actions_of}
 use Rattle.engine.specs.Turn.{Entry, beat_in, worked, locks, cancels, resets, Turned, counted, takes_turn, do_turn, turn_of, turns_from}
-use Rattle.engine.specs.Beat.{buffer_size, are_inputs, Given, samples_in, beat_begun, whole_beat, turned_answer, beat_answer}
+use Rattle.engine.specs.Beat.{buffer_size, are_inputs, Given, beat_begun, whole_beat, turned_answer, beat_answer, kept_in}
 use Rattle.engine.specs.NamedLine.{found}
 use Rattle.engine.specs.Calls.{with_locked, called, locked_call, lock_call, unlock_call}
 use Rattle.engine.specs.SetCountLaws.{sound-count}
@@ -47,9 +45,9 @@ use Rattle.demands.proofs.Demand3.{beat-same, demand-3}
 module _ (s : List ℕ) (v : Rest) (r : History) (g : Given) where
   -- it is its mode and the turns of all the lines
   pub beat-turns : (t : Turned) → beat_by_rule s v r g ≡ good t →
-      (u : Turned) × (turns_by_rule s (sound_lines s) (sound_lines s).count 0 (beat_in g.automatic ∷ r) (begun_by v g) ≡ good u) × (t ≡ record { world = u.world; entries = beat_in g.automatic ∷ u.entries })
+      (u : Turned) × (turns_by_rule s (lines_of s) (lines_of s).count 0 (beat_in g.automatic ∷ r) (begun_by v g) ≡ good u) × (t ≡ record { world = u.world; entries = beat_in g.automatic ∷ u.entries })
   unfolding beat_by_rule
-  beat-turns t = go (is_sound s (state_by (sound_lines s) v r)) (ltb (length g.buffer) buffer_size) (are_inputs g.lent) (samples_by v g).good (turns_by_rule s (sound_lines s) (sound_lines s).count 0 (beat_in g.automatic ∷ r) (begun_by v g))
+  beat-turns t = go (is_sound s (state_by (lines_of s) v r)) (ltb (length g.buffer) buffer_size) (are_inputs g.lent) (is_some (samples_by v g)) (turns_by_rule s (lines_of s) (lines_of s).count 0 (beat_in g.automatic ∷ r) (begun_by v g))
     where
       go : (a b c h : Bool) (d : Answer Turned) →
           (let x : Answer Turned = elim a [
@@ -64,12 +62,12 @@ module _ (s : List ℕ) (v : Rest) (r : History) (g : Given) where
       go false b c h d e = clash (cc)
 
   -- what it did for the line of rank k
-  beat-done : (t : Turned) (k : ℕ) → k < (sound_lines s).count → beat_by_rule s v r g ≡ good t →
-      (u : Turned) × Done s (sound_lines s) k (beat_in g.automatic ∷ r) (begun_by v g) u × (t ≡ record { world = u.world; entries = beat_in g.automatic ∷ u.entries })
+  beat-done : (t : Turned) (k : ℕ) → k < (lines_of s).count → beat_by_rule s v r g ≡ good t →
+      (u : Turned) × Done s (lines_of s) k (beat_in g.automatic ∷ r) (begun_by v g) u × (t ≡ record { world = u.world; entries = beat_in g.automatic ∷ u.entries })
   unfolding begun_by beat_begun
   beat-done t k h e =
       let u = beat-turns t e in
-      (u.0, done s (sound_lines s) (sound_lines s).count k (beat_in g.automatic ∷ r) (begun_by v g) u.0 h refl u.1, u.2)
+      (u.0, done s (lines_of s) (lines_of s).count k (beat_in g.automatic ∷ r) (begun_by v g) u.0 h refl u.1, u.2)
 
 -- ---- the engine's beat
 
@@ -79,59 +77,59 @@ module _ (s : List ℕ) (v : Rest) (r : History) (g : Given) where
 -- this beat (`ever-before`, `was-before`); and after the beat the history says of it what it gave in that world, if it was worked, and else what it said before (`ever`, `was`)
 pub record Came (s : List ℕ) (st : State) (r : History) (g : Given) (k : ℕ) (t : Turned) : Type 0 where
   pub before : Turned
-  pub come : turns_from s (sound_lines s).numbers st.cancelled g.automatic (sound_lines s).items k 0 (beat_begun st g) ≡ good before
+  pub come : turns_from s (lines_of s).numbers st.cancelled g.automatic (lines_of s).items k 0 (beat_begun st g) ≡ good before
   pub own : Turned
-  pub taken : turn_of s (sound_lines s).numbers st.cancelled g.automatic (get_or (sound_lines s).items k no_line) k before.world ≡ good own
-  pub takes : takes_turn s (sound_lines s).numbers st.cancelled g.automatic (get_or (sound_lines s).items k no_line) k before.world
-      ≡ takes_by_rule (get_or (sound_lines s).items k no_line) k (after before.entries (beat_in g.automatic ∷ r))
-  pub acted : is_acted t.world.acted k ≡ acts_now s (get_or (sound_lines s).items k no_line) k (after before.entries (beat_in g.automatic ∷ r)) before.world
+  pub taken : turn_of s (lines_of s).numbers st.cancelled g.automatic (get_or (lines_of s).items k no_line) k before.world ≡ good own
+  pub takes : takes_turn s (lines_of s).numbers st.cancelled g.automatic (get_or (lines_of s).items k no_line) k before.world
+      ≡ takes_by_rule (get_or (lines_of s).items k no_line) k (after before.entries (beat_in g.automatic ∷ r))
+  pub acted : is_acted t.world.acted k ≡ acts_now s (get_or (lines_of s).items k no_line) k (after before.entries (beat_in g.automatic ∷ r)) before.world
   pub added : own.world.acted ≡ before.world.acted + cond (is_acted t.world.acted k) (2 ^ k) 0
   pub ever-before : ever_true k (after before.entries (beat_in g.automatic ∷ r)) ≡ ever_true k r
   pub was-before : was_true k (after before.entries (beat_in g.automatic ∷ r)) ≡ was_true k r
   pub ever : ever_true k (after t.entries r) ≡
-      tries_now (get_or (sound_lines s).items k no_line) k (after before.entries (beat_in g.automatic ∷ r)) && condition_now s (get_or (sound_lines s).items k no_line) before.world || ever_true k r
+      tries_now (get_or (lines_of s).items k no_line) k (after before.entries (beat_in g.automatic ∷ r)) && condition_now s (get_or (lines_of s).items k no_line) before.world || ever_true k r
   pub was : was_true k (after t.entries r) ≡
-      cond (tries_now (get_or (sound_lines s).items k no_line) k (after before.entries (beat_in g.automatic ∷ r))) (condition_now s (get_or (sound_lines s).items k no_line) before.world) (was_true k r)
+      cond (tries_now (get_or (lines_of s).items k no_line) k (after before.entries (beat_in g.automatic ∷ r))) (condition_now s (get_or (lines_of s).items k no_line) before.world) (was_true k r)
 
 -- a turn of the engine where the history gives the locks and the memory, and says these cancels and this mode
-module _ (s : List ℕ) (k : ℕ) (h : k < (sound_lines s).count) (r : History) (x : World) (cancelled : List Bool) (m : Bool) (p : by_rank (cancelled_by (sound_lines s) r) ≡ cancelled) (q : is_automatic r ≡ m) where
+module _ (s : List ℕ) (k : ℕ) (h : k < (lines_of s).count) (r : History) (x : World) (cancelled : List Bool) (m : Bool) (p : by_rank (cancelled_by (lines_of s) r) ≡ cancelled) (q : is_automatic r ≡ m) where
   abbrev line : Line
-  line = get_or (sound_lines s).items k no_line
+  line = get_or (lines_of s).items k no_line
 
-  takes-said : takes_turn s (sound_lines s).numbers cancelled m line k (flagged (sound_lines s) r x) ≡ takes_by_rule line k r
-  takes-said = rw (← p, ← q) (takes_same (sound_lines s) s k r x (omega (arith, sound-count s)) h)
+  takes-said : takes_turn s (lines_of s).numbers cancelled m line k (flagged (lines_of s) r x) ≡ takes_by_rule line k r
+  takes-said = rw (← p, ← q) (takes_same (lines_of s) s k r x (omega (arith, sound-count s)) h)
 
-  turn-said : (t : Turned) → turn_by_rule s (sound_lines s) line k r x ≡ good t →
-      turn_of s (sound_lines s).numbers cancelled m line k (flagged (sound_lines s) r x) ≡ good (record { world = flagged (sound_lines s) (after t.entries r) t.world; entries = t.entries })
-  turn-said t e = rw (← p, ← q) (turn-same (sound_lines s) s k r x (omega (arith, sound-count s)) h ∙ rw e)
+  turn-said : (t : Turned) → turn_by_rule s (lines_of s) line k r x ≡ good t →
+      turn_of s (lines_of s).numbers cancelled m line k (flagged (lines_of s) r x) ≡ good (record { world = flagged (lines_of s) (after t.entries r) t.world; entries = t.entries })
+  turn-said t e = rw (← p, ← q) (turn-same (lines_of s) s k r x (omega (arith, sound-count s)) h ∙ rw e)
 
 module _ (s : List ℕ) (v : Rest) (r : History) (g : Given) (t : Turned) where
   -- the beat of the engine is the beat by the rule, in flags
-  pub unflagged : whole_beat s (state_by (sound_lines s) v r) g ≡ good t →
+  pub unflagged : whole_beat s (state_by (lines_of s) v r) g ≡ good t →
       (u : Turned) × (beat_by_rule s v r g ≡ good u) × (t.world.acted ≡ u.world.acted) × (t.entries ≡ u.entries) × (t.world.orders ≡ u.world.orders)
   unflagged e = go (beat_by_rule s v r g) refl (sym (beat-same s v r g) ∙ e)
     where
-      go : (a : Answer Turned) → beat_by_rule s v r g ≡ a → (a >>= flagged_turn (sound_lines s) r) ≡ good t →
+      go : (a : Answer Turned) → beat_by_rule s v r g ≡ a → (a >>= flagged_turn (lines_of s) r) ≡ good t →
           (u : Turned) × (beat_by_rule s v r g ≡ good u) × (t.world.acted ≡ u.world.acted) × (t.entries ≡ u.entries) × (t.world.orders ≡ u.world.orders)
       go (good u) p q =
-          let h : t ≡ record { world = flagged (sound_lines s) (after u.entries r) u.world; entries = u.entries } = cc in
+          let h : t ≡ record { world = flagged (lines_of s) (after u.entries r) u.world; entries = u.entries } = cc in
           (u, p, ap (λ y. y.world.acted) h, ap (λ y. y.entries) h, ap (λ y. y.world.orders) h)
       go (stop c) p q = clash (cc)
 
-  came : (k : ℕ) → k < (sound_lines s).count → whole_beat s (state_by (sound_lines s) v r) g ≡ good t → Came s (state_by (sound_lines s) v r) r g k t
+  came : (k : ℕ) → k < (lines_of s).count → whole_beat s (state_by (lines_of s) v r) g ≡ good t → Came s (state_by (lines_of s) v r) r g k t
   unfolding state_by beat_begun begun_by
   came k h e = let w = unflagged e in let d = beat-done s v r g w.0 k h w.1 in go w.0 w.2 w.3 d.0 d.1 d.2
     where
-      go : (w : Turned) → t.world.acted ≡ w.world.acted → t.entries ≡ w.entries → (u : Turned) → Done s (sound_lines s) k (beat_in g.automatic ∷ r) (begun_by v g) u →
-          w ≡ record { world = u.world; entries = beat_in g.automatic ∷ u.entries } → Came s (state_by (sound_lines s) v r) r g k t
+      go : (w : Turned) → t.world.acted ≡ w.world.acted → t.entries ≡ w.entries → (u : Turned) → Done s (lines_of s) k (beat_in g.automatic ∷ r) (begun_by v g) u →
+          w ≡ record { world = u.world; entries = beat_in g.automatic ∷ u.entries } → Came s (state_by (lines_of s) v r) r g k t
       go w p a u d q =
           let r' : History = after d.before.entries (beat_in g.automatic ∷ r) in
-          let quiet = is_ok (Quiet (sound_lines s) (beat_in g.automatic ∷ r)) _ d.before d.come (turns-quiet (sound_lines s) s k 0 (beat_in g.automatic ∷ r) (begun_by v g)) in
+          let quiet = is_ok (Quiet (lines_of s) (beat_in g.automatic ∷ r)) _ d.before d.come (turns-quiet (lines_of s) s k 0 (beat_in g.automatic ∷ r) (begun_by v g)) in
           let bit = ap (λ n. is_acted n k) (p ∙ ap (λ y. y.world.acted) q) ∙ d.acted in
           record {
-            before = record { world = flagged (sound_lines s) r' d.before.world; entries = d.before.entries };
-            come = turns_same (sound_lines s) s k 0 (beat_in g.automatic ∷ r) (begun_by v g) (sound-count s) (omega arith) ∙ rw d.come;
-            own = record { world = flagged (sound_lines s) (after d.own.entries r') d.own.world; entries = d.own.entries };
+            before = record { world = flagged (lines_of s) r' d.before.world; entries = d.before.entries };
+            come = turns_same (lines_of s) s k 0 (beat_in g.automatic ∷ r) (begun_by v g) (sound-count s) (omega arith) ∙ rw d.come;
+            own = record { world = flagged (lines_of s) (after d.own.entries r') d.own.world; entries = d.own.entries };
             taken = turn-said s k h r' d.before.world _ g.automatic quiet.0 quiet.1 d.own d.taken;
             takes = takes-said s k h r' d.before.world _ g.automatic quiet.0 quiet.1;
             acted = bit;
@@ -175,7 +173,7 @@ or_right : (a b : Bool) → b ≡ true → a || b ≡ true
 or_right true b e = refl
 or_right false b e = e
 
-module _ (s : List ℕ) (k : ℕ) (h : k < (sound_lines s).count) (w : (get_or (sound_lines s).items k no_line).keyword ≡ WHEN) where
+module _ (s : List ℕ) (k : ℕ) (h : k < (lines_of s).count) (w : (get_or (lines_of s).items k no_line).keyword ≡ WHEN) where
   abbrev Once : Now Rest → Type 0
   Once n = acted_since k n.told ≡ true → ever_true k n.history ≡ true
 
@@ -187,13 +185,13 @@ module _ (s : List ℕ) (k : ℕ) (h : k < (sound_lines s).count) (w : (get_or (
       go false = refl
 
   -- a beat that ended well
-  once-good : (g : Given) (n : Now Rest) (t u : Turned) → Done s (sound_lines s) k (beat_in g.automatic ∷ n.history) (begun_by n.kept g) u →
+  once-good : (g : Given) (n : Now Rest) (t u : Turned) → Done s (lines_of s) k (beat_in g.automatic ∷ n.history) (begun_by n.kept g) u →
       t ≡ record { world = u.world; entries = beat_in g.automatic ∷ u.entries } → Once n → is_acted t.world.acted k || acted_since k n.told ≡ true → ever_true k (after t.entries n.history) ≡ true
   once-good g n t u d q f i =
       ap (λ y. ever_true k (after y.entries n.history)) q ∙ d.ever ∙ go (is_acted t.world.acted k) (ap (λ y. is_acted y.world.acted k) q ∙ d.acted) i
     where
       line : Line
-      line = get_or (sound_lines s).items k no_line
+      line = get_or (lines_of s).items k no_line
 
       r : History
       r = after d.before.entries (beat_in g.automatic ∷ n.history)
@@ -217,10 +215,10 @@ module _ (s : List ℕ) (k : ℕ) (h : k < (sound_lines s).count) (w : (get_or (
 
   once-reset : (n : Now Rest) → Once n → Once (control_reset_by_rule s n)
   unfolding control_reset_by_rule
-  once-reset n f = go (is_sound s (state_by (sound_lines s) n.kept n.history))
+  once-reset n f = go (is_sound s (state_by (lines_of s) n.kept n.history))
     where
       go : (a : Bool) → let x : Now Rest = elim a [
-        | true ↦ record { kept = cleared n.kept (sound_lines s) n.history; history = resets ∷ n.history; told = (do_control_reset, coded 0) ∷ n.told }
+        | true ↦ record { kept = cleared n.kept (lines_of s) n.history; history = resets ∷ n.history; told = (do_control_reset, coded 0) ∷ n.told }
         | false ↦ record { kept = n.kept; history = n.history; told = (do_control_reset, coded 22) ∷ n.told }
       ] in Once x
       go true g = g
@@ -232,7 +230,7 @@ module _ (s : List ℕ) (k : ℕ) (h : k < (sound_lines s).count) (w : (get_or (
   once-step (do_lock i) n f = λ g. noted-ever (code_by_rule s n.kept n.history i) (locks (rank_of s i) true ∷ []) n.history refl ∙ f g
   once-step (do_unlock i) n f = λ g. noted-ever (code_by_rule s n.kept n.history i) (locks (rank_of s i) false ∷ []) n.history refl ∙ f g
   once-step (do_cancel i) n f = λ g. noted-ever (code_by_rule s n.kept n.history i) (cancels (rank_of s i) ∷ []) n.history refl ∙ f g
-  once-step do_program_end n f = λ g. noted-ever (end_code_by_rule s n.kept n.history) (end_entries (sound_lines s) (by_rank (cancelled_by (sound_lines s) n.history))) n.history (end-ever (sound_lines s) (by_rank (cancelled_by (sound_lines s) n.history)) k n.history) ∙ f g
+  once-step do_program_end n f = λ g. noted-ever (end_code_by_rule s n.kept n.history) (end_entries (lines_of s) (by_rank (cancelled_by (lines_of s) n.history))) n.history (end-ever (lines_of s) (by_rank (cancelled_by (lines_of s) n.history)) k n.history) ∙ f g
   once-step do_control_reset n f = once-reset n f
 
   once-run : (cs : List Call) (n : Now Rest) → Once n → Once (run_by_rule_from s cs n)
@@ -270,52 +268,49 @@ module _ (s : List ℕ) (k : ℕ) (l : Line) (r : History) (x : World) where
 
 module _ (s : List ℕ) (cs : List Call) (g : Given) (k : ℕ) where
   -- in every beat the control acts on just the lines that the rule gives: of a line of the set, of rank k
-  pub acts-just : (t : Turned) → k < (sound_lines s).count → whole_beat s (engine_run s cs).kept g ≡ good t → Came s (engine_run s cs).kept (engine_run s cs).history g k t
+  pub acts-just : (t : Turned) → k < (lines_of s).count → whole_beat s (engine_run s cs).kept g ≡ good t → Came s (engine_run s cs).kept (engine_run s cs).history g k t
   acts-just t h = rw (demand-3 s cs) (λ e. came s (run_by_rule s cs).kept (run_by_rule s cs).history g t k h e)
 
   -- and on no other rank
-  pub acts-no-other : (t : Turned) → (sound_lines s).count ≤ k → whole_beat s (engine_run s cs).kept g ≡ good t → is_acted t.world.acted k ≡ false
+  pub acts-no-other : (t : Turned) → (lines_of s).count ≤ k → whole_beat s (engine_run s cs).kept g ≡ good t → is_acted t.world.acted k ≡ false
   acts-no-other t h = rw (demand-3 s cs) go
     where
-      go : whole_beat s (state_by (sound_lines s) (run_by_rule s cs).kept (run_by_rule s cs).history) g ≡ good t → is_acted t.world.acted k ≡ false
+      go : whole_beat s (state_by (lines_of s) (run_by_rule s cs).kept (run_by_rule s cs).history) g ≡ good t → is_acted t.world.acted k ≡ false
       go e =
           let u = unflagged s (run_by_rule s cs).kept (run_by_rule s cs).history g t e in
           let b = beat-turns s (run_by_rule s cs).kept (run_by_rule s cs).history g u.0 u.1 in
           ap (λ n. is_acted n k) (u.2 ∙ ap (λ y. y.world.acted) b.2)
-          ∙ no_other s (sound_lines s) (sound_lines s).count k (beat_in g.automatic ∷ (run_by_rule s cs).history) (begun_by (run_by_rule s cs).kept g) b.0 h (begun-none (run_by_rule s cs).kept g) b.1
+          ∙ no_other s (lines_of s) (lines_of s).count k (beat_in g.automatic ∷ (run_by_rule s cs).history) (begun_by (run_by_rule s cs).kept g) b.0 h (begun-none (run_by_rule s cs).kept g) b.1
 
   -- between two starts a WHEN line acts at most once: where it acts in a beat, it has not acted since the last start
-  pub once : k < (sound_lines s).count → (get_or (sound_lines s).items k no_line).keyword ≡ WHEN →
+  pub once : k < (lines_of s).count → (get_or (lines_of s).items k no_line).keyword ≡ WHEN →
       is_acted (beat_answer s (engine_run s cs).kept g).acted k ≡ true → acted_since k (engine_run s cs).told ≡ false
   unfolding beat_answer
   once h w e =
-      let a = acted-good (engine_run s cs).kept (samples_in (engine_run s cs).kept g).channels k (whole_beat s (engine_run s cs).kept g) e in
+      let a = acted-good (engine_run s cs).kept (kept_in (engine_run s cs).kept g) k (whole_beat s (engine_run s cs).kept g) e in
       let d = acts-just a.0 h a.1 in
-      let line : Line = get_or (sound_lines s).items k no_line in
+      let line : Line = get_or (lines_of s).items k no_line in
       not_yet (acted_since k (engine_run s cs).told) (ever_true k (engine_run s cs).history) (once-so-far s k h w cs)
       (sym d.ever-before ∙ when-fresh s k line (after d.before.entries (beat_in g.automatic ∷ (engine_run s cs).history)) d.before.world w (sym d.acted ∙ a.2))
 
   -- an EVERY line acts only where its condition is true, in the world in which its turn comes, and at its turn before, since the last start, it was false or there was none
-  pub edge : k < (sound_lines s).count → (get_or (sound_lines s).items k no_line).keyword ≡ EVERY →
+  pub edge : k < (lines_of s).count → (get_or (lines_of s).items k no_line).keyword ≡ EVERY →
       is_acted (beat_answer s (engine_run s cs).kept g).acted k ≡ true →
-      (before : Turned) × (turns_from s (sound_lines s).numbers (engine_run s cs).kept.cancelled g.automatic (sound_lines s).items k 0 (beat_begun (engine_run s cs).kept g) ≡ good before)
-      × (condition_now s (get_or (sound_lines s).items k no_line) before.world ≡ true) × (was_true k (engine_run s cs).history ≡ false)
+      (before : Turned) × (turns_from s (lines_of s).numbers (engine_run s cs).kept.cancelled g.automatic (lines_of s).items k 0 (beat_begun (engine_run s cs).kept g) ≡ good before)
+      × (condition_now s (get_or (lines_of s).items k no_line) before.world ≡ true) × (was_true k (engine_run s cs).history ≡ false)
   unfolding beat_answer
   edge h w e =
-      let a = acted-good (engine_run s cs).kept (samples_in (engine_run s cs).kept g).channels k (whole_beat s (engine_run s cs).kept g) e in
+      let a = acted-good (engine_run s cs).kept (kept_in (engine_run s cs).kept g) k (whole_beat s (engine_run s cs).kept g) e in
       let d = acts-just a.0 h a.1 in
-      let f = every-edge s k (get_or (sound_lines s).items k no_line) (after d.before.entries (beat_in g.automatic ∷ (engine_run s cs).history)) d.before.world w (sym d.acted ∙ a.2) in
+      let f = every-edge s k (get_or (lines_of s).items k no_line) (after d.before.entries (beat_in g.automatic ∷ (engine_run s cs).history)) d.before.world w (sym d.acted ∙ a.2) in
       (d.before, d.come, f.0, sym d.was-before ∙ f.1)
 
 -- ---- locking and unlocking change no memory
 
-called-memory : (st : State) (f : Found) (b : Bool) → (called st f (λ k. with_locked st k b)).state.memory ≡ st.memory
+called-memory : (st : State) (f : Result ℕ ℕ) (b : Bool) → (called st f (λ k. with_locked st k b)).state.memory ≡ st.memory
 unfolding called
-called-memory st f b = go (eqb f.code 0)
-  where
-    go : (a : Bool) → let c : Called = elim a [ true ↦ record { code = 0; state = with_locked st f.rank b } | false ↦ record { code = f.code; state = st } ] in c.state.memory ≡ st.memory
-    go true = refl
-    go false = refl
+called-memory st (Found k) b = refl
+called-memory st (Err c) b = refl
 
 -- by the host
 pub lock-memory : (s : List ℕ) (st : State) (n : ℕ) → (lock_call s st n).state.memory ≡ st.memory
@@ -355,7 +350,7 @@ module _ (s : List ℕ) (ls : Lines) where
         let P : Turned → Type 0 = λ t. Flagless t.world in
         either (Ok P) (takes_by_rule l k r)
         (λ e. either (Ok P) (tries_by_rule l.keyword k r)
-        (λ e. bind_ok P (from_value_or_alarm (condition_value s x.vars.r x.vars.cells l.condition)) _
+        (λ e. bind_ok P (from_reached (condition_value s x.vars.r x.vars.cells l.condition)) _
         (λ a q. do-flagless (worked k (is_yes a.0) ∷ []) (acts_by_rule l.keyword k r (is_yes a.0))))
         (λ e. do-flagless [] (acts_by_rule l.keyword k r false)))
         (λ e. f)

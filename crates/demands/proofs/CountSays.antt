@@ -1,6 +1,6 @@
 -- The count that the engine keeps of a line is, up to the top, how often the line acted by the rule since its last start; and what each call does to the counts. Theorems;
 -- assumes nothing.
-use Rattle.std.specs.Prelude.{◌≡◌, refl, ◌≢◌, Bool, true, false, not, ◌&&◌, ℕ, ◌+◌, min, ◌<◌, eqb, length}
+use Rattle.std.specs.Prelude.{◌≡◌, refl, ◌≢◌, Bool, true, false, not, ◌&&◌, ℕ, ◌+◌, min, ◌<◌, length, Result, Ok, Err}
 use Rattle.std.proofs.Common.{sym, ◌∙◌, arith}
 use Rattle.std.proofs.Math.Path.{ap}
 use Rattle.std.proofs.Math.Bool.{cond}
@@ -13,9 +13,8 @@ use Rattle.tokens.specs.Token.{max_lines}
 use Rattle.tokens.specs.Descent.{Answer, good, stop}
 use Rattle.engine.specs.declared.set.Lines.{Lines}
 use Rattle.engine.specs.declared.state.State.{State}
-use Rattle.engine.specs.declared.named_line.Found.{Found}
 use Rattle.engine.specs.declared.calls.Called.{Called}
-use Rattle.engine.specs.Set.{no_line, sound_lines}
+use Rattle.engine.specs.Set.{no_line, lines_of}
 use Rattle.engine.specs.State.{power_on}
 use Rattle.engine.specs.Sound.{is_sound}
 use Rattle.engine.specs.ActCount.{acts_top, is_acted, one_more}
@@ -45,7 +44,7 @@ module _ (s : List ℕ) (k : ℕ) (h : k < max_lines) where
   Says n a = (length n.kept.acts ≡ max_lines) × (get_or n.kept.acts k 0 ≡ min acts_top a)
 
   abbrev After : Call → Now Rest → ℕ → Type 0
-  After c m a = Says m (acts_then (sound_lines s) k c (newest m.told) m.history a)
+  After c m a = Says m (acts_then (lines_of s) k c (newest m.told) m.history a)
 
   beat-says : (g : Given) (n : Now Rest) (a : ℕ) → Says n a → After (do_beat g) (step_by_rule s (do_beat g) n) a
   unfolding step_by_rule ended_by beat_ended
@@ -60,10 +59,10 @@ module _ (s : List ℕ) (k : ℕ) (h : k < max_lines) where
 
   reset-says : (n : Now Rest) (a : ℕ) → Says n a → After do_control_reset (control_reset_by_rule s n) a
   unfolding control_reset_by_rule control_reset_state state_by
-  reset-says n a (l, e) = go (is_sound s (state_by (sound_lines s) n.kept n.history))
+  reset-says n a (l, e) = go (is_sound s (state_by (lines_of s) n.kept n.history))
     where
       ls : Lines
-      ls = sound_lines s
+      ls = lines_of s
 
       gone : List Bool
       gone = reset_cancelled ls.items (by_rank (cancelled_by ls n.history)) ls.count
@@ -105,7 +104,7 @@ module _ (s : List ℕ) (cs : List Call) where
   run-counts k h = run-says s k h cs _ 0 (begun-says s k h)
 
   -- THE COUNT OF A LINE IS, UP TO THE TOP, HOW OFTEN IT ACTED BY THE RULE since the load or the last control reset that left it live: for every set, after any calls
-  pub count-says-the-record : (k : ℕ) → k < (sound_lines s).count → get_or (engine_run s cs).kept.acts k 0 ≡ min acts_top (acts_since_start s cs k)
+  pub count-says-the-record : (k : ℕ) → k < (lines_of s).count → get_or (engine_run s cs).kept.acts k 0 ≡ min acts_top (acts_since_start s cs k)
   count-says-the-record k h = ap (λ (v : Rest). get_or v.acts k 0) (same-variables s cs) ∙ (run-counts k (omega (arith, sound-count s))).1
 
   -- the engine keeps 32 of them
@@ -116,7 +115,7 @@ module _ (s : List ℕ) (cs : List Call) where
 
 -- the last of the calls
 acts-append : (s : List ℕ) (k : ℕ) (cs : List Call) (c : Call) (n : Now Rest) (a : ℕ) →
-    let m = step_by_rule s c (run_by_rule_from s cs n) in acts_from s k (cs ++ (c ∷ [])) n a ≡ acts_then (sound_lines s) k c (newest m.told) m.history (acts_from s k cs n a)
+    let m = step_by_rule s c (run_by_rule_from s cs n) in acts_from s k (cs ++ (c ∷ [])) n a ≡ acts_then (lines_of s) k c (newest m.told) m.history (acts_from s k cs n a)
 unfolding run_by_rule_from acts_from
 acts-append s k [] c n a = refl
 acts-append s k (d ∷ cs) c n a = acts-append s k cs c (step_by_rule s d n) _
@@ -131,9 +130,9 @@ module _ (s : List ℕ) (cs : List Call) (g : Given) (k : ℕ) where
       (sym (ap (λ (n : Now State). (newest n.told).acted) (step_same s (run_by_rule s cs) (do_beat g))) ∙ ap (λ (n : Now State). (beat_answer s n.kept g).acted) (sym (demand-3 s cs)))
 
   -- A GOOD BEAT ADDS ONE JUST WHERE THE RULE, over the history so far and in the world in which the line's turn comes, LETS IT ACT
-  pub good-beat-adds : k < (sound_lines s).count → (beat_answer s (engine_run s cs).kept g).code ≡ 0 →
+  pub good-beat-adds : k < (lines_of s).count → (beat_answer s (engine_run s cs).kept g).code ≡ 0 →
       (t : AtItsTurn s (engine_run s cs).kept (engine_run s cs).history g k (beat_answer s (engine_run s cs).kept g).acted)
-      × (acts_since_start s (cs ++ (do_beat g ∷ [])) k ≡ acts_since_start s cs k + cond (acts_now s (get_or (sound_lines s).items k no_line) k (after t.before.entries (beat_in g.automatic ∷ (engine_run s cs).history)) t.before.world) 1 0)
+      × (acts_since_start s (cs ++ (do_beat g ∷ [])) k ≡ acts_since_start s cs k + cond (acts_now s (get_or (lines_of s).items k no_line) k (after t.before.entries (beat_in g.automatic ∷ (engine_run s cs).history)) t.before.world) 1 0)
   good-beat-adds h z = let t = at-its-turn s cs g k h z in (t, beat-adds ∙ ap (λ b. acts_since_start s cs k + cond b 1 0) t.acts)
 
   -- ONE THAT IS REFUSED OR UNDONE ADDS NOTHING
@@ -142,9 +141,10 @@ module _ (s : List ℕ) (cs : List Call) (g : Given) (k : ℕ) where
 
 -- ---- what each call does to the counts
 
-called-acts : (st : State) (f : Found) (change : ℕ → State) → ((k : ℕ) → (change k).acts ≡ st.acts) → (called st f change).state.acts ≡ st.acts
+called-acts : (st : State) (f : Result ℕ ℕ) (change : ℕ → State) → ((k : ℕ) → (change k).acts ≡ st.acts) → (called st f change).state.acts ≡ st.acts
 unfolding called
-called-acts st f change same = either (λ (c : Called). c.state.acts ≡ st.acts) (eqb f.code 0) (λ e. same f.rank) (λ e. refl)
+called-acts st (Ok k) change same = same k
+called-acts st (Err c) change same = refl
 
 module _ (s : List ℕ) (st : State) where
   -- LOCK, UNLOCK AND CANCEL OF THE HOST LEAVE THEM

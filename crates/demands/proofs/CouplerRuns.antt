@@ -1,5 +1,5 @@
 -- THE 25 BEATS OF A FAULTY CHANNEL, from a load on, whatever the host asks: beats that are refused or undone and the host's calls count nothing. Theorems; assumes nothing.
-use Rattle.std.specs.Prelude.{◌≡◌, Bool, false, eqb, ltb, ℤ, pos, Float, length, get_or, set}
+use Rattle.std.specs.Prelude.{◌≡◌, Bool, false, eqb, ltb, ℤ, pos, Float, length, get_or, set, Ok, Some, Result, Err, is_some, Option}
 use Rattle.std.proofs.Math.Path.{refl, sym, ap}
 use Rattle.std.proofs.Common.{◌∙◌, arith, get_or-set_same, get_or-set_other, get_or-append-add, eqb-true, le-leb}
 use Rattle.std.proofs.Math.Bool.{true, cond}
@@ -8,23 +8,19 @@ use Prim.Native.Nat.{ℕ, zero, suc, ◌+◌, ◌<◌, ◌≤◌}
 use Rattle.std.proofs.lemmas.List.{length-replicate}
 use Rattle.std.proofs.Math.ListN.{get_or-replicate, get_or-append}
 use Rattle.std.proofs.lemmas.Bool.{eqb-false}
-use Rattle.values.specs.Choice.{decide, either, chosen, and-true}
+use Rattle.values.specs.Choice.{decide, chosen, and-true}
 use Rattle.values.specs.Codes.{faulty_channel}
-use Rattle.values.specs.declared.arithmetic.Worked.TheVariants.{Value}
-use Rattle.couplers.specs.declared.reading.Converted.TheVariants.{Thousandths}
 use Rattle.couplers.specs.declared.reading.Reading.{Reading}
 use Rattle.couplers.specs.declared.reading.Reading.TheVariants.{Volts}
 use Rattle.couplers.specs.declared.channel.Channel.{Channel}
 use Rattle.couplers.specs.declared.channel.Sampled.{Sampled}
 use Rattle.couplers.specs.Conversion.{thousandths_of}
-use Rattle.couplers.specs.Channel.{channel_count, max_faults, sampled, fresh_channel, fresh_channels, no_channel, sampled_at, all_good, values_sampled, channels_sampled, sampled_all}
+use Rattle.couplers.specs.Channel.{channel_count, max_faults, sampled, fresh_channel, fresh_channels, no_channel, sampled_at, all_good, values_sampled, channels_sampled, sampled_all, values_given, channels_kept, given_at, kept_at, channel_sampled, value_sampled}
 use Rattle.couplers.specs.ChannelLaws.{is_fault, AllFaults, kept_after, length-values, length-channels, samples-length, fault-never-good, serves-25, refuses-the-26th}
 use Rattle.tokens.specs.Token.{INA}
 use Rattle.tokens.specs.Index.{last_index, is_inside}
 use Rattle.working.specs.Variables.{timer_count, bit_count, cell_of, variable_value}
 use Rattle.engine.specs.declared.state.State.{State}
-use Rattle.engine.specs.declared.calls.Called.{Called}
-use Rattle.engine.specs.declared.named_line.Found.{Found}
 use Rattle.engine.specs.Sound.{is_sound}
 use Rattle.engine.specs.Beat.{buffer_size, are_inputs, Given, samples_in, beat_begun, beat_answer}
 use Rattle.engine.specs.Cells.{input_cells, beat_cells}
@@ -51,40 +47,41 @@ set_next d at l n k m h f = go (eqb k n) refl
     go false e = let p : k ≡ n → ⊥ = eqb-false k n e in get_or-set_other l n k (at n) d p ∙ f (omega arith)
 
 module _ (cs : List Channel) (rs : List Reading) where
-  kept-so-far : (n k : ℕ) → n ≤ length cs → k < n → get_or (channels_sampled cs rs n) k no_channel ≡ (sampled_at cs rs k).channel
+  kept-so-far : (n k : ℕ) → n ≤ length cs → k < n → get_or (channels_sampled cs rs n) k no_channel ≡ kept_at cs rs k
   unfolding channels_sampled
   kept-so-far zero k m l = absurd (omega arith)
-  kept-so-far (suc n) k m l = set_next no_channel (λ i. (sampled_at cs rs i).channel) (channels_sampled cs rs n) n k (rw (length-channels cs rs n) (omega arith)) l (λ j. kept-so-far n k (omega arith) j)
+  kept-so-far (suc n) k m l = set_next no_channel (λ i. kept_at cs rs i) (channels_sampled cs rs n) n k (rw (length-channels cs rs n) (omega arith)) l (λ j. kept-so-far n k (omega arith) j)
 
-  given-so-far : (n k : ℕ) → n ≤ channel_count → k < n → get_or (values_sampled cs rs n) k (pos 0) ≡ (sampled_at cs rs k).value
+  given-so-far : (n k : ℕ) → n ≤ channel_count → k < n → get_or (values_sampled cs rs n) k (pos 0) ≡ given_at cs rs k
   unfolding values_sampled
   given-so-far zero k m l = absurd (omega arith)
-  given-so-far (suc n) k m l = set_next (pos 0) (λ i. (sampled_at cs rs i).value) (values_sampled cs rs n) n k (rw (length-values cs rs n) (omega arith)) l (λ j. given-so-far n k (omega arith) j)
+  given-so-far (suc n) k m l = set_next (pos 0) (λ i. given_at cs rs i) (values_sampled cs rs n) n k (rw (length-values cs rs n) (omega arith)) l (λ j. given-so-far n k (omega arith) j)
 
-  module _ (h : (sampled_all cs rs).good ≡ true) where
-    all-values : (sampled_all cs rs).values ≡ values_sampled cs rs channel_count
+  module _ (h : is_some (sampled_all cs rs) ≡ true) where
+    all-values : values_given (sampled_all cs rs) ≡ values_sampled cs rs channel_count
     unfolding sampled_all
     all-values = let e : all_good cs rs channel_count ≡ true = sym (good-is-all cs rs) ∙ h in rw (sampled_all, e)
 
-    all-channels : (sampled_all cs rs).channels ≡ channels_sampled cs rs channel_count
+    all-channels : channels_kept cs (sampled_all cs rs) ≡ channels_sampled cs rs channel_count
     unfolding sampled_all
     all-channels = let e : all_good cs rs channel_count ≡ true = sym (good-is-all cs rs) ∙ h in rw (sampled_all, e)
 
     -- WHERE NONE REFUSES, EACH OF THE EIGHT GIVES AND KEEPS WHAT IT ALONE MAKES OF ITS READING
-    pub value-at : (k : ℕ) → k < channel_count → get_or (sampled_all cs rs).values k (pos 0) ≡ (sampled_at cs rs k).value
+    pub value-at : (k : ℕ) → k < channel_count → get_or (values_given (sampled_all cs rs)) k (pos 0) ≡ given_at cs rs k
     value-at k l = rw all-values (given-so-far channel_count k (omega arith) l)
 
-    pub channel-at : (k : ℕ) → k < channel_count → length cs ≡ channel_count → get_or (sampled_all cs rs).channels k no_channel ≡ (sampled_at cs rs k).channel
+    pub channel-at : (k : ℕ) → k < channel_count → length cs ≡ channel_count → get_or (channels_kept cs (sampled_all cs rs)) k no_channel ≡ kept_at cs rs k
     channel-at k l n = rw all-channels (kept-so-far channel_count k (omega arith) l)
 
-    channels-stay-eight : length cs ≡ channel_count → length (sampled_all cs rs).channels ≡ channel_count
+    channels-stay-eight : length cs ≡ channel_count → length (channels_kept cs (sampled_all cs rs)) ≡ channel_count
     channels-stay-eight n = rw all-channels (length-channels cs rs channel_count ∙ n)
 
 -- ---- what a call does to a channel
 
-called-channels : (st : State) (f : Found) (change : ℕ → State) → ((k : ℕ) → (change k).channels ≡ st.channels) → (called st f change).state.channels ≡ st.channels
+called-channels : (st : State) (f : Result ℕ ℕ) (change : ℕ → State) → ((k : ℕ) → (change k).channels ≡ st.channels) → (called st f change).state.channels ≡ st.channels
 unfolding called
-called-channels st f change h = either (λ (c : Called). c.state.channels ≡ st.channels) (eqb f.code 0) (λ e. h f.rank) (λ e. refl)
+called-channels st (Ok k) change h = h k
+called-channels st (Err c) change h = refl
 
 -- A HOST'S CALL KEEPS WHAT THE CHANNELS KEPT
 pub lock-keeps-channels : (s : List ℕ) (st : State) (n : ℕ) → (lock_call s st n).state.channels ≡ st.channels
@@ -104,13 +101,13 @@ cancel-keeps-channels s st n = called-channels st (found s st n) (λ k. with_can
 kept_on : (c : Channel) (xs ys : List Reading) → kept_after c (xs ++ ys) ≡ kept_after (kept_after c xs) ys
 unfolding kept_after
 kept_on c [] ys = refl
-kept_on c (x ∷ xs) ys = kept_on (sampled c x).channel xs ys
+kept_on c (x ∷ xs) ys = kept_on (channel_sampled c (sampled c x)) xs ys
 
 -- faults leave a channel that never was good as it is
 stays-fresh : (rs : List Reading) → AllFaults rs → kept_after fresh_channel rs ≡ fresh_channel
 unfolding kept_after
 stays-fresh [] h = refl
-stays-fresh (r ∷ rs) h = ap (λ (y : Sampled). kept_after y.channel rs) (fault-never-good fresh_channel r h.0 refl) ∙ stays-fresh rs h.1
+stays-fresh (r ∷ rs) h = ap (λ (y : Option Sampled). kept_after (channel_sampled fresh_channel y) rs) (fault-never-good fresh_channel r h.0 refl) ∙ stays-fresh rs h.1
 
 -- there are eight channels, and channel k keeps what its readings in the beats that ended well leave
 abbrev Follows : ℕ → Now State → Type 0
@@ -133,7 +130,7 @@ module _ (k : ℕ) (l : k < channel_count) where
       rw (q, good-keeps-samples s n.kept g z) (
         channels-stay-eight cs g.readings w h.0,
         channel-at cs g.readings w k l h.0
-            ∙ ap (λ (c : Channel). (sampled c (sent_by k g)).channel) h.1
+            ∙ ap (λ (c : Channel). channel_sampled c (sampled c (sent_by k g))) h.1
             ∙ sym (kept_on fresh_channel (counted_readings k n.told) (sent_by k g ∷ [])),
       )
 
@@ -168,7 +165,7 @@ module _ (k : ℕ) (l : k < channel_count) where
 
 -- $A_INA[k+1] reads the value of channel k
 analogue-reads : (r : List ℤ) (word : ℕ) (values lent : List ℤ) (runs : List Bool) (c : List ℤ) (k : ℕ) → k < channel_count → length values ≡ channel_count →
-    variable_value r (beat_cells word values lent runs c) INA (k + 1) ≡ Value (get_or values k (pos 0))
+    variable_value r (beat_cells word values lent runs c) INA (k + 1) ≡ Ok (get_or values k (pos 0))
 unfolding variable_value is_inside cell_of beat_cells
 analogue-reads r word values lent runs c k l n =
     let bits = input_cells word bit_count in
@@ -176,41 +173,41 @@ analogue-reads r word values lent runs c k l n =
     let inside : is_inside INA (k + 1) ≡ true = and-true (le-leb 1 (k + 1) (omega arith)) (le-leb (k + 1) (last_index INA) (omega arith)) in
     let place : cell_of INA (k + 1) ≡ length bits + k = rw (length-inputs word bit_count) (omega arith) in
     chosen _ _ _ inside
-    ∙ ap (λ (v : ℤ). Value v) (ap (λ (i : ℕ). get_or (bits ++ (values ++ rest)) i (pos 0)) place ∙ get_or-append-add bits (values ++ rest) k (pos 0) ∙ get_or-append values rest (pos 0) k (omega arith))
+    ∙ ap (λ (v : ℤ). Ok v) (ap (λ (i : ℕ). get_or (bits ++ (values ++ rest)) i (pos 0)) place ∙ get_or-append-add bits (values ++ rest) k (pos 0) ∙ get_or-append values rest (pos 0) k (omega arith))
 
 -- in a beat in which no channel refuses
-pub analogue-is-sample : (st : State) (g : Given) (k : ℕ) → k < channel_count → (samples_in st g).good ≡ true → analogue_in st g k ≡ Value (sampled_at st.channels g.readings k).value
+pub analogue-is-sample : (st : State) (g : Given) (k : ℕ) → k < channel_count → is_some (samples_in st g) ≡ true → analogue_in st g k ≡ Ok (given_at st.channels g.readings k)
 unfolding beat_begun
 analogue-is-sample st g k l w =
-    analogue-reads st.r g.word (samples_in st g).values g.lent st.runs st.cells k l (samples-length st.channels g.readings)
-    ∙ ap (λ (v : ℤ). Value v) (value-at st.channels g.readings w k l)
+    analogue-reads st.r g.word (values_given (samples_in st g)) g.lent st.runs st.cells k l (samples-length st.channels g.readings)
+    ∙ ap (λ (v : ℤ). Ok v) (value-at st.channels g.readings w k l)
 
 -- ---- THE 25 BEATS
 
 -- a load and any asks, then a beat; channel k is faulty in it. Since the load its readings in the beats that ended well were some, then one of v thousandths, then nothing but faults
 module _ (t : List ℕ) (qs : List Ask) (g : Given) (k : ℕ) (l : k < channel_count) (fault : is_fault (sent_by k g)) where
-  module _ (before rs : List Reading) (x : Float) (v : ℤ) (read : counted_readings k (standing t qs).since.told ≡ before ++ (Volts x ∷ rs)) (worth : thousandths_of x ≡ Thousandths v) (faults : AllFaults rs) where
+  module _ (before rs : List Reading) (x : Float) (v : ℤ) (read : counted_readings k (standing t qs).since.told ≡ before ++ (Volts x ∷ rs)) (worth : thousandths_of x ≡ Some v) (faults : AllFaults rs) where
     kept-now : get_or (standing t qs).since.kept.channels k no_channel ≡ kept_after (kept_after fresh_channel before) (Volts x ∷ rs)
     kept-now = channel-follows k l t qs ∙ ap (kept_after fresh_channel) read ∙ kept_on fresh_channel before (Volts x ∷ rs)
 
     -- UP TO 24 FAULTY BEATS THAT ENDED WELL: in the next, the 25th or before, the channel does not refuse, and where no other does the lines read its last good value
     pub serves-25-beats : length rs < max_faults → let st = (standing t qs).since.kept in
-        ((sampled_at st.channels g.readings k).good ≡ true) × ((samples_in st g).good ≡ true → analogue_in st g k ≡ Value v)
+        (is_some (sampled_at st.channels g.readings k) ≡ true) × (is_some (samples_in st g) ≡ true → analogue_in st g k ≡ Ok v)
     serves-25-beats m =
         let st = (standing t qs).since.kept in
         let e = ap (λ (c : Channel). sampled c (sent_by k g)) kept-now ∙ serves-25 (kept_after fresh_channel before) x v rs (sent_by k g) worth faults fault m in
-        (ap (λ (y : Sampled). y.good) e, λ w. analogue-is-sample st g k l w ∙ ap (λ (y : Sampled). Value y.value) e)
+        (ap (λ (y : Option Sampled). is_some y) e, λ w. analogue-is-sample st g k l w ∙ ap (λ (y : Option Sampled). Ok (value_sampled y)) e)
 
     -- AFTER 25 THE NEXT BEAT ANSWERS 23, behind 22, 20 and 21
     pub refuses-the-26th-beat : length rs ≡ max_faults → let st = (standing t qs).since.kept in let s = (standing t qs).set in
         is_sound s st ≡ true → ltb (length g.buffer) buffer_size ≡ false → are_inputs g.lent ≡ true → (beat_answer s st g).code ≡ faulty_channel
     refuses-the-26th-beat m sound long inputs =
         one-channel-23 (standing t qs).set (standing t qs).since.kept g sound long inputs k l
-        (ap (λ (c : Channel). (sampled c (sent_by k g)).good) kept-now ∙ refuses-the-26th (kept_after fresh_channel before) x v rs (sent_by k g) worth faults fault m)
+        (ap (λ (c : Channel). is_some (sampled c (sent_by k g))) kept-now ∙ refuses-the-26th (kept_after fresh_channel before) x v rs (sent_by k g) worth faults fault m)
 
   -- A CHANNEL THAT NEVER WAS GOOD GIVES 23 TOO
   pub refuses-never-good : AllFaults (counted_readings k (standing t qs).since.told) → let st = (standing t qs).since.kept in let s = (standing t qs).set in
       is_sound s st ≡ true → ltb (length g.buffer) buffer_size ≡ false → are_inputs g.lent ≡ true → (beat_answer s st g).code ≡ faulty_channel
   refuses-never-good faults sound long inputs =
       one-channel-23 (standing t qs).set (standing t qs).since.kept g sound long inputs k l
-      (ap (λ (c : Channel). (sampled c (sent_by k g)).good) (channel-follows k l t qs ∙ stays-fresh _ faults) ∙ ap (λ (y : Sampled). y.good) (fault-never-good fresh_channel (sent_by k g) fault refl))
+      (ap (λ (c : Channel). is_some (sampled c (sent_by k g))) (channel-follows k l t qs ∙ stays-fresh _ faults) ∙ ap (λ (y : Option Sampled). is_some y) (fault-never-good fresh_channel (sent_by k g) fault refl))

@@ -3,14 +3,14 @@ use Rattle.std.specs.Prelude.{◌≡◌, refl, List, [], ◌∷◌, map, ℕ, �
 use Prim.Native.String.{String}
 use Rattle.values.specs.Value.{in_range, valued, less_than, equal_to, whole_units, output_of, sum_of, product_of, sign_of, nearest_units, marker_of}
 use Rattle.values.specs.Time.{grown_timer}
-use Rattle.values.specs.Curve.{◌times◌, ◌plus◌, polynomial_of, limited_to, curve_of}
+use Rattle.values.specs.Curve.{polynomial_of, limited_to, curve_of}
 use Rattle.values.specs.Fifo.{fits, append_answer, appended, shifted}
 use Rattle.values.specs.Codes.{not_allowed}
 use Rattle.tokens.specs.Descent.{is_index, index_of, is_indexed, index_at, joined, more, read_product, read_sum, read_rest, read_expression, read_variable, operand_from, read_operand, sum_at, expression_at}
 use Rattle.tokens.specs.Index.{is_inside}
 use Rattle.tokens.specs.SingleFault.{lower, opens_too_many, wanting_fault, number_fault, read_fault, is_writable, write_fault, id_fault, curve_fault}
 use Rattle.checking.specs.Fault.{join_sights, sight, count_fault, is_among, are_apart, moves_fault, number_of, is_removal, assigned_at, assignment_at, command_at, unindexed_at, action_at, moves_at, actions_at, line_parts, body_at, rest_at, line_at, is_given, is_synfct, synfct_fault, synfct_at}
-use Rattle.checking.specs.CurveDefinition.{limits_fault, judged_curve, number_place, parameter_at, part_at, part_behind, curve_from, ended_by, defined_by, is_defining, definition_at}
+use Rattle.checking.specs.CurveDefinition.{if_read, limits_fault, judged_curve, number_place, parameter_at, part_at, part_behind, curve_from, ended_by, defined_by, is_defining, definition_at}
 use Rattle.working.specs.Variables.{cell_of, variable_value, marker_at, beat_count}
 use Rattle.working.specs.Operators.{join_truths, join_values}
 use Rattle.working.specs.Working.{value_over, condition_value, right_value, variable_at}
@@ -65,5 +65,5 @@ shown_of cs =
 
 -- 100 at 30, 0 at 80, 120 at 10; 0 at 5, -100 at 6 (document 02); 120 at 0, in the marker, and at 6, appended to the FIFO. The beat after that gives 34, since an output takes no 120, and leaves all as it was
 pub curve-run : shown_of (beat 1 ∷ beat 2 ∷ []) ≡ ((not_allowed, 0) ∷ (0, 3) ∷ [], pos 100000 ∷ pos 0 ∷ pos 120000 ∷ pos 0 ∷ negsuc 99999 ∷ [], pos 120000, pos 120000)
-unfolding in_range valued less_than equal_to whole_units output_of grown_timer is_index index_of is_indexed index_at joined more read_product read_sum read_rest read_expression read_variable operand_from read_operand sum_at expression_at is_inside cell_of variable_value lower opens_too_many wanting_fault number_fault read_fault join_sights sight is_writable write_fault id_fault count_fault is_among are_apart moves_fault number_of is_removal assigned_at assignment_at command_at unindexed_at action_at moves_at actions_at line_parts body_at rest_at line_at join_truths join_values value_over condition_value right_value variable_at lines_from lines_read rank_in names_known curves_sound all_known named_lines sound_lines power_on grown_cells input_cells beat_cells all_ranged is_cell are_cells all_zero is_fifo_sound are_fifos is_flag are_flags is_act_count are_act_counts one_more counted_acts state_sound is_sound write_cell write_inside write_to taken_at assignment_of action_of actions_of tries acts remembers takes_turn do_turn try_turn turn_of turns_from are_inputs beat_begun beat_ended whole_beat beat_answer beat_buffer step run_from run word_token written is_fit number_token word_first behind_point number_with number_first sign_first first_token tokens_from tokens_of empty_set without_mark with_line curve_fault sign_of sum_of product_of ◌times◌ ◌plus◌ polynomial_of limited_to curve_of limits_fault judged_curve number_place parameter_at part_at part_behind curve_from ended_by defined_by is_defining definition_at is_given is_synfct synfct_fault synfct_at curves_from curve_assigned synfct_of nearest_units marker_of beat_count fits append_answer appended shifted change_answer changed change_fifo write_fifo fresh_channels thousandths_of signed_thousandths nearest_even is_channel are_channels all_good values_sampled channels_sampled sampled_all
+unfolding in_range valued less_than equal_to whole_units output_of grown_timer is_index index_of is_indexed index_at joined more read_product read_sum read_rest read_expression read_variable operand_from read_operand sum_at expression_at is_inside cell_of variable_value lower opens_too_many wanting_fault number_fault read_fault join_sights sight is_writable write_fault id_fault count_fault is_among are_apart moves_fault number_of is_removal assigned_at assignment_at command_at unindexed_at action_at moves_at actions_at line_parts body_at rest_at line_at join_truths join_values value_over condition_value right_value variable_at lines_from lines_read rank_in names_known curves_sound all_known named_lines sound_lines power_on grown_cells input_cells beat_cells all_ranged is_cell are_cells all_zero is_fifo_sound are_fifos is_flag are_flags is_act_count are_act_counts one_more counted_acts state_sound is_sound write_cell write_inside write_to taken_at assignment_of action_of actions_of tries acts remembers takes_turn do_turn try_turn turn_of turns_from are_inputs beat_begun beat_ended whole_beat beat_answer beat_buffer step run_from run word_token written is_fit number_token word_first behind_point number_with number_first sign_first first_token tokens_from tokens_of empty_set without_mark with_line curve_fault sign_of sum_of product_of polynomial_of limited_to curve_of limits_fault judged_curve number_place parameter_at part_at part_behind if_read curve_from ended_by defined_by is_defining definition_at is_given is_synfct synfct_fault synfct_at curves_from curve_assigned synfct_of nearest_units marker_of beat_count fits append_answer appended shifted change_answer changed change_fifo write_fifo fresh_channels thousandths_of signed_thousandths nearest_even is_channel are_channels all_good values_sampled channels_sampled sampled_all
 curve-run = refl

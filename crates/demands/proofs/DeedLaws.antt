@@ -21,7 +21,7 @@ use Rattle.engine.specs.declared.order.Order.{Order}
 use Rattle.engine.specs.Set.{rank_in}
 use Rattle.engine.specs.Order.{order_size, order_bytes}
 use Rattle.engine.specs.OrderLaws.{eight-bytes}
-use Rattle.engine.specs.Action.{World, Did, from_value_or_alarm, taken_at, assignment_of, lock_of, command_of, drive_of, action_of}
+use Rattle.engine.specs.Action.{World, Did, from_reached, taken_at, assignment_of, lock_of, command_of, drive_of, action_of}
 use Rattle.engine.specs.Actions.{actions_of}
 use Rattle.engine.specs.Drive.{drive_order}
 use Rattle.engine.specs.Write.{write_to}
@@ -97,7 +97,7 @@ module _ (s numbers : List ℕ) (cancelled : List Bool) (number : ℕ) where
       (λ e. bind_ok (Gives x) (taken_at s x.vars (p + 5)) _ (λ a q. bind_ok (Gives x) (write_to a.vars (get_or s p 0) (index_at s (get_or s p 0) p) a.value) _ (λ v q. none)))
       (λ e. either (Ok (Gives x)) (is_drive (get_or s p 0))
       (λ e. if_not (Ok (Gives x)) (is_axis (get_or s (p + 2) 0)) (λ e. tt)
-      (λ e. bind_ok (Gives x) (from_value_or_alarm (right_value s x.vars.r x.vars.cells (p + 5))) _
+      (λ e. bind_ok (Gives x) (from_reached (right_value s x.vars.r x.vars.cells (p + 5))) _
       (λ a q. bind_ok (Gives x) (drive_order number (get_or s p 0) (index_at s (get_or s p 0) p) a.0) _
       (λ o q. gave_one Own x.orders o (is_ok Own (drive_order number (get_or s p 0) (index_at s (get_or s p 0) p) a.0) o q (drive-line number (get_or s p 0) (index_at s (get_or s p 0) p) a.0))))))
       (λ e. either (Ok (Gives x)) (eqb (get_or s p 0) SYNFCT) (λ e. synfct-variables s x p (Gives x) (λ v. none))
@@ -159,7 +159,7 @@ module _ (s numbers : List ℕ) (cancelled : List Bool) (automatic : Bool) (l : 
       let m = get_or x.memory k false in
       either (Ok P) (takes_turn s numbers cancelled automatic l k x)
       (λ e. either (Ok P) (tries l.keyword m)
-      (λ e. bind_ok P (from_value_or_alarm (condition_value s x.vars.r x.vars.cells l.condition)) _
+      (λ e. bind_ok P (from_reached (condition_value s x.vars.r x.vars.cells l.condition)) _
       (λ a q. do-took (remembered x k (remembers l.keyword m (is_yes a.0))).memory (worked k (is_yes a.0) ∷ []) (acts l.keyword m (is_yes a.0))
       (λ j i. get_or-set_other x.memory k j _ false i)))
       (λ e. do-took x.memory [] (acts l.keyword m false) (λ j i. refl)))

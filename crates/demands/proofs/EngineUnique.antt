@@ -1,5 +1,5 @@
 -- Any two results that an engine's promise allows are equal: for each public call, its answer and what is lent. Assumes nothing.
-use Rattle.std.specs.Prelude.{◌≡◌, Bool, List, ℕ}
+use Rattle.std.specs.Prelude.{◌≡◌, Bool, List, ℕ, Result}
 use Rattle.values.specs.Unique.{unique}
 use Rattle.engine.specs.declared.state.State.{State}
 use Rattle.engine.specs.declared.one_beat.Beaten.{Beaten}
@@ -32,7 +32,7 @@ module _ (s : List ℕ) (st : State) where
   pub control-reset-unique : (x y : Called) → x ≡ control_reset_call s st → y ≡ control_reset_call s st → x ≡ y
   control-reset-unique x y p q = unique p q
 
-  pub status-unique : (x y : Status) → x ≡ status_of s st → y ≡ status_of s st → x ≡ y
+  pub status-unique : (x y : Result Status ℕ) → x ≡ status_of s st → y ≡ status_of s st → x ≡ y
   status-unique x y p q = unique p q
 
   pub sound-unique : (x y : Bool) → x ≡ is_sound s st → y ≡ is_sound s st → x ≡ y

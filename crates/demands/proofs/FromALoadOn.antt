@@ -1,13 +1,13 @@
 -- FROM A LOAD ON, through any asks of the host, further loads among them: demand 3, and what follows from it, of the set and the state that the host then has and of the calls that it
 -- then makes, as their promises define them (load_answer, load_set, beat_answer, beat_buffer, ..). A load, taken or refused, begins a new history. Theorems; assumes nothing.
 -- Outside is what Asks says: a host that hands in another set or state than it was given last.
-use Rattle.std.specs.Prelude.{◌≡◌, refl, ◌≢◌, true, false, List, [], ◌∷◌, ◌++◌, ℕ, min, ◌*◌, ◌<◌, ◌≤◌, length, get_or, drop}
+use Rattle.std.specs.Prelude.{◌≡◌, refl, ◌≢◌, true, false, List, [], ◌∷◌, ◌++◌, ℕ, min, ◌*◌, ◌<◌, ◌≤◌, length, get_or, drop, IfOk}
 use Rattle.std.proofs.Common.{ap, ◌∙◌}
 use Rattle.tokens.specs.Token.{WHEN, EVERY}
 use Rattle.tokens.specs.Descent.{good}
 use Rattle.engine.specs.declared.order.Order.{Order}
 use Rattle.engine.specs.declared.state.State.{State}
-use Rattle.engine.specs.Set.{no_line, empty_set, sound_lines}
+use Rattle.engine.specs.Set.{no_line, empty_set, lines_of}
 use Rattle.engine.specs.State.{power_on}
 use Rattle.engine.specs.Turn.{Turned, turns_from}
 use Rattle.engine.specs.Order.{order_size}
@@ -73,38 +73,38 @@ module _ (t u : List ℕ) (qs : List Ask) where
 -- ---- what follows, of a beat after a load and any asks
 
 -- the count of a line of the set is, up to the top, how often it acted by the rule, over the calls since the last load: since that load or the last control reset that left it live
-pub count-from-a-load : (t : List ℕ) (qs : List Ask) → let n = standing t qs in (k : ℕ) → k < (sound_lines n.set).count → get_or n.since.kept.acts k 0 ≡ min acts_top (acts_since_start n.set (calls_since [] qs) k)
+pub count-from-a-load : (t : List ℕ) (qs : List Ask) → let n = standing t qs in (k : ℕ) → k < (lines_of n.set).count → get_or n.since.kept.acts k 0 ≡ min acts_top (acts_since_start n.set (calls_since [] qs) k)
 count-from-a-load t qs = rw (since-the-load t qs) (count-says-the-record (load_set (last_text t qs)) (calls_since [] qs))
 
 -- and so the status picture tells it, with what the history since that load says of locks and cancels
-pub status-from-a-load : (t : List ℕ) (qs : List Ask) → let n = standing t qs in (status_of n.set n.since.kept).code ≡ 0 → (k : ℕ) → k < (sound_lines n.set).count →
-    let l = get_or (sound_lines n.set).items k no_line in let r = n.since.history in
-    get_or (status_of n.set n.since.kept).lines k no_status ≡ record { ids = l.ids; number = l.number; standing = standing_of (is_cancelled l.ids k r) (is_locked k r); acts = min acts_top (acts_since_start n.set (calls_since [] qs) k) }
+pub status-from-a-load : (t : List ℕ) (qs : List Ask) → let n = standing t qs in IfOk (status_of n.set n.since.kept) λ x. (k : ℕ) → k < (lines_of n.set).count →
+    let l = get_or (lines_of n.set).items k no_line in let r = n.since.history in
+    get_or x.lines k no_status ≡ record { ids = l.ids; number = l.number; standing = standing_of (is_cancelled l.ids k r) (is_locked k r); acts = min acts_top (acts_since_start n.set (calls_since [] qs) k) }
 status-from-a-load t qs = rw (since-the-load t qs) (status-says-the-record (load_set (last_text t qs)) (calls_since [] qs))
 
 module _ (t : List ℕ) (qs : List Ask) (g : Given) where
   -- for every line of the set, in a beat that answers 0: it takes a turn and acts by the rule; where it did not act it left all alone, and where it acted it did all its actions
-  pub acts-from-a-load : let n = standing t qs in (k : ℕ) → k < (sound_lines n.set).count → (beat_answer n.set n.since.kept g).code ≡ 0 →
+  pub acts-from-a-load : let n = standing t qs in (k : ℕ) → k < (lines_of n.set).count → (beat_answer n.set n.since.kept g).code ≡ 0 →
       AtItsTurn n.set n.since.kept n.since.history g k (beat_answer n.set n.since.kept g).acted
   acts-from-a-load = rw (since-the-load t qs) (at-its-turn (load_set (last_text t qs)) (calls_since [] qs) g)
 
   -- and no other rank has a bit
-  pub no-other-from-a-load : let n = standing t qs in (k : ℕ) → (sound_lines n.set).count ≤ k → is_acted (beat_answer n.set n.since.kept g).acted k ≡ false
+  pub no-other-from-a-load : let n = standing t qs in (k : ℕ) → (lines_of n.set).count ≤ k → is_acted (beat_answer n.set n.since.kept g).acted k ≡ false
   no-other-from-a-load = rw (since-the-load t qs) (no-other-bit (load_set (last_text t qs)) (calls_since [] qs) g)
 
   -- each order in the buffer carries the number of a line that acted
   pub orders-from-a-load : let n = standing t qs in let x = beat_answer n.set n.since.kept g in
-      (os : List Order) × (x.orders ≡ length os) × (beat_buffer n.set n.since.kept g ≡ bytes_of os ++ drop (order_size * length os) g.buffer) × Each (OfActed (sound_lines n.set) x.acted) os
+      (os : List Order) × (x.orders ≡ length os) × (beat_buffer n.set n.since.kept g ≡ bytes_of os ++ drop (order_size * length os) g.buffer) × Each (OfActed (lines_of n.set) x.acted) os
   orders-from-a-load = rw (since-the-load t qs) (orders-of-acting-lines (load_set (last_text t qs)) (calls_since [] qs) g)
 
   -- between two starts, a load or a control reset, a WHEN line acts at most once
-  pub once-from-a-load : let n = standing t qs in (k : ℕ) → k < (sound_lines n.set).count → (get_or (sound_lines n.set).items k no_line).keyword ≡ WHEN →
+  pub once-from-a-load : let n = standing t qs in (k : ℕ) → k < (lines_of n.set).count → (get_or (lines_of n.set).items k no_line).keyword ≡ WHEN →
       is_acted (beat_answer n.set n.since.kept g).acted k ≡ true → acted_since k n.since.told ≡ false
   once-from-a-load = rw (since-the-load t qs) (once (load_set (last_text t qs)) (calls_since [] qs) g)
 
   -- an EVERY line acts only where its condition is true, and at its turn before, since the last start, it was false or there was none
-  pub edge-from-a-load : let n = standing t qs in (k : ℕ) → k < (sound_lines n.set).count → (get_or (sound_lines n.set).items k no_line).keyword ≡ EVERY →
+  pub edge-from-a-load : let n = standing t qs in (k : ℕ) → k < (lines_of n.set).count → (get_or (lines_of n.set).items k no_line).keyword ≡ EVERY →
       is_acted (beat_answer n.set n.since.kept g).acted k ≡ true →
-      (before : Turned) × (turns_from n.set (sound_lines n.set).numbers n.since.kept.cancelled g.automatic (sound_lines n.set).items k 0 (beat_begun n.since.kept g) ≡ good before)
-      × (condition_now n.set (get_or (sound_lines n.set).items k no_line) before.world ≡ true) × (was_true k n.since.history ≡ false)
+      (before : Turned) × (turns_from n.set (lines_of n.set).numbers n.since.kept.cancelled g.automatic (lines_of n.set).items k 0 (beat_begun n.since.kept g) ≡ good before)
+      × (condition_now n.set (get_or (lines_of n.set).items k no_line) before.world ≡ true) × (was_true k n.since.history ≡ false)
   edge-from-a-load = rw (since-the-load t qs) (edge (load_set (last_text t qs)) (calls_since [] qs) g)

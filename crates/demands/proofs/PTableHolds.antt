@@ -22,7 +22,7 @@ use Rattle.engine.specs.ActCount.{is_act_count, are_act_counts, one_more, counte
 use Rattle.engine.specs.Sound.{all_ranged, is_cell, are_cells, all_zero, is_fifo_sound, are_fifos, is_flag, are_flags, state_sound, is_sound}
 use Rattle.engine.specs.Write.{change_answer, changed, change_fifo, write_fifo, write_cell, write_inside, write_to}
 use Rattle.engine.specs.Drive.{drive_order}
-use Rattle.engine.specs.Action.{alarm_of, lock_of, taken_at, assignment_of, drive_of, command_of, action_of}
+use Rattle.engine.specs.Action.{lock_of, taken_at, assignment_of, drive_of, command_of, action_of}
 use Rattle.engine.specs.Actions.{actions_of}
 use Rattle.engine.specs.Keyword.{tries, acts, remembers}
 use Rattle.engine.specs.Turn.{takes_turn, do_turn, try_turn, turn_of, turns_from}
@@ -47,5 +47,5 @@ use Rattle.demands.specs.PTable.{outcome_of, expected, cases}
 
 -- THE TABLE: each case gives what document 01 says, markers by document 02
 pub table : map outcome_of cases ≡ map expected cases
-unfolding join_logic beat_count fifo_value fifo_at fits append_answer appended shifted remove_answer removed oldest_of newest_of sum_first sum_all total_of count_of cleared empty_answer emptied millis_of written_timer sum_of difference_of product_of quotient_of negation_of feed_of sign_of in_range valued less_than equal_to whole_units nearest_units marker_of output_of grown_timer twos_complement four_bytes order_bytes is_index index_of is_indexed index_at joined more read_product read_sum read_rest read_expression read_variable operand_from read_operand read_close read_truth sum_at expression_at is_inside cell_of variable_value lower opens_too_many wanting_fault number_fault read_fault join_sights sight is_writable write_fault code_fault id_fault call_fault count_fault number_of is_removal assigned_at assignment_at command_at unindexed_at action_at moves_at actions_at line_parts body_at rest_at line_at join_truths join_values value_over condition_value right_value lines_from lines_read rank_in names_known curves_sound all_known named_lines sound_lines empty_set power_on grown_cells input_cells beat_cells all_ranged is_cell are_cells all_zero is_fifo_sound is_flag are_flags is_act_count are_act_counts one_more counted_acts reset_acts state_sound is_sound change_answer changed change_fifo write_fifo write_cell write_inside write_to alarm_of drive_order drive_of lock_of taken_at assignment_of command_of action_of actions_of tries acts remembers takes_turn do_turn try_turn turn_of turns_from are_inputs beat_begun beat_ended whole_beat beat_answer beat_buffer found_at found called locked_call lock_call unlock_call cancel_call reset_cancelled zeroed control_reset_state control_reset_call run word_token written is_fit number_token word_first behind_point number_with number_first sign_first first_token tokens_from tokens_of split without_return without_comment bodies is_blank numbered token_lines numbers_of least_from least_above rising without_mark placed curve_slots set_of factors_guess product_guess terms_guess sum_guess sums_guess expression_guess operand_first operand_guess action_guess actions_guess condition_guess line_guess same_tokens if_written tree_of operand_tokens action_tokens actions_tokens condition_tokens line_tokens operand_meaning right_fault is_removal_tree assigned_fault action_fault actions_fault moves_of parts_fault line_fault is_among are_apart moves_fault actions_names names_in each_known fault_of tokens_fault fault_below line_below kept_with rows_from first_not named outcome load_answer load_set step run_from cases are_fifos with_line fresh_channels thousandths_of signed_thousandths nearest_even is_channel are_channels all_good values_sampled channels_sampled sampled_all
+unfolding join_logic beat_count fifo_value fifo_at fits append_answer appended shifted remove_answer removed oldest_of newest_of sum_first sum_all total_of count_of cleared empty_answer emptied millis_of written_timer sum_of difference_of product_of quotient_of negation_of feed_of sign_of in_range valued less_than equal_to whole_units nearest_units marker_of output_of grown_timer twos_complement four_bytes order_bytes is_index index_of is_indexed index_at joined more read_product read_sum read_rest read_expression read_variable operand_from read_operand read_close read_truth sum_at expression_at is_inside cell_of variable_value lower opens_too_many wanting_fault number_fault read_fault join_sights sight is_writable write_fault code_fault id_fault call_fault count_fault number_of is_removal assigned_at assignment_at command_at unindexed_at action_at moves_at actions_at line_parts body_at rest_at line_at join_truths join_values value_over condition_value right_value lines_from lines_read rank_in names_known curves_sound all_known named_lines sound_lines empty_set power_on grown_cells input_cells beat_cells all_ranged is_cell are_cells all_zero is_fifo_sound is_flag are_flags is_act_count are_act_counts one_more counted_acts reset_acts state_sound is_sound change_answer changed change_fifo write_fifo write_cell write_inside write_to drive_order drive_of lock_of taken_at assignment_of command_of action_of actions_of tries acts remembers takes_turn do_turn try_turn turn_of turns_from are_inputs beat_begun beat_ended whole_beat beat_answer beat_buffer found_at found called locked_call lock_call unlock_call cancel_call reset_cancelled zeroed control_reset_state control_reset_call run word_token written is_fit number_token word_first behind_point number_with number_first sign_first first_token tokens_from tokens_of split without_return without_comment bodies is_blank numbered token_lines numbers_of least_from least_above rising without_mark placed curve_slots set_of factors_guess product_guess terms_guess sum_guess sums_guess expression_guess operand_first operand_guess action_guess actions_guess condition_guess line_guess same_tokens if_written tree_of operand_tokens action_tokens actions_tokens condition_tokens line_tokens operand_meaning right_fault is_removal_tree assigned_fault action_fault actions_fault moves_of parts_fault line_fault is_among are_apart moves_fault actions_names names_in each_known fault_of tokens_fault fault_below line_below kept_with rows_from first_not named outcome load_answer load_set step run_from cases are_fifos with_line fresh_channels thousandths_of signed_thousandths nearest_even is_channel are_channels all_good values_sampled channels_sampled sampled_all
 table = refl

@@ -1,5 +1,5 @@
 -- A refusal or an alarm returns what was given, for each call; and it adds nothing to the history. Assumes nothing.
-use Rattle.std.specs.Prelude.{◌≡◌, refl, ◌≢◌, Bool, false, List, [], ◌∷◌, ℕ, zero, suc, ◌<◌, eqb, ltb, pos, length, replicate}
+use Rattle.std.specs.Prelude.{◌≡◌, refl, ◌≢◌, Bool, false, List, [], ◌∷◌, ℕ, zero, suc, ◌<◌, eqb, ltb, length, Result, Ok, Err, is_some, Option, Some, None}
 use Rattle.std.proofs.Common.{sym, ◌∙◌, inl, inr, eqb-true}
 use Rattle.std.proofs.Math.Path.{ap}
 use Rattle.std.proofs.Math.Bool.{true}
@@ -9,16 +9,15 @@ use Rattle.values.specs.Codes.{wrong_numbers, unsound, faulty_channel}
 use Rattle.couplers.specs.declared.reading.Reading.{Reading}
 use Rattle.couplers.specs.declared.channel.Channel.{Channel}
 use Rattle.couplers.specs.declared.channel.Samples.{Samples}
-use Rattle.couplers.specs.Channel.{channel_count, sampled_at, all_good, values_sampled, channels_sampled, sampled_all}
+use Rattle.couplers.specs.Channel.{channel_count, sampled_at, all_good, values_sampled, channels_sampled, sampled_all, channels_kept}
 use Rattle.couplers.specs.ChannelLaws.{refused-by-one}
 use Rattle.tokens.specs.Descent.{Answer, good, stop, ◌>>=◌}
 use Rattle.engine.specs.declared.state.State.{State}
 use Rattle.engine.specs.declared.calls.Called.{Called}
-use Rattle.engine.specs.declared.named_line.Found.{Found}
-use Rattle.engine.specs.Set.{sound_lines}
+use Rattle.engine.specs.Set.{lines_of}
 use Rattle.engine.specs.Sound.{is_sound}
 use Rattle.engine.specs.Turn.{Entry, beat_in, locks, cancels, resets, Turned}
-use Rattle.engine.specs.Beat.{buffer_size, are_inputs, Given, samples_in, all_turns, beat_begun, whole_beat, turned_answer, buffered, beat_ended, beat_answer, beat_buffer}
+use Rattle.engine.specs.Beat.{buffer_size, are_inputs, Given, samples_in, all_turns, beat_begun, whole_beat, turned_answer, buffered, beat_ended, beat_answer, beat_buffer, kept_in}
 use Rattle.engine.specs.NamedLine.{found}
 use Rattle.engine.specs.Calls.{with_locked, with_cancelled, called, locked_call, lock_call, unlock_call, cancel_call, program_end_call, control_reset_state, control_reset_call}
 use Rattle.soundness.specs.VariableCodeLaws.{StopsBy}
@@ -34,7 +33,7 @@ pub beat-refused : (s : List ℕ) (st : State) (g : Given) → let x = beat_answ
 unfolding beat_answer beat_buffer
 beat-refused s st g = go (whole_beat s st g)
   where
-    go : (a : Answer Turned) → let x = turned_answer st (samples_in st g).channels a in x.code ≢ 0 → (x.state ≡ st) × (x.orders ≡ 0) × (x.acted ≡ 0) × (buffered g.buffer a ≡ g.buffer) × (entries_of a ≡ [])
+    go : (a : Answer Turned) → let x = turned_answer st (kept_in st g) a in x.code ≢ 0 → (x.state ≡ st) × (x.orders ≡ 0) × (x.acted ≡ 0) × (buffered g.buffer a ≡ g.buffer) × (entries_of a ≡ [])
     go (good t) h = absurd (h refl)
     go (stop c) h = (refl, refl, refl, refl, refl)
 
@@ -42,13 +41,13 @@ beat-refused s st g = go (whole_beat s st g)
 module _ (s : List ℕ) (st : State) (g : Given) (sound : is_sound s st ≡ true) (long : ltb (length g.buffer) buffer_size ≡ false) where
   pub positions-first : are_inputs g.lent ≡ false → (beat_answer s st g).code ≡ wrong_numbers
   unfolding beat_answer whole_beat
-  positions-first i = ap (λ (a : Answer Turned). (turned_answer st (samples_in st g).channels a).code) (chosen _ _ _ sound ∙ refused _ _ _ long ∙ refused _ _ _ i)
+  positions-first i = ap (λ (a : Answer Turned). (turned_answer st (kept_in st g) a).code) (chosen _ _ _ sound ∙ refused _ _ _ long ∙ refused _ _ _ i)
 
   -- AND BEHIND 21 A CHANNEL THAT REFUSES GIVES 23
-  pub one-channel-23 : are_inputs g.lent ≡ true → (k : ℕ) → k < channel_count → (sampled_at st.channels g.readings k).good ≡ false → (beat_answer s st g).code ≡ faulty_channel
+  pub one-channel-23 : are_inputs g.lent ≡ true → (k : ℕ) → k < channel_count → is_some (sampled_at st.channels g.readings k) ≡ false → (beat_answer s st g).code ≡ faulty_channel
   unfolding beat_answer whole_beat
   one-channel-23 i k l h =
-      ap (λ (a : Answer Turned). (turned_answer st (samples_in st g).channels a).code)
+      ap (λ (a : Answer Turned). (turned_answer st (kept_in st g) a).code)
       (chosen _ _ _ sound ∙ refused _ _ _ long ∙ chosen _ _ _ i ∙ refused _ _ _ (refused-by-one st.channels g.readings k l h))
 
 -- ---- 23 only so
@@ -77,28 +76,28 @@ turns-not-23 (stop c) f h e = go h
     go (inr (inr (inr (inr (inr (inr x)))))) = x
 
 -- where the first n are not all good, one of them refuses
-refuser : (cs : List Channel) (rs : List Reading) (n : ℕ) → all_good cs rs n ≡ false → (k : ℕ) × (k < n) × ((sampled_at cs rs k).good ≡ false)
+refuser : (cs : List Channel) (rs : List Reading) (n : ℕ) → all_good cs rs n ≡ false → (k : ℕ) × (k < n) × (is_some (sampled_at cs rs k) ≡ false)
 unfolding all_good
 refuser cs rs zero h = contrary refl h
 refuser cs rs (suc n) h = go (all_good cs rs n) refl (refuser cs rs n)
   where
-    go : (b : Bool) → all_good cs rs n ≡ b → (all_good cs rs n ≡ false → (k : ℕ) × (k < n) × ((sampled_at cs rs k).good ≡ false)) → (k : ℕ) × (k < suc n) × ((sampled_at cs rs k).good ≡ false)
+    go : (b : Bool) → all_good cs rs n ≡ b → (all_good cs rs n ≡ false → (k : ℕ) × (k < n) × (is_some (sampled_at cs rs k) ≡ false)) → (k : ℕ) × (k < suc n) × (is_some (sampled_at cs rs k) ≡ false)
     go true e f = (n, omega arith, rw e at h)
     go false e f = let x = f e in (x.0, omega (arith, x.1), x.2)
 
 -- none refuses, and all are good, is one
-pub good-is-all : (cs : List Channel) (rs : List Reading) → (sampled_all cs rs).good ≡ all_good cs rs channel_count
+pub good-is-all : (cs : List Channel) (rs : List Reading) → is_some (sampled_all cs rs) ≡ all_good cs rs channel_count
 unfolding sampled_all
 good-is-all cs rs = go (all_good cs rs channel_count)
   where
-    go : (b : Bool) → (elim b as (λ _. Samples) [ true ↦ record { good = true; values = values_sampled cs rs channel_count; channels = channels_sampled cs rs channel_count } | false ↦ record { good = false; values = replicate channel_count (pos 0); channels = cs } ]).good ≡ b
+    go : (b : Bool) → is_some (elim b as (λ _. Option Samples) [ true ↦ Some (record { values = values_sampled cs rs channel_count; channels = channels_sampled cs rs channel_count }) | false ↦ None ]) ≡ b
     go true = refl
     go false = refl
 
 module _ (s : List ℕ) (st : State) (g : Given) where
   -- what 23 says: not 22, not 20, not 21, and a channel that refuses
   abbrev pub Refuses23 : Type 0
-  Refuses23 = (is_sound s st ≡ true) × (ltb (length g.buffer) buffer_size ≡ false) × (are_inputs g.lent ≡ true) × ((k : ℕ) × (k < channel_count) × ((sampled_at st.channels g.readings k).good ≡ false))
+  Refuses23 = (is_sound s st ≡ true) × (ltb (length g.buffer) buffer_size ≡ false) × (are_inputs g.lent ≡ true) × ((k : ℕ) × (k < channel_count) × (is_some (sampled_at st.channels g.readings k) ≡ false))
 
   stopped-23 : By23 (whole_beat s st g) → Refuses23
   unfolding whole_beat
@@ -107,9 +106,9 @@ module _ (s : List ℕ) (st : State) (g : Given) where
       either P (is_sound s st)
       (λ e. either P (ltb (length g.buffer) buffer_size) (λ l h. absurd (omega arith)) λ l.
       either P (are_inputs g.lent)
-      (λ i. either P (samples_in st g).good
-      (λ w h. absurd (turns-not-23 (all_turns s (sound_lines s) st g) (λ t. record { world = t.world; entries = beat_in g.automatic ∷ t.entries })
-      (turns-by s (sound_lines s).numbers st.cancelled g.automatic (sound_lines s).items (sound_lines s).count 0 (beat_begun st g)) h))
+      (λ i. either P (is_some (samples_in st g))
+      (λ w h. absurd (turns-not-23 (all_turns s (lines_of s) st g) (λ t. record { world = t.world; entries = beat_in g.automatic ∷ t.entries })
+      (turns-by s (lines_of s).numbers st.cancelled g.automatic (lines_of s).items (lines_of s).count 0 (beat_begun st g)) h))
       (λ w h. (e, l, i, refuser st.channels g.readings channel_count (sym (good-is-all st.channels g.readings) ∙ w))))
       (λ i h. absurd (omega arith)))
       (λ e h. absurd (omega arith))
@@ -119,21 +118,21 @@ module _ (s : List ℕ) (st : State) (g : Given) where
   unfolding beat_answer
   only-a-channel-23 h = stopped-23 (go (whole_beat s st g) h)
     where
-      go : (a : Answer Turned) → (turned_answer st (samples_in st g).channels a).code ≡ faulty_channel → By23 a
+      go : (a : Answer Turned) → (turned_answer st (kept_in st g) a).code ≡ faulty_channel → By23 a
       go (good t) e = omega arith
       go (stop c) e = e
 
-  ended-samples : Ended (whole_beat s st g) → (samples_in st g).good ≡ true
+  ended-samples : Ended (whole_beat s st g) → is_some (samples_in st g) ≡ true
   unfolding whole_beat
   ended-samples =
-      let P : Answer Turned → Type 0 = λ a. Ended a → (samples_in st g).good ≡ true in
+      let P : Answer Turned → Type 0 = λ a. Ended a → is_some (samples_in st g) ≡ true in
       either P (is_sound s st)
       (λ e. either P (ltb (length g.buffer) buffer_size) (λ l h. absurd h) λ l.
-      either P (are_inputs g.lent) (λ i. either P (samples_in st g).good (λ w h. w) (λ w h. absurd h)) (λ i h. absurd h))
+      either P (are_inputs g.lent) (λ i. either P (is_some (samples_in st g)) (λ w h. w) (λ w h. absurd h)) (λ i h. absurd h))
       (λ e h. absurd h)
 
   -- where a beat ends well, no channel refused
-  pub good-beat-samples : (beat_answer s st g).code ≡ 0 → (samples_in st g).good ≡ true
+  pub good-beat-samples : (beat_answer s st g).code ≡ 0 → is_some (samples_in st g) ≡ true
   good-beat-samples z = let w = ended-well s st g z in ended-samples (rw w.1 tt)
 
 -- ---- what the channels keep
@@ -143,17 +142,14 @@ pub refused-keeps-channels : (s : List ℕ) (st : State) (g : Given) → (beat_a
 refused-keeps-channels s st g h = ap (λ (x : State). x.channels) (beat-refused s st g h).0
 
 -- one that ends well keeps what the channels made of the readings
-pub good-keeps-samples : (s : List ℕ) (st : State) (g : Given) → (beat_answer s st g).code ≡ 0 → (beat_answer s st g).state.channels ≡ (sampled_all st.channels g.readings).channels
+pub good-keeps-samples : (s : List ℕ) (st : State) (g : Given) → (beat_answer s st g).code ≡ 0 → (beat_answer s st g).state.channels ≡ (channels_kept st.channels (sampled_all st.channels g.readings))
 unfolding beat_answer beat_ended
 good-keeps-samples s st g z = let w = ended-well s st g z in rw w.1
 
-called-refused : (st : State) (f : Found) (change : ℕ → State) → (called st f change).code ≢ 0 → (called st f change).state ≡ st
+called-refused : (st : State) (f : Result ℕ ℕ) (change : ℕ → State) → (called st f change).code ≢ 0 → (called st f change).state ≡ st
 unfolding called
-called-refused st f change = go (eqb f.code 0)
-  where
-    go : (a : Bool) → let c : Called = elim a [ true ↦ record { code = 0; state = change f.rank } | false ↦ record { code = f.code; state = st } ] in c.code ≢ 0 → c.state ≡ st
-    go true h = absurd (h refl)
-    go false h = refl
+called-refused st (Ok k) change h = absurd (h refl)
+called-refused st (Err c) change h = refl
 
 -- lock, unlock, cancel, program end and control reset with a code other than 0: the state as given
 pub lock-refused : (s : List ℕ) (st : State) (n : ℕ) → (lock_call s st n).code ≢ 0 → (lock_call s st n).state ≡ st
@@ -176,7 +172,7 @@ pub control-reset-refused : (s : List ℕ) (st : State) → (control_reset_call 
 unfolding control_reset_call
 control-reset-refused s st = go (is_sound s st)
   where
-    go : (a : Bool) → let c : Called = elim a [ true ↦ record { code = 0; state = control_reset_state (sound_lines s).items (sound_lines s).count st } | false ↦ record { code = unsound; state = st } ] in c.code ≢ 0 → c.state ≡ st
+    go : (a : Bool) → let c : Called = elim a [ true ↦ record { code = 0; state = control_reset_state (lines_of s).items (lines_of s).count st } | false ↦ record { code = unsound; state = st } ] in c.code ≢ 0 → c.state ≡ st
     go true h = absurd (h refl)
     go false h = refl
 
@@ -202,5 +198,5 @@ step-refused s (do_beat g) n h = let p = beat-refused s n.kept g h in (p.0, rw p
 step-refused s (do_lock k) n h = (lock-refused s n.kept k h, noted-refused _ (locks (rank_of s k) true ∷ []) n.history h)
 step-refused s (do_unlock k) n h = (unlock-refused s n.kept k h, noted-refused _ (locks (rank_of s k) false ∷ []) n.history h)
 step-refused s (do_cancel k) n h = (cancel-refused s n.kept k h, noted-refused _ (cancels (rank_of s k) ∷ []) n.history h)
-step-refused s do_program_end n h = (program-end-refused s n.kept h, noted-refused _ (end_entries (sound_lines s) n.kept.cancelled) n.history h)
+step-refused s do_program_end n h = (program-end-refused s n.kept h, noted-refused _ (end_entries (lines_of s) n.kept.cancelled) n.history h)
 step-refused s do_control_reset n h = (control-reset-refused s n.kept h, noted-refused _ (resets ∷ []) n.history h)

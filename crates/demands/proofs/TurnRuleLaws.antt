@@ -15,7 +15,7 @@ use Rattle.working.specs.Working.{condition_value}
 use Rattle.checking.specs.declared.line.Line.{Line}
 use Rattle.engine.specs.declared.set.Lines.{Lines}
 use Rattle.engine.specs.Set.{no_line}
-use Rattle.engine.specs.Action.{World, Note, Did, from_value_or_alarm}
+use Rattle.engine.specs.Action.{World, Note, Did, from_reached}
 use Rattle.engine.specs.Actions.{actions_of}
 use Rattle.engine.specs.Turn.{Entry, worked, locks, lock_entry, Turned, counted, takes_turn, do_turn, try_turn, turn_of, turns_from}
 use Rattle.engine.specs.Keyword.{tries, acts}
@@ -139,7 +139,7 @@ module _ (ls : Lines) where
       try-same =
           choose-by (flagged_turn r) (tries line.keyword (get_or (by_rank (memory_by ls r)) k false)) (tries_by_rule line.keyword k r) _ _ _ _
           (rw memory-at (tries-same line.keyword k r))
-          (λ e. through (flagged_turn r) (from_value_or_alarm (condition_value s x.vars.r x.vars.cells line.condition)) _ _
+          (λ e. through (flagged_turn r) (from_reached (condition_value s x.vars.r x.vars.cells line.condition)) _ _
           (λ a. rw (memory-at, worked-memory ls k (is_yes a.0) r b c, acts-same line.keyword k r (is_yes a.0))
           (do-same line (worked k (is_yes a.0) ∷ []) (acts_by_rule line.keyword k r (is_yes a.0)) refl)))
           (λ e. rw (memory-at, acts-same line.keyword k r false) (do-same line [] (acts_by_rule line.keyword k r false) refl))
@@ -151,7 +151,7 @@ module _ (ls : Lines) where
     unfolding try_by_rule
     try-quiet l =
         either (Ok (Quiet r)) (tries_by_rule l.keyword k r)
-        (λ e. bind_ok (Quiet r) (from_value_or_alarm (condition_value s x.vars.r x.vars.cells l.condition)) _
+        (λ e. bind_ok (Quiet r) (from_reached (condition_value s x.vars.r x.vars.cells l.condition)) _
         (λ a q. do-quiet l (worked k (is_yes a.0) ∷ []) (acts_by_rule l.keyword k r (is_yes a.0)) refl refl))
         (λ e. do-quiet l [] (acts_by_rule l.keyword k r false) refl refl)
 

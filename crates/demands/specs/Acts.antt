@@ -5,7 +5,7 @@ use Rattle.working.specs.Operators.{is_yes}
 use Rattle.working.specs.Working.{condition_value}
 use Rattle.checking.specs.declared.line.Line.{Line}
 use Rattle.engine.specs.ActCount.{is_acted}
-use Rattle.engine.specs.Action.{World, from_value_or_alarm}
+use Rattle.engine.specs.Action.{World, from_reached}
 use Rattle.demands.specs.History.{History, takes_by_rule, tries_by_rule, acts_by_rule}
 use Rattle.soundness.specs.Call.{Call, do_beat, do_lock, do_unlock, do_cancel, do_program_end, do_control_reset}
 use Rattle.demands.specs.Run.{Reply}
@@ -16,7 +16,7 @@ is_yes_answer (good a) = is_yes a.0
 is_yes_answer (stop c) = false
 
 abbrev pub condition_now : List ℕ → Line → World → Bool
-condition_now s l x = is_yes_answer (from_value_or_alarm (condition_value s x.vars.r x.vars.cells l.condition))
+condition_now s l x = is_yes_answer (from_reached (condition_value s x.vars.r x.vars.cells l.condition))
 
 -- by the rule the line of rank k takes a turn, and works its condition, where r is the history so far
 abbrev pub tries_now : Line → ℕ → History → Bool

@@ -1,8 +1,8 @@
 -- What a channel sent in a run: its readings in the beats that ended well, as calls and codes tell it; and what the lines of a set read of it. Definitions only; assumes nothing.
-use Rattle.std.specs.Prelude.{cond, List, [], ◌∷◌, ◌++◌, ℕ, ◌+◌, eqb, get_or}
+use Rattle.std.specs.Prelude.{cond, List, [], ◌∷◌, ◌++◌, ℕ, ◌+◌, eqb, get_or, ℤ, Result}
 use Rattle.couplers.specs.declared.reading.Reading.{Reading}
 use Rattle.couplers.specs.Channel.{no_reading}
-use Rattle.values.specs.declared.arithmetic.Worked.{Worked}
+use Rattle.values.specs.declared.codes.Alarm.{Alarm}
 use Rattle.tokens.specs.Token.{INA}
 use Rattle.working.specs.Variables.{variable_value}
 use Rattle.engine.specs.declared.state.State.{State}
@@ -29,5 +29,5 @@ counted_readings k [] = []
 counted_readings k (x ∷ xs) = counted_readings k xs ++ counted_of k x.0 x.1.code
 
 -- what a line reads as $A_INA[k+1] when the beat begins: what channel k gives
-abbrev pub analogue_in : State → Given → ℕ → Worked
+abbrev pub analogue_in : State → Given → ℕ → Result ℤ Alarm
 analogue_in st g k = variable_value (beat_begun st g).vars.r (beat_begun st g).vars.cells INA (k + 1)

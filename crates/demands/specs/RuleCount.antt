@@ -1,7 +1,7 @@
 -- How often a line acted by the rule since its last start: over a run of the control that keeps no flags, from the load on. Such a count has no top. Definitions only; assumes nothing.
 use Rattle.std.specs.Prelude.{cond, not, ◌&&◌, List, [], ◌∷◌, ℕ, ◌+◌, eqb}
 use Rattle.engine.specs.declared.set.Lines.{Lines}
-use Rattle.engine.specs.Set.{sound_lines}
+use Rattle.engine.specs.Set.{lines_of}
 use Rattle.engine.specs.State.{power_on}
 use Rattle.engine.specs.ActCount.{is_acted}
 use Rattle.soundness.specs.Call.{Call, do_beat, do_lock, do_unlock, do_cancel, do_program_end, do_control_reset}
@@ -26,7 +26,7 @@ acts_then ls k do_control_reset x r a = cond (eqb x.code 0 && not (cancelled_by 
 -- after these calls, from where the control stands on
 unfoldable pub acts_from : List ℕ → ℕ → List Call → Now Rest → ℕ → ℕ
 acts_from s k [] n a = a
-acts_from s k (c ∷ cs) n a = let m = step_by_rule s c n in acts_from s k cs m (acts_then (sound_lines s) k c (newest m.told) m.history a)
+acts_from s k (c ∷ cs) n a = let m = step_by_rule s c n in acts_from s k cs m (acts_then (lines_of s) k c (newest m.told) m.history a)
 
 -- after these calls, from the load on
 abbrev pub acts_since_start : List ℕ → List Call → ℕ → ℕ

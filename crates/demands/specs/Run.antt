@@ -1,6 +1,6 @@
 -- The engine's run from a load on, and the run of a control that keeps no flags: it has the rest of the state and the history, and decides by the rule alone.
 -- Definitions only; assumes nothing.
-use Rattle.std.specs.Prelude.{Bool, true, false, cond, not, ◌&&◌, ◌||◌, List, [], ◌∷◌, ◌++◌, map, ℕ, zero, suc, ◌+◌, ◌/◌, eqb, ltb, ℤ, length, get_or}
+use Rattle.std.specs.Prelude.{Bool, true, false, cond, not, ◌&&◌, ◌||◌, List, [], ◌∷◌, ◌++◌, map, ℕ, zero, suc, ◌+◌, ◌/◌, eqb, ltb, ℤ, length, get_or, is_some, Option}
 use Rattle.values.specs.Codes.{short_buffer, wrong_numbers, unsound, faulty_channel, unknown_line}
 use Rattle.couplers.specs.declared.channel.Channel.{Channel}
 use Rattle.couplers.specs.declared.channel.Samples.{Samples}
@@ -13,13 +13,13 @@ use Rattle.engine.specs.declared.set.Lines.{Lines}
 use Rattle.engine.specs.declared.state.State.{State}
 use Rattle.engine.specs.declared.one_beat.Beaten.{Beaten}
 use Rattle.engine.specs.declared.calls.Called.{Called}
-use Rattle.engine.specs.Set.{no_line, rank_in, sound_lines}
+use Rattle.engine.specs.Set.{no_line, rank_in, lines_of}
 use Rattle.engine.specs.State.{power_on}
 use Rattle.engine.specs.Sound.{is_sound}
-use Rattle.engine.specs.Action.{World, from_value_or_alarm}
+use Rattle.engine.specs.Action.{World, from_reached}
 use Rattle.engine.specs.Turn.{Entry, beat_in, worked, locks, cancels, resets, Turned, do_turn}
 use Rattle.engine.specs.Order.{order_size}
-use Rattle.engine.specs.Beat.{buffer_size, are_inputs, buffered, beat_answer, beat_buffer, Given, samples_in, beat_begun, beat_ended, whole_beat}
+use Rattle.engine.specs.Beat.{buffer_size, are_inputs, buffered, beat_answer, beat_buffer, Given, samples_in, beat_begun, beat_ended, whole_beat, kept_in}
 use Rattle.engine.specs.Calls.{lock_call, unlock_call, cancel_call, program_end_call, control_reset_state, control_reset_call}
 use Rattle.soundness.specs.Call.{Call, do_beat, do_lock, do_unlock, do_cancel, do_program_end, do_control_reset}
 use Rattle.soundness.specs.ProgramEnd.{live_ids}
@@ -54,7 +54,7 @@ noted c es r = elim (eqb c 0) [ true ↦ after es r | false ↦ r ]
 
 -- the rank of the line with the number n
 abbrev pub rank_of : List ℕ → ℕ → ℕ
-rank_of s n = rank_in (sound_lines s).numbers n 0
+rank_of s n = rank_in (lines_of s).numbers n 0
 
 -- what a program end adds, where these lines are cancelled before it: the cancel of each ID line still live, in rising rank
 abbrev pub end_entries : Lines → List Bool → List Entry
@@ -80,7 +80,7 @@ step s (do_beat g) n = beaten g (beat_answer s n.kept g) (beat_buffer s n.kept g
 step s (do_lock k) n = hosted (do_lock k) (lock_call s n.kept k) (locks (rank_of s k) true ∷ []) n
 step s (do_unlock k) n = hosted (do_unlock k) (unlock_call s n.kept k) (locks (rank_of s k) false ∷ []) n
 step s (do_cancel k) n = hosted (do_cancel k) (cancel_call s n.kept k) (cancels (rank_of s k) ∷ []) n
-step s do_program_end n = hosted do_program_end (program_end_call s n.kept) (end_entries (sound_lines s) n.kept.cancelled) n
+step s do_program_end n = hosted do_program_end (program_end_call s n.kept) (end_entries (lines_of s) n.kept.cancelled) n
 step s do_control_reset n = hosted do_control_reset (control_reset_call s n.kept) (resets ∷ []) n
 
 -- the calls, one after the other
@@ -148,7 +148,7 @@ unfoldable pub state_by : Lines → Rest → History → State
 state_by ls v r = with_rest v (by_rank (locked_by ls r)) (by_rank (cancelled_by ls r)) (by_rank (memory_by ls r))
 
 -- what the channels make of the readings
-abbrev pub samples_by : Rest → Given → Samples
+abbrev pub samples_by : Rest → Given → Option Samples
 samples_by v g = samples_in (without_flags v) g
 
 -- a beat begins without flags
@@ -157,7 +157,7 @@ begun_by v g = beat_begun (without_flags v) g
 
 -- and leaves none
 unfoldable pub ended_by : Rest → Given → World → Rest
-ended_by v g x = rest_of (beat_ended (without_flags v) (samples_by v g).channels x)
+ended_by v g x = rest_of (beat_ended (without_flags v) (kept_in (without_flags v) g) x)
 
 module _ (s : List ℕ) (ls : Lines) where
   -- the condition, worked if the rule says so; then the actions, if the rule says so (a LOCK in text asks the history which lines are cancelled)
@@ -165,7 +165,7 @@ module _ (s : List ℕ) (ls : Lines) where
   try_by_rule l k r x =
       elim (tries_by_rule l.keyword k r) [
         | true ↦
-            from_value_or_alarm (condition_value s x.vars.r x.vars.cells l.condition) >>= λ a.
+            from_reached (condition_value s x.vars.r x.vars.cells l.condition) >>= λ a.
             do_turn s ls.numbers (by_rank (cancelled_by ls r)) (is_automatic r) l k x (worked k (is_yes a.0) ∷ []) (acts_by_rule l.keyword k r (is_yes a.0))
         | false ↦ do_turn s ls.numbers (by_rank (cancelled_by ls r)) (is_automatic r) l k x [] (acts_by_rule l.keyword k r false)
       ]
@@ -185,16 +185,16 @@ module _ (s : List ℕ) (ls : Lines) where
 -- a beat: 22 is asked of the set, the rest and what the history gives of locks, cancels and memory, then 20, 21 and 23; its first entry is its mode
 unfoldable pub beat_by_rule : List ℕ → Rest → History → Given → Answer Turned
 beat_by_rule s v r g =
-    elim (is_sound s (state_by (sound_lines s) v r)) [
+    elim (is_sound s (state_by (lines_of s) v r)) [
       | true ↦
           elim (ltb (length g.buffer) buffer_size) [
             | true ↦ stop short_buffer
             | false ↦
                 elim (are_inputs g.lent) [
                   | true ↦
-                      elim (samples_by v g).good [
+                      elim (is_some (samples_by v g)) [
                         | true ↦
-                            turns_by_rule s (sound_lines s) (sound_lines s).count 0 (beat_in g.automatic ∷ r) (begun_by v g) >>= λ t.
+                            turns_by_rule s (lines_of s) (lines_of s).count 0 (beat_in g.automatic ∷ r) (begun_by v g) >>= λ t.
                             good (record { world = t.world; entries = beat_in g.automatic ∷ t.entries })
                         | false ↦ stop faulty_channel
                       ]
@@ -207,10 +207,10 @@ beat_by_rule s v r g =
 -- the code of a call that names a line: 22, then 40 for a line that is not in the set or that the history says is cancelled
 unfoldable pub code_by_rule : List ℕ → Rest → History → ℕ → ℕ
 code_by_rule s v r n =
-    elim (is_sound s (state_by (sound_lines s) v r)) [
+    elim (is_sound s (state_by (lines_of s) v r)) [
       | true ↦
-          elim (ltb (rank_of s n) (sound_lines s).count) [
-            | true ↦ elim (is_cancelled (get_or (sound_lines s).items (rank_of s n) no_line).ids (rank_of s n) r) [ true ↦ unknown_line | false ↦ 0 ]
+          elim (ltb (rank_of s n) (lines_of s).count) [
+            | true ↦ elim (is_cancelled (get_or (lines_of s).items (rank_of s n) no_line).ids (rank_of s n) r) [ true ↦ unknown_line | false ↦ 0 ]
             | false ↦ unknown_line
           ]
       | false ↦ unsound
@@ -218,7 +218,7 @@ code_by_rule s v r n =
 
 -- the code of a program end: 22 or 0
 unfoldable pub end_code_by_rule : List ℕ → Rest → History → ℕ
-end_code_by_rule s v r = elim (is_sound s (state_by (sound_lines s) v r)) [ true ↦ 0 | false ↦ unsound ]
+end_code_by_rule s v r = elim (is_sound s (state_by (lines_of s) v r)) [ true ↦ 0 | false ↦ unsound ]
 
 -- a host's call with the code k leaves the rest as it was
 abbrev pub hosted_by_rule : Call → ℕ → List Entry → Now Rest → Now Rest
@@ -240,8 +240,8 @@ cleared v ls r = rest_of (control_reset_state ls.items ls.count (state_by ls v r
 -- a control reset: one entry, and the rest cleared
 unfoldable pub control_reset_by_rule : List ℕ → Now Rest → Now Rest
 control_reset_by_rule s n =
-    elim (is_sound s (state_by (sound_lines s) n.kept n.history)) [
-      | true ↦ record { kept = cleared n.kept (sound_lines s) n.history; history = resets ∷ n.history; told = (do_control_reset, coded 0) ∷ n.told }
+    elim (is_sound s (state_by (lines_of s) n.kept n.history)) [
+      | true ↦ record { kept = cleared n.kept (lines_of s) n.history; history = resets ∷ n.history; told = (do_control_reset, coded 0) ∷ n.told }
       | false ↦ record { kept = n.kept; history = n.history; told = (do_control_reset, coded unsound) ∷ n.told }
     ]
 
@@ -251,7 +251,7 @@ step_by_rule s (do_beat g) n = beaten_by_rule g (beat_by_rule s n.kept n.history
 step_by_rule s (do_lock k) n = hosted_by_rule (do_lock k) (code_by_rule s n.kept n.history k) (locks (rank_of s k) true ∷ []) n
 step_by_rule s (do_unlock k) n = hosted_by_rule (do_unlock k) (code_by_rule s n.kept n.history k) (locks (rank_of s k) false ∷ []) n
 step_by_rule s (do_cancel k) n = hosted_by_rule (do_cancel k) (code_by_rule s n.kept n.history k) (cancels (rank_of s k) ∷ []) n
-step_by_rule s do_program_end n = hosted_by_rule do_program_end (end_code_by_rule s n.kept n.history) (end_entries (sound_lines s) (by_rank (cancelled_by (sound_lines s) n.history))) n
+step_by_rule s do_program_end n = hosted_by_rule do_program_end (end_code_by_rule s n.kept n.history) (end_entries (lines_of s) (by_rank (cancelled_by (lines_of s) n.history))) n
 step_by_rule s do_control_reset n = control_reset_by_rule s n
 
 -- the calls, one after the other

@@ -1,34 +1,27 @@
--- Laws of actions in a row: what each turn of the loop comes to.
-use mathlib.Core.Path.{◌≡◌, refl, ap, ◌∙◌}
-use mathlib.Core.Bool.{Bool, true, false}
-use mathlib.Core.List.{List, ◌++◌}
-use Prim.Native.Nat.{ℕ, zero, suc, ◌-◌, ◌<◌, ◌≤◌}
-use native.Mathlib.Omega.{arith}
-use lib.Dec.{eqb}
-use lib.ListN.{get_or}
-use borrow.Author.Tests.{ne_eqb}
+-- Laws of actions in a row: what each round of the loop comes to.
+use Rattle.std.specs.Prelude.{◌≡◌, refl, Bool, true, false, List, ◌++◌, ℕ, zero, suc, ◌-◌, ◌<◌, ◌≤◌, eqb, get_or}
+use Rattle.std.proofs.Common.{sym, ap, ◌∙◌, arith, ne_eqb}
 use Rattle.values.specs.Codes.{unsound}
 use Rattle.values.specs.Numbers.{clash}
 use Rattle.tokens.specs.Token.{END}
 use Rattle.tokens.specs.Descent.{Answer, good, stop, ◌>>=◌}
-use Rattle.engine.specs.declared.action.Done.{Done}
-use Rattle.engine.specs.Action.{World, Did, action_of}
+use Rattle.engine.specs.Action.{World, Did, Note, action_of}
 use Rattle.engine.specs.Actions.{actions_of}
-use Rattle.engine.specs.ActionAnswers.{IsDone}
 
 -- what they come to, apart from what is written down
 abbrev pub came : Answer Did → Answer (World × ℕ)
 came (good d) = good (d.world, d.next)
 came (stop k) = stop k
 
--- what holds what one comes to holds what the other comes to
-pub all_come : (x : Done) (v : World) (y z : Answer Did) → came y ≡ came z → IsDone x v y → IsDone x v z
-all_come x v (good d) (good e) q h =
-    let w : ◌≡◌ {A = World × ℕ} (d.world, d.next) (e.world, e.next) = cc in
-    (h.0, (h.1.0 ∙ ap (λ (z : World × ℕ). z.1) w, h.1.1 ∙ ap (λ (z : World × ℕ). z.0) w))
-all_come x v (good d) (stop k) q h = clash (cc)
-all_come x v (stop k) (good e) q h = clash (cc)
-all_come x v (stop k) (stop l) q h = (h.0, h.1 ∙ (cc))
+came-good : (z : Answer Did) {w : World} {q : ℕ} → came z ≡ good (w, q) → (ns : List Note) × (z ≡ good (record { world = w; next = q; notes = ns }))
+came-good (good d) {w} {q} e =
+    let p : ◌≡◌ {A = World × ℕ} (d.world, d.next) (w, q) = cc in
+    (d.notes, ap (λ (x : World × ℕ). good (record { world = x.0; next = x.1; notes = d.notes })) p)
+came-good (stop k) e = clash (cc)
+
+came-stop : (z : Answer Did) {k : ℕ} → came z ≡ stop k → z ≡ stop k
+came-stop (good d) e = clash (cc)
+came-stop (stop l) e = cc
 
 module _ (s numbers : List ℕ) (cancelled : List Bool) (number : ℕ) where
   -- what follows an action, with j more allowed
@@ -39,11 +32,12 @@ module _ (s numbers : List ℕ) (cancelled : List Bool) (number : ℕ) where
         | false ↦ actions_of s numbers cancelled number j d.world d.next >>= λ e. good (record { world = e.world; next = e.next; notes = d.notes ++ e.notes })
       ]
 
-  module _ (x : World) (p : ℕ) where
-    pub acts-none : (j : ℕ) → j ≤ 0 → actions_of s numbers cancelled number j x p ≡ stop unsound
+  -- the actions left, at most j of them, come to what all of them come to
+  module _ (x : World) (p : ℕ) (all : Answer Did) where
+    pub none-left : (j : ℕ) → came (actions_of s numbers cancelled number j x p) ≡ came all → j ≤ 0 → all ≡ stop unsound
     unfolding actions_of
-    acts-none zero h = refl
-    acts-none (suc j) h = absurd (omega arith)
+    none-left zero i h = came-stop all (sym i)
+    none-left (suc j) i h = absurd (omega arith)
 
     -- an action, then what follows it
     first : {y : Answer Did} → action_of s numbers cancelled number x p ≡ y → (j : ℕ) → 0 < j → actions_of s numbers cancelled number j x p ≡ (y >>= after (j - 1))
@@ -51,18 +45,24 @@ module _ (s numbers : List ℕ) (cancelled : List Bool) (number : ℕ) where
     first e zero h = absurd (omega arith)
     first e (suc j) h = let q : suc j - 1 ≡ j = omega arith in rw (q, ← e)
 
-    pub acts-stop : {k : ℕ} → action_of s numbers cancelled number x p ≡ stop k → (j : ℕ) → 0 < j → actions_of s numbers cancelled number j x p ≡ stop k
-    acts-stop e j h = first e j h
+    module _ (j : ℕ) (i : came (actions_of s numbers cancelled number j x p) ≡ came all) (h : 0 < j) where
+      -- its alarm ends them
+      pub stops-here : {k : ℕ} → action_of s numbers cancelled number x p ≡ stop k → all ≡ stop k
+      stops-here e = came-stop all (sym i ∙ ap came (first e j h))
 
-    module _ (d : Did) (e : action_of s numbers cancelled number x p ≡ good d) (j : ℕ) (h : 0 < j) where
-      pub acts-end : get_or s d.next 0 ≡ END → actions_of s numbers cancelled number j x p ≡ good d
-      unfolding after
-      acts-end t = first e j h ∙ simp (after, t)
+      module _ {w : World} {q : ℕ} (e : (ns : List Note) × (action_of s numbers cancelled number x p ≡ good (record { world = w; next = q; notes = ns }))) where
+        -- it is the last of them
+        pub ends-here : get_or s q 0 ≡ END → (ns : List Note) × (all ≡ good (record { world = w; next = q; notes = ns }))
+        unfolding after
+        ends-here t = came-good all (sym i ∙ ap came (first e.1 j h) ∙ simp (after, t))
 
-      pub acts-on : (get_or s d.next 0 ≡ END → ⊥) → came (actions_of s numbers cancelled number (j - 1) d.world d.next) ≡ came (actions_of s numbers cancelled number j x p)
-      unfolding after
-      acts-on t = rw (first e j h) (simp (after, ne_eqb (get_or s d.next 0) END t) (go (actions_of s numbers cancelled number (j - 1) d.world d.next)))
-        where
-          go : (y : Answer Did) → came y ≡ came (y >>= λ b. good (record { world = b.world; next = b.next; notes = d.notes ++ b.notes }))
-          go (good b) = refl
-          go (stop k) = refl
+        -- there are more
+        pub goes-on : (get_or s q 0 ≡ END → ⊥) → came (actions_of s numbers cancelled number (j - 1) w q) ≡ came all
+        unfolding after
+        goes-on t =
+            let k : after (j - 1) (record { world = w; next = q; notes = e.0 }) ≡ (actions_of s numbers cancelled number (j - 1) w q >>= λ b. good (record { world = b.world; next = b.next; notes = e.0 ++ b.notes })) = simp (after, ne_eqb (get_or s q 0) END t) in
+            go (actions_of s numbers cancelled number (j - 1) w q) ∙ sym (ap came k) ∙ sym (ap came (first e.1 j h)) ∙ i
+          where
+            go : (y : Answer Did) → came y ≡ came (y >>= λ b. good (record { world = b.world; next = b.next; notes = e.0 ++ b.notes }))
+            go (good b) = refl
+            go (stop k) = refl

@@ -8,8 +8,8 @@ use lib.Dec.{eqb}
 use borrow.Author.Tests.{eqb-true, ne_eqb}
 use Rattle.values.specs.Choice.{chosen, refused, contrary}
 use Rattle.values.specs.Curve.{curve_of}
-use Rattle.values.specs.declared.arithmetic.Worked.{Worked}
-use Rattle.values.specs.declared.arithmetic.Worked.TheVariants.{Value, Alarm}
+use Rattle.std.specs.Prelude.{ℤ, Result, Ok, Err}
+use Rattle.values.specs.declared.codes.Alarm.{Alarm}
 use Rattle.values.specs.declared.curve.Curve.{Curve}
 use Rattle.tokens.specs.Token.{END, IN, IM, SYNFCT, is_variable, is_drive, whole}
 use Rattle.tokens.specs.Descent.{token, Answer, good, ◌>>=◌, index_at}
@@ -19,7 +19,7 @@ use Rattle.working.specs.Working.{variable_at}
 use Rattle.engine.specs.declared.action.Target.{Target}
 use Rattle.engine.specs.Action.{World, Taken, Did, did, with_vars, curve_assigned, synfct_of, assignment_of, drive_of, command_of, action_of}
 use Rattle.engine.specs.Assigned.{is_assigned, curve_where, curve_value, curve_taken, taken_for, target_of, assigned_of}
-use Rattle.engine.specs.Set.{curve_line}
+use Rattle.engine.specs.Set.{defined_curve}
 use Rattle.engine.specs.Write.{write_to}
 
 module _ (s : List ℕ) (x : World) where
@@ -33,7 +33,7 @@ module _ (s : List ℕ) (x : World) where
   synfct-written p = go (variable_at s x.vars.r x.vars.cells (p + 9))
     where
       c : Curve
-      c = (curve_line s (whole (token s (p + 2)))).curve
+      c = (defined_curve s (whole (token s (p + 2))))
 
       w : ℕ
       w = token s (p + 4)
@@ -41,13 +41,13 @@ module _ (s : List ℕ) (x : World) where
       i : ℕ
       i = index_at s (token s (p + 4)) (p + 4)
 
-      worked : (y : Worked) → written w i (from_worked y >>= λ z. good (record { value = z; vars = x.vars; next = p + 14 })) ≡ (from_worked y >>= (λ z. write_to x.vars w i z) >>= λ v. did (p + 14) (with_vars x v))
-      worked (Value z) = refl
-      worked (Alarm k) = refl
+      worked : (y : Result ℤ Alarm) → written w i (from_worked y >>= λ z. good (record { value = z; vars = x.vars; next = p + 14 })) ≡ (from_worked y >>= (λ z. write_to x.vars w i z) >>= λ v. did (p + 14) (with_vars x v))
+      worked (Ok z) = refl
+      worked (Err k) = refl
 
-      go : (v : Worked) → written w i (from_worked (curve_where c v) >>= λ z. good (record { value = z; vars = x.vars; next = p + 14 })) ≡ (from_worked v >>= λ a. curve_assigned x.vars c a w i >>= λ u. did (p + 14) (with_vars x u))
-      go (Value a) = worked (curve_of c a)
-      go (Alarm k) = refl
+      go : (v : Result ℤ Alarm) → written w i (from_worked (curve_where c v) >>= λ z. good (record { value = z; vars = x.vars; next = p + 14 })) ≡ (from_worked v >>= λ a. curve_assigned x.vars c a w i >>= λ u. did (p + 14) (with_vars x u))
+      go (Ok a) = worked (curve_of c a)
+      go (Err k) = refl
 
   -- over a target and over what is assigned
   written_as : {t u : Target} {a b : Answer Taken} → t ≡ u → a ≡ b → written t.word t.index a ≡ written u.word u.index b

@@ -1,23 +1,26 @@
 -- Laws of the lines of a set: a turn of each loop over them or over the tokens of one, and over its curves.
+use Rattle.std.specs.Prelude.{Ok, Err}
 use mathlib.Core.Path.{◌≡◌, refl, sym, ap, ◌∙◌}
 use mathlib.Core.Bool.{Bool, true, false}
-use mathlib.Core.List.{List, map}
+use mathlib.Core.List.{List}
 use Prim.Native.Nat.{ℕ, zero, suc, ◌+◌, ◌-◌, ◌<◌, ◌≤◌}
 use native.Mathlib.Omega.{arith}
-use native.Mathlib.Nat.{sub-zero}
 use native.Mathlib.Numerals.{add-one}
-use lib.Dec.{eqb, leb}
-use lib.ListN.{length, drop, get_or, set, replicate, drop_of_length-le}
+use lib.Dec.{eqb}
+use Rattle.std.specs.Prelude.{[], ◌∷◌, Some, None, unwrap_or, nat_eq, nat_lt, cond, not}
+use Rattle.std.specs.List.{position, position_or_len}
+use Rattle.std.proofs.lemmas.List.Sums.{prefix_len-le-length}
+use Rattle.std.proofs.Common.{ltb-false}
+use lib.ListN.{length, drop, get_or, set, drop_of_length-le, get_or-eq_default}
 use lib.Seq.{drop-cons}
 use borrow.Author.Tests.{lt-ltb, le-ltb, eq-eqb, ne_eqb}
 use Rattle.checking.specs.declared.line.Line.{Line}
-use Rattle.tokens.specs.Token.{END, is_naming, whole, set_size, max_lines, max_curves}
+use Rattle.tokens.specs.Token.{END, is_naming, whole, set_size, max_curves}
 use Rattle.checking.specs.Fault.{line_at}
 use Rattle.engine.specs.declared.set.Lines.{Lines}
-use Rattle.values.specs.PutAt.{put_at}
-use Rattle.engine.specs.SetLinesLaws.{Lined}
+use Rattle.engine.specs.SetLinesLaws.{Lined, read-lined}
 use Rattle.engine.specs.NamesByTreeLaws.{no_names}
-use Rattle.engine.specs.Set.{line_count, start_of, without_mark, with_end, line_of, no_line, no_lines, lines_from, lines_read, curve_start, rank_in, names_known, set_table, all_known, is_curve, curves_sound, named_lines, sound_lines}
+use Rattle.engine.specs.Set.{start_of, line_of, no_line, lines_from, lines_read, curve_start, rank_in, names_known, all_known, is_curve, curves_sound}
 
 one_less : (k : ℕ) → suc k - 1 ≡ k
 one_less k = omega arith
@@ -25,30 +28,6 @@ one_less k = omega arith
 -- what is left of n before rank k
 pub turn : (n k : ℕ) → k < n → n - k ≡ suc (n - (k + 1))
 turn n k h = omega arith
-
--- ---- tokens that are put into a set: those from place i on at place p
-
-module _ (ts s : List ℕ) (p i : ℕ) where
-  pub tokens-next : i < length ts → put_at s p (with_end (map without_mark (drop i ts))) ≡ put_at (set s p (without_mark (get_or ts i 0))) (p + 1) (with_end (map without_mark (drop (i + 1) ts)))
-  tokens-next h = rw (drop-cons ts i 0 h, add-one i)
-
-  pub tokens-end : length ts ≤ i → put_at s p (with_end (map without_mark (drop i ts))) ≡ set s p END
-  tokens-end h = rw (drop_of_length-le ts {i = i} h)
-
--- ---- the rank of a number
-
-module _ (ns : List ℕ) (n k : ℕ) where
-  pub rank-here : k < length ns → get_or ns k 0 ≡ n → rank_in (drop k ns) n k ≡ k
-  unfolding rank_in
-  rank-here h e = rw (drop-cons ns k 0 h, rank_in, eq-eqb (get_or ns k 0) n e)
-
-  pub rank-on : k < length ns → (get_or ns k 0 ≡ n → ⊥) → rank_in (drop k ns) n k ≡ rank_in (drop (k + 1) ns) n (k + 1)
-  unfolding rank_in
-  rank-on h f = rw (drop-cons ns k 0 h, rank_in, ne_eqb (get_or ns k 0) n f, add-one k)
-
-  pub rank-none : length ns ≤ k → rank_in (drop k ns) n k ≡ k
-  unfolding rank_in
-  rank-none h = rw (drop_of_length-le ns {i = k} h)
 
 -- ---- the names of a line, from place p on with `left` places left; t is the token at p
 
@@ -79,10 +58,10 @@ module _ (s : List ℕ) (known : ℕ → ℕ → Bool) (p t : ℕ) (e : t ≡ ge
       names-on z zero l = absurd (omega arith)
       names-on z (suc m) l = rw (one_less m) (simp (names_known, ne_eqb (get_or s p 0) END (λ z. f (e ∙ z)), ap is_naming (sym e) ∙ h, told ∙ z))
 
-pub names-none : (s : List ℕ) (known : ℕ → ℕ → Bool) (p left : ℕ) → left ≤ 0 → names_known s known left p ≡ true
+pub names-past : (s : List ℕ) (known : ℕ → ℕ → Bool) (p : ℕ) → length s ≤ p → (left : ℕ) → names_known s known left p ≡ true
 unfolding names_known
-names-none s known p zero h = refl
-names-none s known p (suc m) h = absurd (omega arith)
+names-past s known p h zero = refl
+names-past s known p h (suc m) = let e : get_or s p 0 ≡ END = get_or-eq_default s 0 {n = p} h in rw (names_known, eq-eqb (get_or s p 0) END e)
 
 -- ---- the names of the lines of n from rank k on; p is where that line begins
 
@@ -100,7 +79,7 @@ module _ (s : List ℕ) (known : ℕ → ℕ → Bool) (k n p : ℕ) (x : Bool) 
 
 -- a line in which no action names a line
 pub known-unnamed : (s : List ℕ) (known : ℕ → ℕ → Bool) {l : Lines} → length s ≤ set_size → Lined s l → (k : ℕ) → k < l.count → {p : ℕ} → p ≡ start_of s k → (get_or l.items k no_line).names ≡ false → names_known s known set_size p ≡ true
-known-unnamed s known size h k b e z = rw e (no_names s known (start_of s k) size (h.listed.faultless k b) (ap (λ (x : Line). x.names) (sym (h.listed.item k b)) ∙ z))
+known-unnamed s known {l} size h k b e z = rw e (no_names s known (start_of s k) size (get_or l.items k no_line) (h.listed.item k b) z)
 
 pub known-none : (s : List ℕ) (known : ℕ → ℕ → Bool) (k m : ℕ) → m ≤ 0 → all_known s known m k ≡ true
 unfolding all_known
@@ -110,38 +89,22 @@ known-none s known k (suc m) h = absurd (omega arith)
 -- ---- the lines of n from rank k on; x is that line, which begins at p
 
 module _ (s : List ℕ) (k last n : ℕ) (ns : List ℕ) (ls : List Line) where
-  module _ (p : ℕ) (q : p ≡ start_of s k) (x : Line) (g : x ≡ line_at s p) (l : k < n) where
-    this : x ≡ line_of s k
-    this = g ∙ ap (line_at s) q
-
-    pub lines-fault : (x.fault ≡ 0 → ⊥) → lines_from s (n - k) k last ns ls ≡ no_lines
+  module _ (p : ℕ) (q : p ≡ start_of s k) (l : k < n) where
+    pub lines-fault : (c : ℕ) → Err c ≡ line_at s p → lines_from s (n - k) k last ns ls ≡ None
     unfolding lines_from
-    lines-fault f = rw (turn n k l) (simp (lines_from, ne_eqb (line_of s k).fault 0 (λ z. f (ap (λ (y : Line). y.fault) this ∙ z))))
+    lines-fault c g = let this : line_of s k ≡ Err c = rw (← q) (sym g) in rw (turn n k l) (simp (lines_from, this))
 
-    module _ (z : x.fault ≡ 0) where
-      sane : eqb (line_of s k).fault 0 ≡ true
-      sane = eq-eqb (line_of s k).fault 0 (ap (λ (y : Line). y.fault) (sym this) ∙ z)
+    module _ (x : Line) (g : Ok x ≡ line_at s p) where
+      this : line_of s k ≡ Ok x
+      this = rw (← q) (sym g)
 
-      pub lines-order : x.number ≤ last → lines_from s (n - k) k last ns ls ≡ no_lines
+      pub lines-order : x.number ≤ last → lines_from s (n - k) k last ns ls ≡ None
       unfolding lines_from
-      lines-order h = rw (turn n k l) (simp (lines_from, sane, le-ltb last (line_of s k).number (rw this at h)))
+      lines-order h = rw (turn n k l) (simp (lines_from, this, le-ltb last x.number h))
 
       pub lines-on : last < x.number → lines_from s (n - k) k last ns ls ≡ lines_from s (n - (k + 1)) (k + 1) x.number (set ns k x.number) (set ls k x)
       unfolding lines_from
-      lines-on h = rw (turn n k l, this) (simp (lines_from, sane, lt-ltb last (line_of s k).number (rw this at h)))
-
-  pub lines_none : (m : ℕ) → m ≤ 0 → lines_from s m k last ns ls ≡ record { sound = true; count = k; numbers = ns; items = ls }
-  unfolding lines_from
-  lines_none zero h = refl
-  lines_none (suc m) h = absurd (omega arith)
-
-pub read-many : (s : List ℕ) → max_lines < line_count s → lines_read s ≡ no_lines
-unfolding lines_read
-read-many s h = rw (lines_read, lt-ltb max_lines (line_count s) h)
-
-pub read-few : (s : List ℕ) (n : ℕ) → n ≡ line_count s → n ≤ max_lines → lines_from s (n - 0) 0 0 (replicate max_lines 0) (replicate max_lines no_line) ≡ lines_read s
-unfolding lines_read
-read-few s n e h = rw (sub-zero, e, lines_read, le-ltb max_lines (line_count s) (rw e at h))
+      lines-on h = rw (turn n k l) (simp (lines_from, this, lt-ltb last x.number h))
 
 -- ---- the curves from curve n on, where the set has k lines before them; it begins at p
 
@@ -154,37 +117,47 @@ module _ (s : List ℕ) (n k p : ℕ) (l : n ≤ max_curves) (e : p ≡ curve_st
   curves-none h = rw next (simp (curves_sound, le-ltb 0 (curve_start s n) (rw e at h)))
 
   module _ (h : 0 < p) (x : Bool) (g : x ≡ is_curve s n) where
-    pub curves-wrong : x ≡ false → curves_sound s (suc max_curves - n) n k ≡ false
-    unfolding curves_sound
-    curves-wrong z = rw next (simp (curves_sound, lt-ltb 0 (curve_start s n) (rw e at h), sym g ∙ z))
-
     pub curves-on : x ≡ true → curves_sound s (suc max_curves - n) n k ≡ curves_sound s (suc max_curves - (n + 1)) (n + 1) (k + 1)
     unfolding curves_sound
     curves-on z = rw next (simp (curves_sound, lt-ltb 0 (curve_start s n) (rw e at h), sym g ∙ z))
 
-pub curves-end : (s : List ℕ) (n k m : ℕ) → m ≤ 0 → curves_sound s m n k ≡ leb k max_lines
-unfolding curves_sound
-curves-end s n k zero h = refl
-curves-end s n k (suc m) h = absurd (omega arith)
+-- ---- the lines of a set that are read
 
--- ---- the lines of a set that passes each check
+pub some-lined : (s : List ℕ) (l : Lines) → Some l ≡ lines_read s → Lined s l
+some-lined s l e = rw (sym e) at (read-lined s)
 
-module _ (s : List ℕ) (l : Lines) (e : l ≡ lines_read s) (x : Bool) (f : x ≡ curves_sound s max_curves 1 l.count) where
-  curved : curves_sound s max_curves 1 (lines_read s).count ≡ x
-  curved = ap (λ (y : Lines). curves_sound s max_curves 1 y.count) (sym e) ∙ sym f
+-- ---- the rank of a number
 
-  pub curves-not : x ≡ false → sound_lines s ≡ no_lines
-  unfolding sound_lines
-  curves-not z = rw (sound_lines, curved ∙ z)
+module _ (ns : List ℕ) (n k : ℕ) where
+  pub rank-here : k < length ns → get_or ns k 0 ≡ n → rank_in (drop k ns) n k ≡ k
+  unfolding rank_in
+  rank-here h e = rw (drop-cons ns k 0 h, rank_in, eq-eqb (get_or ns k 0) n e)
 
-  module _ (c : x ≡ true) (b : Bool) (g : b ≡ all_known s (set_table s l.numbers) l.count 0) where
-    all_named : all_known s (set_table s (lines_read s).numbers) (lines_read s).count 0 ≡ b
-    all_named = ap (λ (y : Lines). all_known s (set_table s y.numbers) y.count 0) (sym e) ∙ sym g
+  pub rank-on : k < length ns → (get_or ns k 0 ≡ n → ⊥) → rank_in (drop k ns) n k ≡ rank_in (drop (k + 1) ns) n (k + 1)
+  unfolding rank_in
+  rank-on h f = rw (drop-cons ns k 0 h, rank_in, ne_eqb (get_or ns k 0) n f, add-one k)
 
-    pub named-not : b ≡ false → sound_lines s ≡ no_lines
-    unfolding sound_lines named_lines
-    named-not z = rw (sound_lines, curved ∙ c, named_lines, all_named ∙ z)
+  pub rank-none : length ns ≤ k → rank_in (drop k ns) n k ≡ k
+  unfolding rank_in
+  rank-none h = rw (drop_of_length-le ns {i = k} h)
 
-    pub named-all : b ≡ true → sound_lines s ≡ l
-    unfolding sound_lines named_lines
-    named-all z = rw (sound_lines, curved ∙ c, named_lines, all_named ∙ z) (sym e)
+-- it is its position, past the last if there is none
+position-from : (ns : List ℕ) (n k : ℕ) → rank_in ns n k ≡ k + position_or_len (λ x. nat_eq x n) ns
+unfolding rank_in
+position-from [] n k = omega arith
+position-from (x ∷ ns) n k = go (eqb x n) (position-from ns n (k + 1))
+  where
+    go : (b : Bool) → rank_in ns n (k + 1) ≡ k + 1 + position_or_len (λ y. nat_eq y n) ns → elim b [ true ↦ k | false ↦ rank_in ns n (k + 1) ] ≡ k + cond (not b) (1 + position_or_len (λ y. nat_eq y n) ns) 0
+    go true e = omega arith
+    go false e = e ∙ omega arith
+
+pub rank_position : (ns : List ℕ) (n k : ℕ) → length ns ≡ k → unwrap_or (position (λ x. nat_eq x n) ns) k ≡ rank_in ns n 0
+rank_position ns n k e =
+    ap (λ (j : ℕ). unwrap_or (position (λ x. nat_eq x n) ns) j) (sym e) ∙ go (position_or_len (λ x. nat_eq x n) ns) (prefix_len-le-length _ ns) ∙ sym (position-from ns n 0 ∙ omega arith)
+  where
+    by_test : (p : ℕ) → p ≤ length ns → (b : Bool) → nat_lt p (length ns) ≡ b → unwrap_or (cond b (Some p) None) (length ns) ≡ p
+    by_test p h true e = refl
+    by_test p h false e = let n = ltb-false p (length ns) e in omega arith
+
+    go : (p : ℕ) → p ≤ length ns → unwrap_or (cond (nat_lt p (length ns)) (Some p) None) (length ns) ≡ p
+    go p h = by_test p h (nat_lt p (length ns)) refl

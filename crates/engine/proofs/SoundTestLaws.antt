@@ -1,6 +1,6 @@
 -- Laws of soundness: a turn of a loop that tests each element of a list, and of one that counts, over the ranks or the FIFOs.
 use mathlib.Core.Path.{◌≡◌, refl, sym, ap, ◌∙◌}
-use mathlib.Core.Bool.{Bool, true, false, cond, ◌&&◌, ◌||◌}
+use mathlib.Core.Bool.{Bool, true, false, ◌&&◌}
 use mathlib.Core.List.{List, ◌∷◌}
 use Prim.Native.Nat.{ℕ, zero, suc, ◌+◌, ◌-◌, ◌<◌, ◌≤◌}
 use native.Mathlib.Omega.{arith}
@@ -8,17 +8,11 @@ use native.Mathlib.Numerals.{add-one}
 use lib.IntN.{ℤ, pos}
 use lib.ListN.{length, drop, get_or, drop_of_length-le}
 use lib.Seq.{drop-cons}
-use Rattle.values.specs.Codes.{not_allowed}
-use Rattle.values.specs.Numbers.{clash}
-use Rattle.values.specs.Value.{in_range, equal_to, output_of}
-use Rattle.values.specs.declared.arithmetic.Worked.TheVariants.{Value, Alarm}
+use Rattle.values.specs.Value.{in_range, equal_to}
 use Rattle.engine.specs.ActCount.{is_act_count, are_act_counts}
-use Rattle.engine.specs.Sound.{all_ranged, is_cell, are_cells, all_zero, is_fifo_sound, are_fifos, is_flag, are_flags, state_sound, is_sound}
+use Rattle.engine.specs.Sound.{all_ranged, is_cell, are_cells, all_zero, is_fifo_sound, are_fifos, is_flag, are_flags}
 use Rattle.tokens.specs.Token.{max_lines}
 use Rattle.working.specs.Variables.{fifos}
-use Rattle.engine.specs.Set.{sound_lines}
-use Rattle.engine.specs.declared.set.Lines.{Lines}
-use Rattle.engine.specs.declared.state.State.{State}
 use Rattle.engine.proofs.SetLaws.{turn}
 
 -- what was said so far, and what is said of the rest
@@ -107,24 +101,3 @@ module _ (count : ℕ) (acts : List ℕ) (k : ℕ) where
   unfolding are_act_counts
   counts-done zero h g = and-done g refl
   counts-done (suc m) h g = absurd (omega arith)
-
--- ---- an output: an alarm of `output` is not 0
-
-pub output-alarm : (v : ℤ) (k : ℕ) → output_of v ≡ Alarm k → k ≡ 0 → ⊥
-unfolding output_of
-output-alarm v k e z = go (equal_to v (pos 0) || equal_to v (pos 1000)) e
-  where
-    go : (b : Bool) → cond b (Value v) (Alarm not_allowed) ≡ Alarm k → ⊥
-    go true q = clash (cc)
-    go false q = let y : not_allowed ≡ k = cc in omega arith
-
--- ---- a set, whose lines are l, and a state, of which x was said
-
-module _ (s : List ℕ) (st : State) (l : Lines) (e : l ≡ sound_lines s) where
-  pub unsound-set : l.sound ≡ false → is_sound s st ≡ false
-  unfolding is_sound
-  unsound-set z = rw (is_sound, ← e, z)
-
-  pub sound-as : l.sound ≡ true → (x : Bool) → x ≡ state_sound l.count st → is_sound s st ≡ x
-  unfolding is_sound
-  sound-as z x g = simp (is_sound, ap (λ (y : Lines). y.sound) (sym e) ∙ z) (ap (λ (y : Lines). state_sound y.count st) (sym e) ∙ sym g)

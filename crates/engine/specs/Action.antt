@@ -1,7 +1,7 @@
 -- An action of a line (document 01, "Lines of text", "Values and time" and "A beat"; document 02, Req 03): what it makes of the variables, the locks and the orders, or its alarm. Definitions only.
-use Rattle.std.specs.Prelude.{Bool, true, false, cond, List, [], ◌∷◌, ◌++◌, ℕ, ◌+◌, eqb, ltb, ℤ, pos, nat_abs, get_or, set}
-use Rattle.values.specs.Codes.{unsound}
-use Rattle.values.specs.Value.{less_than}
+use Rattle.std.specs.Prelude.{Bool, true, false, List, [], ◌∷◌, ◌++◌, ℕ, ◌+◌, eqb, ltb, ℤ, pos, get_or, set, Result, Ok, Err}
+use Rattle.values.specs.Codes.{unsound, code_of}
+use Rattle.values.specs.declared.codes.Alarm.{Alarm}
 use Rattle.values.specs.Curve.{curve_of}
 use Rattle.values.specs.declared.curve.Curve.{Curve}
 use Rattle.engine.specs.Order.{order_bytes}
@@ -12,9 +12,12 @@ use Rattle.tokens.specs.Descent.{token, Answer, good, stop, ◌>>=◌, index_at}
 use Rattle.checking.specs.Fault.{is_removal}
 use Rattle.working.specs.Working.{right_value, variable_at}
 use Rattle.working.specs.Operators.{from_worked}
-use Rattle.working.specs.declared.walk.ValueOrAlarm.{ValueOrAlarm}
-use Rattle.engine.specs.Set.{rank_in, curve_line}
-use Rattle.engine.specs.Write.{Vars, change_fifo, with_changed, write_to}
+use Rattle.engine.specs.Set.{rank_in, defined_curve}
+use Rattle.values.specs.declared.codes.Alarm.{Alarm}
+use Rattle.working.specs.declared.walk.Reached.{Reached}
+use Rattle.engine.specs.declared.write.Change.TheVariants.{Remove}
+use Rattle.engine.specs.declared.write.Vars.{Vars}
+use Rattle.engine.specs.Write.{change_fifo, with_changed, write_to}
 use Rattle.engine.specs.Drive.{drive_order, order_of}
 
 -- the beat under way: the variables, which lines are locked, each line's memory, the word of the lines that acted, and the bytes of the orders so far
@@ -48,12 +51,10 @@ did q x = good (record { world = x; next = q; notes = [] })
 abbrev pub with_vars : World → Vars → World
 with_vars x v = record { vars = v; locked = x.locked; memory = x.memory; acted = x.acted; orders = x.orders }
 
--- the number of an alarm that working gave, never 0
-unfoldable pub alarm_of : ℤ → ℕ
-alarm_of v = cond (less_than v (pos 1)) unsound (cond (less_than (pos 255) v) unsound (nat_abs v))
-
-abbrev pub from_value_or_alarm : ValueOrAlarm → Answer (ℤ × ℕ)
-from_value_or_alarm g = elim g.good [ true ↦ good (g.value, g.next) | false ↦ stop (alarm_of g.value) ]
+-- what working reached, and its alarm
+abbrev pub from_reached : Result Reached Alarm → Answer (ℤ × ℕ)
+from_reached (Ok t) = good (t.value, t.next)
+from_reached (Err a) = stop (code_of a)
 
 abbrev pub with_lock : World → ℕ → Bool → World
 with_lock x k b = record { vars = x.vars; locked = set x.locked k b; memory = x.memory; acted = x.acted; orders = x.orders }
@@ -80,8 +81,8 @@ pub record Taken : Type 0 where
 unfoldable pub taken_at : List ℕ → Vars → ℕ → Answer Taken
 taken_at s x p =
     elim (is_removal s p) [
-      | true ↦ change_fifo x.r x.cells 1 (get_or s p 0) (pos 0) >>= λ a. good (record { value = a.value; vars = with_changed x a; next = p + 4 })
-      | false ↦ from_value_or_alarm (right_value s x.r x.cells p) >>= λ a. good (record { value = a.0; vars = x; next = a.1 })
+      | true ↦ change_fifo x.r x.cells Remove (get_or s p 0) >>= λ a. good (record { value = a.value; vars = with_changed x a; next = p + 4 })
+      | false ↦ from_reached (right_value s x.r x.cells p) >>= λ a. good (record { value = a.0; vars = x; next = a.1 })
     ]
 
 -- variable = sum
@@ -98,7 +99,7 @@ curve_assigned v c x w i = from_worked (curve_of c x) >>= λ y. write_to v w i y
 -- SYNFCT(n,target,variable) where the variable reads a: curve n is worked there, and its result is assigned to the target
 abbrev pub synfct_with : List ℕ → World → ℤ → ℕ → Answer Did
 synfct_with s x a p =
-    curve_assigned x.vars (curve_line s (whole (token s (p + 2)))).curve a (token s (p + 4)) (index_at s (token s (p + 4)) (p + 4)) >>= λ v.
+    curve_assigned x.vars (defined_curve s (whole (token s (p + 2)))) a (token s (p + 4)) (index_at s (token s (p + 4)) (p + 4)) >>= λ v.
     did (p + 14) (with_vars x v)
 
 -- the variable is read first
@@ -110,7 +111,7 @@ unfoldable pub drive_of : List ℕ → ℕ → World → ℕ → ℕ → Answer 
 drive_of s number x w p =
     elim (is_axis (token s (p + 2))) [
       | true ↦
-          from_value_or_alarm (right_value s x.vars.r x.vars.cells (p + 5)) >>= λ a.
+          from_reached (right_value s x.vars.r x.vars.cells (p + 5)) >>= λ a.
           drive_order number w (index_at s w p) a.0 >>= λ o.
           did a.1 (ordered x o)
       | false ↦ stop unsound

@@ -1,8 +1,7 @@
 -- An assignment and SYNFCT as one action, as the code works them: what is assigned, to what, and the write that both end in. Definitions only.
-use Rattle.std.specs.Prelude.{Bool, true, false, ◌||◌, List, ℕ, ◌+◌, eqb, ℤ}
+use Rattle.std.specs.Prelude.{Bool, true, false, ◌||◌, List, ℕ, ◌+◌, eqb, ℤ, Result, Ok, Err}
 use Rattle.values.specs.Curve.{curve_of}
-use Rattle.values.specs.declared.arithmetic.Worked.{Worked}
-use Rattle.values.specs.declared.arithmetic.Worked.TheVariants.{Value, Alarm}
+use Rattle.values.specs.declared.codes.Alarm.{Alarm}
 use Rattle.values.specs.declared.curve.Curve.{Curve}
 use Rattle.tokens.specs.Token.{SYNFCT, is_variable, whole}
 use Rattle.tokens.specs.Descent.{token, Answer, good, ◌>>=◌, index_at}
@@ -10,21 +9,22 @@ use Rattle.working.specs.Operators.{from_worked}
 use Rattle.working.specs.Working.{variable_at}
 use Rattle.engine.specs.declared.action.Target.{Target}
 use Rattle.engine.specs.Action.{World, Taken, Did, did, with_vars, taken_at}
-use Rattle.engine.specs.Set.{curve_line}
-use Rattle.engine.specs.Write.{Vars, write_to}
+use Rattle.engine.specs.Set.{defined_curve}
+use Rattle.engine.specs.Write.{write_to}
+use Rattle.engine.specs.declared.write.Vars.{Vars}
 
 -- the words that such an action begins with
 abbrev pub is_assigned : ℕ → Bool
 is_assigned w = is_variable w || eqb w SYNFCT
 
 -- a curve where a variable reads
-abbrev pub curve_where : Curve → Worked → Worked
-curve_where c (Value a) = curve_of c a
-curve_where c (Alarm k) = Alarm k
+abbrev pub curve_where : Curve → Result ℤ Alarm → Result ℤ Alarm
+curve_where c (Ok a) = curve_of c a
+curve_where c (Err k) = Err k
 
 -- what SYNFCT(n,target,variable) at p assigns
-unfoldable pub curve_value : List ℕ → List ℤ → List ℤ → ℕ → Worked
-curve_value s r c p = curve_where (curve_line s (whole (token s (p + 2)))).curve (variable_at s r c (p + 9))
+unfoldable pub curve_value : List ℕ → List ℤ → List ℤ → ℕ → Result ℤ Alarm
+curve_value s r c p = curve_where (defined_curve s (whole (token s (p + 2)))) (variable_at s r c (p + 9))
 
 -- the same, with the variables and the place behind it
 unfoldable pub curve_taken : List ℕ → Vars → ℕ → Answer Taken

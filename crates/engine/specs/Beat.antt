@@ -1,15 +1,15 @@
 -- A beat: its checks 22, 20, 21, 23 in that order, the turns, and the undoing of all by the first alarm (document 01, "A beat" and "Codes"; document 02, Req 05). Definitions only.
-use Rattle.std.specs.Prelude.{Bool, true, false, ◌&&◌, List, [], ◌∷◌, ◌++◌, ℕ, ◌*◌, ◌/◌, eqb, ltb, ℤ, length, drop}
+use Rattle.std.specs.Prelude.{Bool, true, false, ◌&&◌, List, [], ◌∷◌, ◌++◌, ℕ, ◌*◌, ◌/◌, eqb, ltb, ℤ, length, drop, Option, is_some, unwrap_or}
 use Rattle.values.specs.Codes.{short_buffer, wrong_numbers, unsound, faulty_channel}
 use Rattle.couplers.specs.declared.reading.Reading.{Reading}
 use Rattle.couplers.specs.declared.channel.Channel.{Channel}
 use Rattle.couplers.specs.declared.channel.Samples.{Samples}
-use Rattle.couplers.specs.Channel.{sampled_all}
+use Rattle.couplers.specs.Channel.{sampled_all, values_given, channels_kept}
 use Rattle.tokens.specs.Descent.{Answer, good, stop, ◌>>=◌}
 use Rattle.engine.specs.declared.set.Lines.{Lines}
 use Rattle.engine.specs.declared.state.State.{State}
 use Rattle.engine.specs.declared.one_beat.Beaten.{Beaten}
-use Rattle.engine.specs.Set.{sound_lines}
+use Rattle.engine.specs.Set.{no_lines, lines_of}
 use Rattle.engine.specs.Order.{order_size, max_orders}
 use Rattle.working.specs.Variables.{input_count, position_count}
 use Rattle.tokens.specs.Token.{max_lines}
@@ -36,8 +36,12 @@ pub record Given : Type 0 where
   pub buffer : List ℕ
 
 -- what the channels make of the readings
-abbrev pub samples_in : State → Given → Samples
+abbrev pub samples_in : State → Given → Option Samples
 samples_in st g = sampled_all st.channels g.readings
+
+-- and what they keep after a good beat
+abbrev pub kept_in : State → Given → List Channel
+kept_in st g = channels_kept st.channels (samples_in st g)
 
 -- the beat as it begins, with these analogues and positions
 abbrev pub begun_with : State → ℕ → List ℤ → List ℤ → World
@@ -50,7 +54,7 @@ begun_with st word values lent = record {
 }
 
 unfoldable pub beat_begun : State → Given → World
-beat_begun st g = begun_with st g.word (samples_in st g).values g.lent
+beat_begun st g = begun_with st g.word (values_given (samples_in st g)) g.lent
 
 -- the state as it ends, the channels then keeping these; each line that acted counts one more
 unfoldable pub beat_ended : State → List Channel → World → State
@@ -79,7 +83,7 @@ beat_where sound s ls st g =
             | false ↦
                 elim (are_inputs g.lent) [
                   | true ↦
-                      elim (samples_in st g).good [
+                      elim (is_some (samples_in st g)) [
                         | true ↦ all_turns s ls st g >>= λ t. good (record { world = t.world; entries = beat_in g.automatic ∷ t.entries })
                         | false ↦ stop faulty_channel
                       ]
@@ -89,21 +93,21 @@ beat_where sound s ls st g =
       | false ↦ stop unsound
     ]
 
--- lines that were read before, and a state, are sound
-abbrev pub sound_over : Lines → State → Bool
-sound_over ls st = ls.sound && state_sound ls.count st
+-- there are sound lines, read before, and a state is sound with them
+abbrev pub sound_over : Option Lines → State → Bool
+sound_over ls st = is_some ls && state_sound (unwrap_or ls no_lines).count st
 
 -- a beat over lines that were read before
-unfoldable pub beat_over : List ℕ → Lines → State → Given → Answer Turned
-beat_over s ls st g = beat_where (sound_over ls st) s ls st g
+unfoldable pub beat_over : List ℕ → Option Lines → State → Given → Answer Turned
+beat_over s ls st g = beat_where (sound_over ls st) s (unwrap_or ls no_lines) st g
 
 -- the same, where the caller says whether they are sound: of the state nothing is asked
-unfoldable pub beat_known : Bool → List ℕ → Lines → State → Given → Answer Turned
-beat_known known s ls st g = beat_where (ls.sound && known) s ls st g
+unfoldable pub beat_known : Bool → List ℕ → Option Lines → State → Given → Answer Turned
+beat_known known s ls st g = beat_where (is_some ls && known) s (unwrap_or ls no_lines) st g
 
 -- the beat: that over the set's own lines
 unfoldable pub whole_beat : List ℕ → State → Given → Answer Turned
-whole_beat s st g = beat_where (is_sound s st) s (sound_lines s) st g
+whole_beat s st g = beat_where (is_sound s st) s (lines_of s) st g
 
 -- what the call answers, where the channels keep these after a good beat; a beat that is refused or undone keeps all as it was
 abbrev pub turned_answer : State → List Channel → Answer Turned → Beaten
@@ -116,7 +120,7 @@ buffered b (good t) = t.world.orders ++ drop (length t.world.orders) b
 buffered b (stop k) = b
 
 unfoldable pub beat_answer : List ℕ → State → Given → Beaten
-beat_answer s st g = turned_answer st (samples_in st g).channels (whole_beat s st g)
+beat_answer s st g = turned_answer st (kept_in st g) (whole_beat s st g)
 
 unfoldable pub beat_buffer : List ℕ → State → Given → List ℕ
 beat_buffer s st g = buffered g.buffer (whole_beat s st g)

@@ -1,14 +1,13 @@
 -- The host's calls lock, unlock, cancel, program end and control reset (document 01, "A beat" and "Codes"; document 02, Req 07). Definitions only.
-use Rattle.std.specs.Prelude.{Bool, true, false, cond, not, ◌||◌, List, ◌++◌, ℕ, zero, suc, ◌-◌, eqb, ℤ, pos, get_or, set, take, drop, replicate}
+use Rattle.std.specs.Prelude.{Bool, true, false, cond, not, ◌||◌, List, ◌++◌, ℕ, zero, suc, ◌-◌, ℤ, pos, get_or, set, take, drop, replicate, Result, Ok, Err}
 use Rattle.values.specs.Codes.{unsound}
 use Rattle.checking.specs.declared.line.Line.{Line}
 use Rattle.engine.specs.declared.state.State.{State}
 use Rattle.engine.specs.declared.calls.Called.{Called}
-use Rattle.engine.specs.declared.named_line.Found.{Found}
 use Rattle.engine.specs.NamedLine.{found}
 use Rattle.tokens.specs.Token.{max_lines}
 use Rattle.working.specs.Variables.{timer_count, marker_at, count_at}
-use Rattle.engine.specs.Set.{no_line, sound_lines}
+use Rattle.engine.specs.Set.{no_line, lines_of}
 use Rattle.engine.specs.ActCount.{reset_acts}
 use Rattle.engine.specs.Sound.{is_sound}
 
@@ -28,9 +27,15 @@ with_cancelled st k = record {
   acts = st.acts;
 }
 
--- the state that `change` gives for its rank; refused, the state as given
-unfoldable pub called : State → Found → (ℕ → State) → Called
-called st f change = elim (eqb f.code 0) [ true ↦ record { code = 0; state = change f.rank } | false ↦ record { code = f.code; state = st } ]
+-- what a call answers: 0 and the state that it gives; refused, the code and the state as given
+abbrev pub answered : State → Result State ℕ → Called
+answered st (Ok x) = record { code = 0; state = x }
+answered st (Err k) = record { code = k; state = st }
+
+-- the state that `change` gives for the rank of a line
+unfoldable pub called : State → Result ℕ ℕ → (ℕ → State) → Called
+called st (Ok k) change = answered st (Ok (change k))
+called st (Err c) change = answered st (Err c)
 
 unfoldable pub locked_call : List ℕ → State → ℕ → Bool → Called
 locked_call s st n b = called st (found s st n) (λ k. with_locked st k b)
@@ -69,7 +74,7 @@ control_reset_state ls count st = record {
 unfoldable pub control_reset_call : List ℕ → State → Called
 control_reset_call s st =
     elim (is_sound s st) [
-      | true ↦ record { code = 0; state = control_reset_state (sound_lines s).items (sound_lines s).count st }
+      | true ↦ record { code = 0; state = control_reset_state (lines_of s).items (lines_of s).count st }
       | false ↦ record { code = unsound; state = st }
     ]
 
@@ -85,6 +90,6 @@ program_ended ls st (suc n) = ended_line (get_or ls n no_line) (program_ended ls
 unfoldable pub program_end_call : List ℕ → State → Called
 program_end_call s st =
     elim (is_sound s st) [
-      | true ↦ record { code = 0; state = program_ended (sound_lines s).items st (sound_lines s).count }
+      | true ↦ record { code = 0; state = program_ended (lines_of s).items st (lines_of s).count }
       | false ↦ record { code = unsound; state = st }
     ]

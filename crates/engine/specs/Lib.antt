@@ -6,8 +6,6 @@ pub mod TableLaws
 pub mod SetCountLaws
 pub mod SetLinesLaws
 pub mod NamesByTreeLaws
-pub mod ReadLines
-pub mod ReadLinesLaws
 pub mod State
 pub mod ActCount
 pub mod ActCountLaws
@@ -16,16 +14,16 @@ pub mod NamedLine
 pub mod Calls
 pub mod ResetLaws
 pub mod Status
+pub mod CodeAnswers
 pub mod Order
 pub mod OrderLaws
 pub mod Drive
-pub mod DriveAnswers
 pub mod Write
 pub mod WriteAnswers
 pub mod Action
 pub mod Assigned
-pub mod ActionAnswers
 pub mod Actions
+pub mod ActionAnswers
 pub mod Keyword
 pub mod Turn
 pub mod TurnAnswers

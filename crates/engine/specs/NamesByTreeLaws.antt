@@ -1,5 +1,5 @@
 -- THE NAMES OF A LINE BY ITS TREE: the check of the names in a line's tokens finds each known exactly if each name in the line's tree is; so it does in a line of which the check of its actions notes none. Nothing is assumed.
-use Rattle.std.specs.Prelude.{◌≡◌, Bool, ◌&&◌}
+use Rattle.std.specs.Prelude.{Ok, ◌≡◌, Bool, ◌&&◌}
 use Rattle.std.proofs.Math.Path.{refl, ap}
 use Rattle.std.proofs.Common.{sym, ◌∙◌, eq-eqb, ne_eqb, le-leb}
 use Rattle.std.proofs.Math.Bool.{true, false, and_assoc, and-true}
@@ -12,7 +12,7 @@ use Rattle.std.proofs.Math.ListN.{length, length-append}
 use Rattle.values.specs.Choice.{told-so, both, decide, chosen, refused, and-true as and_both}
 use Rattle.tokens.specs.Token.{END, EQUALS, OPEN, CLOSE, LEFT, RIGHT, DO, ID, IDS, IM, IN, FIFO4, X, W, POS, MOV, WHEN, EVERY, LOCK, SETAL, UNLOCK, SYNFCT, COMMA, is_lock, is_naming, whole, whole_token, set_size}
 use Rattle.tokens.specs.Descent.{token}
-use Rattle.checking.specs.Fault.{line_at}
+use Rattle.checking.specs.Fault.{fault_of_line, line_at}
 use Rattle.checking.specs.declared.line.Line.{Line as Told}
 use Rattle.grammar.specs.Tree.{Sum, Action, assign, assign_position, drive, code, call, synfct, place_tokens, Condition, always, under, Line, line, sum_tokens, action_tokens, actions_tokens, condition_tokens, line_tokens}
 use Rattle.grammar.specs.Meaning.{Stands}
@@ -149,14 +149,16 @@ module _ (s : List ℕ) (known : ℕ → ℕ → Bool) where
   none-unknown (n ∷ l) h = absurd (false≢true (sym h))
 
   -- a line without a fault in which no action names a line
-  pub no_names : (p : ℕ) → length s ≤ set_size → (line_at s p).fault ≡ 0 → (line_at s p).names ≡ false → names_known s known set_size p ≡ true
+  pub no_names : (p : ℕ) → length s ≤ set_size → (t : Told) → line_at s p ≡ Ok t → t.names ≡ false → names_known s known set_size p ≡ true
   unfolding parts_from
-  no_names p size f h =
+  no_names p size t found h =
+      let f = ap fault_of_line found in
       let o = not-deep s p f in
       let (l, q, g) = line-written s p o (λ z. omega arith) in
       let (e, _) = line-parts s size l p q o g (sym (line-fault s size l p q o g) ∙ f) in
       let fits = line-fits s l p q g in
-      names-by-tree l p q (omega arith) g ∙ none-unknown (names_in l) (names_of l p ∙ ap (λ (x : Told). x.names) (sym e) ∙ h)
+      let same : parts_from p l ≡ t = cc in
+      names-by-tree l p q (omega arith) g ∙ none-unknown (names_in l) (names_of l p ∙ ap (λ (x : Told). x.names) same ∙ h)
     where
       names_of : (l : Line) (p : ℕ) → has_names (names_in l) ≡ (parts_from p l).names
       names_of (line w v n c a r) p = refl

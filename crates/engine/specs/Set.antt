@@ -1,12 +1,13 @@
 -- A set in its array, and one line put into it; and its lines, by rising number, if they and its curves are sound (document 01, "Codes"; document 02, Req 03).
 -- Definitions only.
-use Rattle.std.specs.Prelude.{Bool, true, false, not, cond, ◌&&◌, ◌||◌, List, [], ◌∷◌, ◌++◌, map, ℕ, zero, suc, ◌+◌, ◌-◌, ◌*◌, ◌%◌, eqb, ltb, leb, get_or, set, replicate}
+use Rattle.std.specs.Prelude.{Bool, true, false, not, cond, ◌&&◌, ◌||◌, List, [], ◌∷◌, ◌++◌, map, ℕ, zero, suc, ◌+◌, ◌-◌, ◌*◌, ◌%◌, eqb, ltb, leb, get_or, set, replicate, Result, Ok, Err, Option, Some, None, unwrap_or, option_and_then}
 use Rattle.values.specs.PutAt.{put_at}
 use Rattle.tokens.specs.Token.{END, is_lock, is_naming, is_number, whole, max_lines, max_curves, max_list_lines, table_size, set_size}
-use Rattle.checking.specs.Fault.{line_at, faulty_line}
+use Rattle.values.specs.declared.curve.Curve.{Curve}
+use Rattle.checking.specs.Fault.{line_at}
 use Rattle.checking.specs.declared.line.Line.{Line}
 use Rattle.checking.specs.declared.definition.Definition.{Definition}
-use Rattle.checking.specs.CurveDefinition.{definition_at}
+use Rattle.checking.specs.CurveDefinition.{no_curve, definition_at}
 use Rattle.engine.specs.declared.set.Lines.{Lines}
 
 -- ---- the array
@@ -41,7 +42,7 @@ abbrev pub start_of : List ℕ → ℕ → ℕ
 start_of s k = get_or s (start_place k) 0
 
 -- that line, as its tokens have it
-abbrev pub line_of : List ℕ → ℕ → Line
+abbrev pub line_of : List ℕ → ℕ → Result Line ℕ
 line_of s k = line_at s (start_of s k)
 
 -- where curve n begins; 0: the set has none
@@ -49,8 +50,16 @@ abbrev pub curve_start : List ℕ → ℕ → ℕ
 curve_start s n = get_or s (curve_place n) 0
 
 -- the line that defines it, as its tokens have it
-abbrev pub curve_line : List ℕ → ℕ → Definition
+abbrev pub curve_line : List ℕ → ℕ → Result Definition ℕ
 curve_line s n = definition_at s (curve_start s n)
+
+-- and its curve; without such a line it is 0 throughout
+abbrev pub curve_in_line : Result Definition ℕ → Curve
+curve_in_line (Ok d) = d.curve
+curve_in_line (Err k) = no_curve
+
+abbrev pub defined_curve : List ℕ → ℕ → Curve
+defined_curve s n = curve_in_line (curve_line s n)
 
 unfoldable pub empty_set : List ℕ
 empty_set = replicate set_size 0
@@ -77,26 +86,22 @@ with_line s slot at ts = put_at (set s slot at) at (with_end (map without_mark t
 -- starts of further lines, not the places of lists, not what lies between and behind the lines.
 
 abbrev pub no_line : Line
-no_line = faulty_line 0
+no_line = record { number = 0; ids = false; keyword = 0; condition = 0; actions = 0; end = 0; names = false }
 
 abbrev pub no_lines : Lines
-no_lines = record { sound = false; count = 0; numbers = replicate max_lines 0; items = replicate max_lines no_line }
+no_lines = record { count = 0; numbers = replicate max_lines 0; items = replicate max_lines no_line }
 
 -- at most 32 lines, each without a fault of 4 to 10 or 14, numbers distinct and rising: m lines from rank k on, where `last` is the number before them
-unfoldable pub lines_from : List ℕ → ℕ → ℕ → ℕ → List ℕ → List Line → Lines
-lines_from s zero k last ns ls = record { sound = true; count = k; numbers = ns; items = ls }
+unfoldable pub lines_from : List ℕ → ℕ → ℕ → ℕ → List ℕ → List Line → Option Lines
+lines_from s zero k last ns ls = Some (record { count = k; numbers = ns; items = ls })
 lines_from s (suc m) k last ns ls =
-    elim (eqb (line_of s k).fault 0) [
-      | true ↦
-          elim (ltb last (line_of s k).number) [
-            | true ↦ lines_from s m (k + 1) (line_of s k).number (set ns k (line_of s k).number) (set ls k (line_of s k))
-            | false ↦ no_lines
-          ]
-      | false ↦ no_lines
+    elim (line_of s k) [
+      | Ok l ↦ elim (ltb last l.number) [ true ↦ lines_from s m (k + 1) l.number (set ns k l.number) (set ls k l) | false ↦ None ]
+      | Err c ↦ None
     ]
 
-unfoldable pub lines_read : List ℕ → Lines
-lines_read s = elim (ltb max_lines (line_count s)) [ true ↦ no_lines | false ↦ lines_from s (line_count s) 0 0 (replicate max_lines 0) (replicate max_lines no_line) ]
+unfoldable pub lines_read : List ℕ → Option Lines
+lines_read s = elim (ltb max_lines (line_count s)) [ true ↦ None | false ↦ lines_from s (line_count s) 0 0 (replicate max_lines 0) (replicate max_lines no_line) ]
 
 -- the rank of the first line with the number n, counted from k; past the last if there is none
 unfoldable pub rank_in : List ℕ → ℕ → ℕ → ℕ
@@ -150,9 +155,14 @@ all_known s known (suc m) k = elim (names_known s known set_size (start_of s k))
 
 -- ---- the curves
 
--- the line that defines curve n has no fault and that number
+-- a line that defines a curve has no fault and that number
+abbrev pub has_number : ℕ → Result Definition ℕ → Bool
+has_number n (Ok d) = eqb d.number n
+has_number n (Err k) = false
+
+-- so has the line that defines curve n
 abbrev pub is_curve : List ℕ → ℕ → Bool
-is_curve s n = eqb (curve_line s n).fault 0 && eqb (curve_line s n).number n
+is_curve s n = has_number n (curve_line s n)
 
 -- m curves from curve n on, where the set has k lines before them: each that it has is one, and with them there are at most 32 lines
 unfoldable pub curves_sound : List ℕ → ℕ → ℕ → ℕ → Bool
@@ -165,9 +175,13 @@ curves_sound s (suc m) n k =
 
 -- ---- the set
 
--- its lines, if it passes each loading check from 4 on; else none
-unfoldable pub named_lines : List ℕ → Lines → Lines
-named_lines s l = elim (all_known s (set_table s l.numbers) l.count 0) [ true ↦ l | false ↦ no_lines ]
+-- its lines, if it passes each loading check from 4 on
+unfoldable pub named_lines : List ℕ → Lines → Option Lines
+named_lines s l = elim (all_known s (set_table s l.numbers) l.count 0) [ true ↦ Some l | false ↦ None ]
 
-unfoldable pub sound_lines : List ℕ → Lines
-sound_lines s = elim (curves_sound s max_curves 1 (lines_read s).count) [ true ↦ named_lines s (lines_read s) | false ↦ no_lines ]
+unfoldable pub sound_lines : List ℕ → Option Lines
+sound_lines s = option_and_then (λ l. elim (curves_sound s max_curves 1 l.count) [ true ↦ named_lines s l | false ↦ None ]) (lines_read s)
+
+-- a set that is not sound has no lines
+abbrev pub lines_of : List ℕ → Lines
+lines_of s = unwrap_or (sound_lines s) no_lines

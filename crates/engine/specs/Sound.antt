@@ -1,12 +1,15 @@
 -- Sound, as documents 01 ("Codes") and 02 list it. Definitions only.
-use Rattle.std.specs.Prelude.{Bool, true, false, cond, not, ◌&&◌, List, [], ◌∷◌, ℕ, zero, suc, ◌+◌, eqb, leb, ltb, ℤ, pos, get_or, drop}
-use Rattle.values.specs.Value.{in_range, less_than, equal_to, whole_units, output_of, code_of}
+use Rattle.std.specs.Prelude.{Bool, true, false, cond, not, ◌&&◌, List, [], ◌∷◌, ℕ, zero, suc, ◌+◌, eqb, leb, ltb, ℤ, pos, get_or, drop, is_some, Result, Ok, Err}
+use Rattle.values.specs.Codes.{unsound}
+use Rattle.values.specs.Value.{in_range, less_than, equal_to, whole_units, output_of}
+use Rattle.values.specs.Codes.{answer_code}
 use Rattle.values.specs.Fifo.{places}
 use Rattle.couplers.specs.Channel.{channel_count, are_channels}
 use Rattle.working.specs.Variables.{as_count, run, count_in, fifos, marker_at, param_at, timer_at, count_at}
+use Rattle.engine.specs.declared.set.Lines.{Lines}
 use Rattle.engine.specs.declared.state.State.{State}
 use Rattle.tokens.specs.Token.{max_lines}
-use Rattle.engine.specs.Set.{sound_lines}
+use Rattle.engine.specs.Set.{sound_lines, lines_of}
 use Rattle.engine.specs.ActCount.{are_act_counts}
 
 -- all values within range
@@ -15,7 +18,7 @@ all_ranged [] = true
 all_ranged (v ∷ vs) = in_range v && all_ranged vs
 
 abbrev pub is_output : ℤ → Bool
-is_output v = eqb (code_of (output_of v)) 0
+is_output v = eqb (answer_code (output_of v)) 0
 
 -- outputs 0 or 1, markers whole, parameters any, timers not negative, FIFO counts at most 16
 unfoldable pub is_cell : ℕ → ℤ → Bool
@@ -60,4 +63,8 @@ state_sound count st =
 
 -- a set and a state are sound: of the set are asked the places that its lines use (Set), of the state all places
 unfoldable pub is_sound : List ℕ → State → Bool
-is_sound s st = (sound_lines s).sound && state_sound (sound_lines s).count st
+is_sound s st = is_some (sound_lines s) && state_sound (lines_of s).count st
+
+-- the lines of a set, or 22 where it or a state is not sound
+abbrev pub lines_with : List ℕ → State → Result Lines ℕ
+lines_with s st = elim (is_sound s st) [ true ↦ Ok (lines_of s) | false ↦ Err unsound ]

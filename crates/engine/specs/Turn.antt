@@ -6,7 +6,7 @@ use Rattle.working.specs.Operators.{is_yes}
 use Rattle.working.specs.Working.{condition_value}
 use Rattle.checking.specs.declared.line.Line.{Line}
 use Rattle.engine.specs.Set.{no_line}
-use Rattle.engine.specs.Action.{World, Note, from_value_or_alarm}
+use Rattle.engine.specs.Action.{World, Note, from_reached}
 use Rattle.engine.specs.Actions.{actions_of}
 use Rattle.engine.specs.Keyword.{acts, remembers, tries}
 
@@ -51,7 +51,7 @@ module _ (s numbers : List ℕ) (cancelled : List Bool) (automatic : Bool) where
   try_turn l k x =
       elim (tries l.keyword (get_or x.memory k false)) [
         | true ↦
-            from_value_or_alarm (condition_value s x.vars.r x.vars.cells l.condition) >>= λ a.
+            from_reached (condition_value s x.vars.r x.vars.cells l.condition) >>= λ a.
             do_turn l k (remembered x k (remembers l.keyword (get_or x.memory k false) (is_yes a.0))) (worked k (is_yes a.0) ∷ [])
             (acts l.keyword (get_or x.memory k false) (is_yes a.0))
         | false ↦ do_turn l k x [] (acts l.keyword (get_or x.memory k false) false)

@@ -1,23 +1,19 @@
--- What a write makes of the variables, each by its own rule (document 01, "Values and time"). Definitions only.
-use Rattle.std.specs.Prelude.{Bool, true, false, cond, List, ◌++◌, ℕ, ◌+◌, eqb, ℤ, pos, get_or, set, take, drop}
-use Rattle.values.specs.Codes.{unsound}
+-- What a write makes of the variables of a beat under way (the struct `Vars`: R, the cells, which timers run), each by its own rule (document 01, "Values and time"). Definitions only.
+use Rattle.std.specs.Prelude.{Bool, true, false, List, ◌++◌, ℕ, ◌+◌, eqb, ℤ, pos, get_or, set, take, drop, Result, Ok, Err}
+use Rattle.values.specs.Codes.{unsound, code_of}
 use Rattle.values.specs.Value.{marker_of, output_of}
 use Rattle.values.specs.Time.{timer, written_timer}
-use Rattle.values.specs.Fifo.{places, moved_code, append_answer, appended, remove_answer, removed, empty_answer, emptied}
-use Rattle.values.specs.declared.arithmetic.Worked.{Worked}
+use Rattle.values.specs.Fifo.{places, append_answer, appended, remove_answer, removed, empty_answer, emptied}
+use Rattle.values.specs.declared.codes.Alarm.{Alarm}
 use Rattle.values.specs.declared.fifo.Moved.{Moved}
-use Rattle.values.specs.declared.fifo.Moved.TheVariants as M
 use Rattle.tokens.specs.Token.{OUT, MARKER, PARAM, R, TIMER, is_fifo}
 use Rattle.tokens.specs.Descent.{Answer, good, stop, ◌>>=◌}
 use Rattle.tokens.specs.Index.{is_inside}
 use Rattle.working.specs.Variables.{input_count, count_at, cell_of, fifo_of, run_at, run, beat_count}
 use Rattle.working.specs.Operators.{from_worked}
-
--- the variables of a beat under way: R, the cells, which timers run
-pub record Vars : Type 0 where
-  pub r : List ℤ
-  pub cells : List ℤ
-  pub runs : List Bool
+use Rattle.engine.specs.declared.write.Change.{Change}
+use Rattle.engine.specs.declared.write.Change.TheVariants.{Append, Remove, Empty}
+use Rattle.engine.specs.declared.write.Vars.{Vars}
 
 -- a FIFO changed: the value that went in or out, R, the cells
 pub record Changed : Type 0 where
@@ -30,23 +26,26 @@ abbrev pub with_run : List ℤ → ℕ → List ℤ → List ℤ
 with_run r k xs = take (run_at k) r ++ (xs ++ drop (run_at k + places) r)
 
 -- what a change of FIFO k gives, where xs is its run afterwards
-abbrev pub moved : List ℤ → List ℤ → ℕ → List ℤ → Moved → Answer Changed
-moved r c k xs (M.Done v n) = good (record { value = v; r = with_run r k xs; cells = set c (input_count + count_at + k) (pos n) })
-moved r c k xs (M.Alarm a) = stop (moved_code (M.Alarm a))
-moved r c k xs M.Unfit = stop (moved_code M.Unfit)
+abbrev pub moved : List ℤ → List ℤ → ℕ → List ℤ → Result Moved Alarm → Answer Changed
+moved r c k xs (Ok m) = good (record { value = m.value; r = with_run r k xs; cells = set c (input_count + count_at + k) (pos m.count) })
+moved r c k xs (Err a) = stop (code_of a)
 
--- a change of a FIFO: 0 appends, 1 removes, else empties by a written value
-unfoldable pub change_answer : ℕ → List ℤ → ℕ → ℤ → Moved
-change_answer op xs n v = cond (eqb op 0) (append_answer xs n v) (cond (eqb op 1) (remove_answer xs n) (empty_answer xs n v))
+-- a change of a FIFO (the enum `Change`): what it answers, and its run afterwards
+unfoldable pub change_answer : Change → List ℤ → ℕ → Result Moved Alarm
+change_answer (Append v) xs n = append_answer xs n v
+change_answer Remove xs n = remove_answer xs n
+change_answer (Empty v) xs n = empty_answer xs n v
 
-unfoldable pub changed : ℕ → List ℤ → ℕ → ℤ → List ℤ
-changed op xs n v = cond (eqb op 0) (appended xs n v) (cond (eqb op 1) (removed xs n) (emptied xs n v))
+unfoldable pub changed : Change → List ℤ → ℕ → List ℤ
+changed (Append v) xs n = appended xs n v
+changed Remove xs n = removed xs n
+changed (Empty v) xs n = emptied xs n v
 
-unfoldable pub change_fifo : List ℤ → List ℤ → ℕ → ℕ → ℤ → Answer Changed
-change_fifo r c op w v =
+unfoldable pub change_fifo : List ℤ → List ℤ → Change → ℕ → Answer Changed
+change_fifo r c op w =
     let k = fifo_of w in
     let n = beat_count c k in
-    moved r c k (changed op (run r k) n v) (change_answer op (run r k) n v)
+    moved r c k (changed op (run r k) n) (change_answer op (run r k) n)
 
 abbrev pub with_changed : Vars → Changed → Vars
 with_changed x a = record { r = a.r; cells = a.cells; runs = x.runs }
@@ -55,8 +54,8 @@ with_changed x a = record { r = a.r; cells = a.cells; runs = x.runs }
 unfoldable pub write_fifo : Vars → ℕ → ℕ → ℤ → Answer Vars
 write_fifo x w i v =
     elim (eqb i 0) [
-      | true ↦ change_fifo x.r x.cells 0 w v >>= λ a. good (with_changed x a)
-      | false ↦ elim (eqb i 4) [ true ↦ change_fifo x.r x.cells 2 w v >>= λ a. good (with_changed x a) | false ↦ stop unsound ]
+      | true ↦ change_fifo x.r x.cells (Append v) w >>= λ a. good (with_changed x a)
+      | false ↦ elim (eqb i 4) [ true ↦ change_fifo x.r x.cells (Empty v) w >>= λ a. good (with_changed x a) | false ↦ stop unsound ]
     ]
 
 -- a cell and which timers run, after a write
@@ -71,7 +70,7 @@ write_timer c runs at i v =
     record { cells = set c at t.time.0; runs = set runs i t.runs }
 
 -- what a target made of a value goes into a cell; its alarm ends the write
-abbrev pub put_cell : List ℤ → List Bool → ℕ → Worked → Answer Celled
+abbrev pub put_cell : List ℤ → List Bool → ℕ → Result ℤ Alarm → Answer Celled
 put_cell c runs at made = from_worked made >>= λ u. good (record { cells = set c at u; runs = runs })
 
 -- a marker takes the nearest whole unit, a parameter any value, an output 0 or 1

@@ -1,22 +1,16 @@
--- How the code holds the variables of a beat under way, and what its answers to a write say of them. Definitions only.
-use Rattle.std.specs.Prelude.{◌≡◌, Bool, true, false, List, ℤ}
-use Rattle.values.specs.declared.arithmetic.Worked.{Worked}
-use Rattle.values.specs.declared.arithmetic.Worked.TheVariants.{Value, Alarm}
-use Rattle.tokens.specs.Descent.{Answer, good, stop}
-use Rattle.engine.specs.declared.write.Wrote.{Wrote}
-use Rattle.engine.specs.Write.{Vars, Changed, Celled}
+-- What the code's answers to a write say of the definitions', where the variables are u behind it. Definitions only.
+use Rattle.std.specs.Prelude.{Result, ℤ}
+use Rattle.values.specs.declared.codes.Alarm.{Alarm}
+use Rattle.tokens.specs.Descent.{Answer}
+use Rattle.engine.specs.declared.write.Vars.{Vars}
+use Rattle.engine.specs.Write.{Changed, Celled}
+use Rattle.engine.specs.CodeAnswers.{Gives}
 
-abbrev pub vars_of : List ℤ → List ℤ → List Bool → Vars
-vars_of r c runs = record { r = r; cells = c; runs = runs }
+abbrev pub IsChanged : Result ℤ Alarm → Vars → Answer Changed → Type 0
+IsChanged x u y = Gives x (λ v. record { value = v; r = u.r; cells = u.cells }) y
 
-abbrev pub IsChanged : Worked → List ℤ → List ℤ → Answer Changed → Type 0
-IsChanged x r c (good a) = (x ≡ Value a.value) × ((r ≡ a.r) × (c ≡ a.cells))
-IsChanged x r c (stop k) = x ≡ Alarm k
+abbrev pub IsCelled : Result Unit Alarm → Vars → Answer Celled → Type 0
+IsCelled x u y = Gives x (λ _. record { cells = u.cells; runs = u.runs }) y
 
-abbrev pub IsCelled : Wrote → List ℤ → List Bool → Answer Celled → Type 0
-IsCelled x c runs (good a) = (x.good ≡ true) × ((c ≡ a.cells) × (runs ≡ a.runs))
-IsCelled x c runs (stop k) = (x.good ≡ false) × (x.alarm ≡ k)
-
-abbrev pub IsWritten : Wrote → Vars → Answer Vars → Type 0
-IsWritten x u (good v) = (x.good ≡ true) × (u ≡ v)
-IsWritten x u (stop k) = (x.good ≡ false) × (x.alarm ≡ k)
+abbrev pub IsWritten : Result Unit Alarm → Vars → Answer Vars → Type 0
+IsWritten x u y = Gives x (λ _. u) y

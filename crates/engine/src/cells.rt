@@ -8,19 +8,6 @@ use crate::timers::grow_timers;
 use values::arithmetic::UNIT;
 use working::variables::{BITS, CELLS, IM_AT, INPUTS, STATE_CELLS, TIMERS};
 
-// All of `from` is copied to the places of `to` from `at` on.
-fn copy_at(to: &mut [i32], at: usize, from: &[i32])
-    requires { at + length from.now ≤ length to.old }
-    ensures { to.new ≡ take at to.old ++ (from.now ++ drop (at + length from.now) to.old) }
-{
-    let mut i: usize = 0;
-    while i < from.len() {
-        let v = from[i];
-        to[at + i] = v;
-        i += 1;
-    }
-}
-
 fn input_cell(bit: u16) -> i32
     ensures { result ≡ cond (eqb bit 1) (pos unit) (pos 0) }
 {
@@ -28,21 +15,20 @@ fn input_cell(bit: u16) -> i32
 }
 
 // Bit i-1 of the input word becomes the cell of $A_IN[i].
+#[tactic(auto, unfolding(crate::specs::Cells::input_cells))]
 fn put_inputs(cells: &mut [i32], word: u16)
     requires { bit_count ≤ length cells.old }
     ensures { cells.new ≡ input_cells word bit_count ++ drop bit_count cells.old }
 {
     let mut rest = word;
-    let mut i: usize = 0;
-    while i < BITS {
-        let v = input_cell(rest % 2);
-        cells[i] = v;
+    for i in 0..BITS {
+        cells[i] = input_cell(rest % 2);
         rest /= 2;
-        i += 1;
     }
 }
 
 // The cells of a beat, in place: inputs, analogues, positions, the state's cells with the timers grown.
+#[tactic(auto, unfolding(crate::specs::Cells::beat_cells))]
 pub fn begin_cells(
     cells: &mut [i32],
     runs: &[bool; TIMERS],
@@ -55,16 +41,17 @@ pub fn begin_cells(
 {
     grow_timers(&mut cells[INPUTS..CELLS], runs);
     put_inputs(cells, word);
-    copy_at(cells, BITS, values);
-    copy_at(cells, IM_AT, lent);
+    cells[BITS..IM_AT].copy_from_slice(values);
+    cells[IM_AT..INPUTS].copy_from_slice(lent);
 }
 
 // The cells of a state, behind input cells that are 0.
+#[tactic(auto, unfolding(crate::specs::Cells::spread_cells))]
 pub fn spread_cells(from: &[i32; STATE_CELLS]) -> [i32; CELLS]
     ensures { result ≡ spread_cells from.now }
 {
     let mut cells = [0i32; CELLS];
-    copy_at(&mut cells, INPUTS, from);
+    cells[INPUTS..].copy_from_slice(from);
     cells
 }
 
@@ -73,7 +60,6 @@ pub fn kept_cells(cells: &[i32; CELLS]) -> [i32; STATE_CELLS]
     ensures { result ≡ drop input_count cells.now }
 {
     let mut kept = [0i32; STATE_CELLS];
-    let all = &cells[..];
-    copy_at(&mut kept, 0, &all[INPUTS..]);
+    kept.copy_from_slice(&cells[INPUTS..]);
     kept
 }

@@ -5,49 +5,38 @@ ghost use Rattle.engine.specs.Keyword.{tries, acts, remembers};
 use tokens::token::{EVERY, FROM, WHEN, WHENEVER};
 
 // Whether a line works its condition: a WHEN or FROM line that has acted does not.
+#[tactic(auto, unfolding(crate::specs::Keyword::tries))]
 pub fn tries_now(keyword: u32, memory: bool) -> bool
     ensures { result ≡ tries keyword memory }
 {
-    if keyword == WHEN {
-        return !memory;
+    match keyword {
+        WHEN | FROM => !memory,
+        WHENEVER | EVERY => true,
+        _ => false,
     }
-    if keyword == FROM {
-        return !memory;
-    }
-    if keyword == WHENEVER {
-        return true;
-    }
-    keyword == EVERY
 }
 
 // Whether a line acts, where v is what its condition gave.
+#[tactic(auto, unfolding(crate::specs::Keyword::acts))]
 pub fn acts_now(keyword: u32, memory: bool, v: bool) -> bool
     ensures { result ≡ acts keyword memory v }
 {
-    if keyword == WHENEVER {
-        return v;
+    match keyword {
+        WHENEVER => v,
+        WHEN | EVERY => v && !memory,
+        FROM => v || memory,
+        _ => true,
     }
-    if keyword == WHEN {
-        return v & !memory;
-    }
-    if keyword == EVERY {
-        return v & !memory;
-    }
-    if keyword == FROM {
-        return v | memory;
-    }
-    true
 }
 
 // What is remembered of a condition that was worked.
+#[tactic(auto, unfolding(crate::specs::Keyword::remembers))]
 pub fn remembers_now(keyword: u32, memory: bool, v: bool) -> bool
     ensures { result ≡ remembers keyword memory v }
 {
-    if keyword == WHEN {
-        return memory | v;
+    match keyword {
+        WHEN | FROM => memory || v,
+        EVERY => v,
+        _ => memory,
     }
-    if keyword == FROM {
-        return memory | v;
-    }
-    if keyword == EVERY { v } else { memory }
 }

@@ -8,24 +8,25 @@ mod actions;
 mod calls;
 mod cells;
 mod drive;
+mod held;
 mod keyword;
 mod named_line;
 mod one_beat;
 mod order;
-mod read;
 mod set;
 mod sound;
 mod state;
 mod status;
 mod timers;
 mod turn;
+mod world;
 mod write;
 
 pub use calls::{Called, cancel, control_reset, lock, program_end, unlock};
 pub use cells::{kept_cells, spread_cells};
+pub use held::Held;
 pub use one_beat::{BeatCode, Beaten, beat, beat_known, beat_over, is_sound_over};
 pub use order::{MAX_ORDERS, ORDER_BYTES, ORDERS};
-pub use read::{READ, read_lines};
 pub use set::{
     COUNT_PLACE, CURVE_PLACE, FIRST_PLACE, Lines, START_PLACE, empty_set, is_defined, names_known,
     put_count, put_line, rank_in, sound_lines,

@@ -13,13 +13,14 @@ pub const MAX_ORDERS: usize = LINES * ACTIONS;
 
 pub const ORDERS: usize = MAX_ORDERS * ORDER_BYTES;
 
+// The kinds, by document 01's numbers.
 #[derive(Clone, Copy)]
 pub enum Kind {
-    Pos,
-    Fa,
-    Mov,
-    M,
-    Setal,
+    Pos = 1,
+    Fa = 2,
+    Mov = 3,
+    M = 4,
+    Setal = 5,
 }
 
 // An order: its kind, the number of its line, the axis (X to W are 1 to 6, else 0), and its value.
@@ -31,33 +32,14 @@ pub struct Order {
     pub value: i32,
 }
 
-// Document 01's number of a kind.
-fn kind_number(kind: Kind) -> u8
-    ensures { result ≡ kind_number kind }
-{
-    match kind {
-        Kind::Pos => 1,
-        Kind::Fa => 2,
-        Kind::Mov => 3,
-        Kind::M => 4,
-        Kind::Setal => 5,
-    }
-}
-
+#[tactic(auto, unfolding(crate::specs::Order::order_bytes, crate::specs::Order::four_bytes))]
 fn store(part: &mut [u8], order: Order)
     requires { length part.old ≡ order_size }
     ensures { part.new ≡ order_bytes order }
 {
-    let kind = order.kind;
-    let bits = twos_complement(order.value);
-    part[0] = kind_number(kind);
-    part[1] = order.line;
-    part[2] = order.target;
-    part[3] = 0;
-    part[4] = (bits % 256) as u8;
-    part[5] = (bits / 256 % 256) as u8;
-    part[6] = (bits / 65536 % 256) as u8;
-    part[7] = (bits / 16777216) as u8;
+    let [a, b, c, d] = order.value.to_le_bytes();
+    let kind = order.kind as u8;
+    part.copy_from_slice(&[kind, order.line, order.target, 0, a, b, c, d]);
 }
 
 // The order is written from place `at` on.

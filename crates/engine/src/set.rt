@@ -1,7 +1,8 @@
 // A set in its array: how many lines, where each begins and where each curve does, their tokens. A line is put into it; the lines are read once a call, by rising number.
-ghost use Rattle.std.specs.Prelude.{◌≡◌, true, false, map, ◌≤◌, set};
+ghost use Rattle.std.specs.Prelude.{position, nat_eq, ◌≡◌, true, false, map, ◌≤◌, set, ◌<◌, get_or};
 ghost use Rattle.values.specs.PutAt.{put_at};
-ghost use Rattle.engine.specs.Set.{with_end, without_mark, with_count, with_line, no_line, no_lines, lines_read, curve_start, curve_line, rank_in, is_defined, curves_in, asked_table, set_table, names_known, all_known, is_curve, curves_sound, sound_lines, empty_set};
+ghost use Rattle.engine.specs.Set.{with_end, without_mark, with_count, with_line, no_line, no_lines, lines_read, curve_start, curve_line, defined_curve, rank_in, is_defined, curves_in, asked_table, set_table, names_known, all_known, is_curve, curves_sound, sound_lines, empty_set};
+ghost use Rattle.checking.specs.CurveDefinition.{no_curve};
 ghost use Rattle.engine.specs.SetLinesLaws.{Lined};
 ghost use Rattle.tokens.specs.Token.{set_size, max_lines, max_curves};
 
@@ -9,6 +10,7 @@ use checking::{Definition, Line, definition_at, line_at};
 use tokens::token::{
     CURVES, END, LINES, NUMBER, SIZE, TABLE_SIZE, is_lock, is_naming, token_at, whole_of,
 };
+use values::curve::Curve;
 
 // The place that has the number of lines, the place that says where the line of rank 0 begins, and the place that says where curve 1 does.
 pub const COUNT_PLACE: usize = 0;
@@ -20,13 +22,20 @@ pub const CURVE_PLACE: usize = START_PLACE + LINES;
 // The place of the first line's tokens, behind the table.
 pub const FIRST_PLACE: usize = TABLE_SIZE;
 
-// The lines of a set as its tokens have them, by rising number, if they are sound; else none.
+// The lines of a set as its tokens have them, by rising number.
 #[derive(Clone, Copy)]
 pub struct Lines {
-    pub sound: bool,
     pub count: usize,
     pub numbers: [u8; LINES],
     pub items: [Line; LINES],
+}
+
+// The line of rank k.
+pub fn line_of(lines: &Lines, k: usize) -> Line
+    requires { k < max_lines }
+    ensures { result ≡ get_or lines.now.items k no_line }
+{
+    lines.items[k]
 }
 
 // The set without lines.
@@ -37,6 +46,7 @@ pub fn empty_set() -> [u32; SIZE]
 }
 
 // A number's token without the mark of a written point.
+#[tactic(auto, unfolding(crate::specs::Set::without_mark))]
 fn without_mark(t: u32) -> u32
     ensures { result ≡ without_mark t }
 {
@@ -50,8 +60,7 @@ fn without_mark(t: u32) -> u32
 fn put(array: &mut [u32; SIZE], at: usize, t: u32)
     ensures { array.new ≡ set array.old at t }
 {
-    let all = &array[..];
-    if at < all.len() {
+    if at < SIZE {
         array[at] = t;
     }
 }
@@ -61,11 +70,9 @@ fn put_tokens(set: &mut [u32; SIZE], at: u32, tokens: &[u32])
     ensures { set.new ≡ put_at set.old at (with_end (map without_mark tokens.now)) }
 {
     let mut p = at as usize;
-    let mut i: usize = 0;
-    while i < tokens.len() {
-        put(set, p, without_mark(tokens[i]));
+    for t in tokens {
+        put(set, p, without_mark(*t));
         p += 1;
-        i += 1;
     }
     put(set, p, END);
 }
@@ -85,11 +92,10 @@ pub fn put_line(set: &mut [u32; SIZE], slot: usize, at: u32, tokens: &[u32])
     put_tokens(set, at, tokens);
 }
 
-fn no_line() -> Line
+pub fn no_line() -> Line
     ensures { result ≡ no_line }
 {
     Line {
-        fault: 0,
         number: 0,
         ids: false,
         keyword: 0,
@@ -100,68 +106,48 @@ fn no_line() -> Line
     }
 }
 
-fn no_lines() -> Lines
-    ensures { result ≡ no_lines }
-{
-    let numbers = [0u8; LINES];
-    let items = [no_line(); LINES];
-    Lines {
-        sound: false,
-        count: 0,
-        numbers: numbers,
-        items: items,
-    }
-}
-
-// The lines without a fault and with rising numbers.
-fn read_lines(set: &[u32; SIZE]) -> Lines
+// The lines, if none has a fault and their numbers rise.
+#[tactic(auto, unfolding(crate::specs::Set::lines_read, crate::specs::Set::lines_from))]
+fn read_lines(set: &[u32; SIZE]) -> Option<Lines>
     ensures { result ≡ lines_read set.now }
 {
     let count = token_at(set, COUNT_PLACE) as usize;
     if LINES < count {
-        return no_lines();
+        return None;
     }
     let mut numbers = [0u8; LINES];
     let mut items = [no_line(); LINES];
     let mut last: u8 = 0;
-    let mut k: usize = 0;
-    while k < count {
+    for k in 0..count {
         let start = token_at(set, START_PLACE + k) as usize;
-        let l = line_at(set, start);
-        let fault = l.fault;
-        if fault != 0 {
-            return no_lines();
+        let Ok(l) = line_at(set, start) else {
+            return None;
+        };
+        if l.number <= last {
+            return None;
         }
-        let number = l.number;
-        if number <= last {
-            return no_lines();
-        }
-        numbers[k] = number;
+        numbers[k] = l.number;
         items[k] = l;
-        last = number;
-        k += 1;
+        last = l.number;
     }
-    Lines {
-        sound: true,
-        count: count,
-        numbers: numbers,
-        items: items,
-    }
+    Some(Lines {
+        count,
+        numbers,
+        items,
+    })
+}
+
+fn place_of(numbers: &[u8], n: u32) -> Option<usize>
+    ensures { result ≡ position (λ x. nat_eq x n) numbers.now }
+{
+    numbers.iter().position(|x| *x as u32 == n)
 }
 
 // The rank of the line with a number, 32 if there is none.
 pub fn rank_in(numbers: &[u8; LINES], n: u32) -> usize
     ensures { result ≡ rank_in numbers.now n 0 }
 {
-    let all = &numbers[..];
-    let mut k: usize = 0;
-    while k < all.len() {
-        if all[k] as u32 == n {
-            return k;
-        }
-        k += 1;
-    }
-    k
+    place_of(numbers, n).unwrap_or(LINES)
 }
 
 // ---- curves
@@ -174,16 +160,41 @@ fn curve_start(set: &[u32; SIZE], n: u32) -> usize
 }
 
 // The line that defines curve n, as its tokens have it.
-pub fn curve_line(set: &[u32; SIZE], n: u32) -> Definition
+fn curve_line(set: &[u32; SIZE], n: u32) -> Result<Definition, u8>
     ensures { result ≡ curve_line set.now n }
 {
     definition_at(set, curve_start(set, n))
 }
 
+// The curve n; 0 throughout, where no line without a fault defines it.
+pub fn defined_curve(set: &[u32; SIZE], n: u32) -> Curve
+    ensures { result ≡ defined_curve set.now n }
+{
+    match curve_line(set, n) {
+        Ok(d) => d.curve,
+        Err(_) => no_curve(),
+    }
+}
+
+fn no_curve() -> Curve
+    ensures { result ≡ no_curve }
+{
+    Curve {
+        lower: 0,
+        upper: 0,
+        a0: 0,
+        a1: 0,
+        a2: 0,
+        a3: 0,
+    }
+}
+
 // Which curves a set has, by number from 1 on.
+#[tactic(auto, unfolding(crate::specs::Set::curves_from))]
 fn curves_in(set: &[u32; SIZE]) -> [bool; CURVES]
     ensures { result ≡ curves_in set.now }
 {
+    // three tests, written out: of a map over [1, 2, 3] the proof was not found
     [
         0 < curve_start(set, 1),
         0 < curve_start(set, 2),
@@ -198,44 +209,35 @@ pub fn is_defined(curves: &[bool; CURVES], n: u32) -> bool
     if n < 1 {
         return false;
     }
-    let at = (n - 1) as usize;
-    let all = &curves[..];
-    if all.len() <= at {
-        return false;
-    }
-    all[at]
+    curves.get((n - 1) as usize).copied().unwrap_or(false)
 }
 
 // Whether curve n is defined without a fault, by a line with that number.
 fn is_curve(set: &[u32; SIZE], n: u32) -> bool
     ensures { result ≡ is_curve set.now n }
 {
-    let d = curve_line(set, n);
-    let fault = d.fault;
-    if fault != 0 {
-        return false;
+    match curve_line(set, n) {
+        Ok(d) => d.number == n,
+        Err(_) => false,
     }
-    let number = d.number;
-    number == n
 }
 
 // Whether each curve of a set is one, and there are with them at most 32 lines; `lines` are there before them.
+#[tactic(auto, unfolding(crate::specs::Set::curves_sound))]
 fn curves_sound(set: &[u32; SIZE], lines: usize) -> bool
     requires { lines ≤ max_lines }
     ensures { result ≡ curves_sound set.now max_curves 1 lines }
 {
-    let mut k = lines;
-    let mut n: u32 = 1;
-    while n <= CURVES as u32 {
+    let mut all = lines;
+    for n in 1..CURVES as u32 + 1 {
         if 0 < curve_start(set, n) {
             if !is_curve(set, n) {
                 return false;
             }
-            k += 1;
+            all += 1;
         }
-        n += 1;
     }
-    k <= LINES
+    all <= LINES
 }
 
 // ---- names
@@ -247,13 +249,11 @@ fn name_known(numbers: &[u8; LINES], curves: &[bool; CURVES], asked: bool, w: u3
     if !is_lock(w) {
         return is_defined(curves, n);
     }
-    if !asked {
-        return true;
-    }
-    rank_in(numbers, n) < LINES
+    !asked || rank_in(numbers, n) < LINES
 }
 
 // The same of all that the line at a place names.
+#[tactic(auto, unfolding(crate::specs::Set::names_known))]
 pub fn names_known(
     set: &[u32; SIZE],
     numbers: &[u8; LINES],
@@ -263,10 +263,8 @@ pub fn names_known(
 ) -> bool
     ensures { result ≡ names_known set.now (asked_table asked numbers.now curves.now) set_size start }
 {
-    let mut p = start;
-    let mut left: usize = SIZE;
-    while 0 < left {
-        let t = token_at(set, p);
+    for p in start..SIZE {
+        let t = set[p];
         if t == END {
             return true;
         }
@@ -276,8 +274,6 @@ pub fn names_known(
                 return false;
             }
         }
-        p += 1;
-        left -= 1;
     }
     true
 }
@@ -293,44 +289,36 @@ fn line_known(
     requires { names ≡ false → names_known set.now (asked_table true numbers.now curves.now) set_size start ≡ true }
     ensures { result ≡ names_known set.now (asked_table true numbers.now curves.now) set_size start }
 {
-    if !names {
-        return true;
-    }
-    names_known(set, numbers, curves, true, start)
+    !names || names_known(set, numbers, curves, true, start)
 }
 
 // The same of every line of the set.
-fn all_known(set: &[u32; SIZE], lines: Lines) -> bool
-    requires { Lined set.now lines }
-    ensures { result ≡ all_known set.now (set_table set.now lines.numbers) lines.count 0 }
+#[tactic(auto, unfolding(crate::specs::Set::all_known))]
+fn all_known(set: &[u32; SIZE], lines: &Lines) -> bool
+    requires { Lined set.now lines.now }
+    ensures { result ≡ all_known set.now (set_table set.now lines.now.numbers) lines.now.count 0 }
 {
     let curves = curves_in(set);
-    let numbers = lines.numbers;
-    let items = lines.items;
-    let count = lines.count;
-    let mut k: usize = 0;
-    while k < count {
-        let l = items[k];
+    for k in 0..lines.count {
         let start = token_at(set, START_PLACE + k) as usize;
-        if !line_known(set, &numbers, &curves, l.names, start) {
+        if !line_known(set, &lines.numbers, &curves, lines.items[k].names, start) {
             return false;
         }
-        k += 1;
     }
     true
 }
 
-// The lines of a set that passes each loading check from 4 on; else none. Where none were read there is no name to know.
-pub fn sound_lines(set: &[u32; SIZE]) -> Lines
+// The lines of a set that passes each loading check from 4 on.
+#[tactic(auto, unfolding(crate::specs::Set::sound_lines, crate::specs::Set::named_lines))]
+pub fn sound_lines(set: &[u32; SIZE]) -> Option<Lines>
     ensures { result ≡ sound_lines set.now }
 {
-    let lines = read_lines(set);
-    let count = lines.count;
-    if !curves_sound(set, count) {
-        return no_lines();
+    let lines = read_lines(set)?;
+    if !curves_sound(set, lines.count) {
+        return None;
     }
-    if !all_known(set, lines) {
-        return no_lines();
+    if !all_known(set, &lines) {
+        return None;
     }
-    lines
+    Some(lines)
 }

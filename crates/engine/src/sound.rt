@@ -1,18 +1,21 @@
 // Sound: what documents 01 and 02 ask of a set and a state, tested at every call.
-ghost use Rattle.std.specs.Prelude.{◌≡◌, Bool, ◌&&◌, List, ◌<◌, ◌≤◌, length, drop};
+ghost use Rattle.std.specs.Prelude.{◌≡◌, Bool, ◌&&◌, List, ◌<◌, ◌≤◌, length, drop, IfOk};
 ghost use Rattle.engine.specs.ActCount.{is_act_count, are_act_counts};
-ghost use Rattle.engine.specs.Sound.{all_ranged, is_output, is_cell, are_cells, all_zero, is_fifo_sound, are_fifos, is_flag, are_flags, state_sound, is_sound};
+ghost use Rattle.engine.specs.Held.{state_held};
+ghost use Rattle.engine.specs.Sound.{all_ranged, is_output, is_cell, are_cells, all_zero, is_fifo_sound, are_fifos, is_flag, are_flags, state_sound, is_sound, lines_with};
 ghost use Rattle.working.specs.Variables.{fifos, state_cells};
 ghost use Rattle.tokens.specs.Token.{max_lines};
 
-use crate::set::sound_lines;
+use crate::held::Held;
+use crate::set::{Lines, sound_lines};
 use crate::state::{ACTS_TOP, State};
-use couplers::channel::{CHANNELS, Channel, are_channels};
+use couplers::channel::are_channels;
 use tokens::token::{LINES, SIZE};
-use values::arithmetic::{Worked, in_range, is_equal, is_less, output, whole_units};
+use values::arithmetic::{in_range, is_equal, is_less, output, whole_units};
+use values::codes::UNSOUND;
 use values::fifo::PLACES;
 use working::variables::{
-    COUNT_AT, FIFOS, MARKER_AT, PARAM_AT, RS, RUN_AT, STATE_CELLS, TIMER_AT, count_of,
+    COUNT_AT, FIFOS, INPUTS, MARKER_AT, PARAM_AT, RS, RUN_AT, STATE_CELLS, TIMER_AT, count_of,
 };
 
 // Whether all are values.
@@ -20,10 +23,8 @@ pub fn all_ranged(xs: &[i32]) -> bool
     ensures { result ≡ all_ranged xs.now }
 {
     let mut good = true;
-    let mut i: usize = 0;
-    while i < xs.len() {
-        good = good & in_range(xs[i]);
-        i += 1;
+    for x in xs {
+        good &= in_range(*x);
     }
     good
 }
@@ -31,13 +32,11 @@ pub fn all_ranged(xs: &[i32]) -> bool
 fn is_output(v: i32) -> bool
     ensures { result ≡ is_output v }
 {
-    match output(v) {
-        Worked::Value(_) => true,
-        Worked::Alarm(_) => false,
-    }
+    output(v).is_ok()
 }
 
 // Whether a value may stand in the state's cell i.
+#[tactic(auto, unfolding(crate::specs::Sound::is_cell))]
 fn is_cell(i: usize, v: i32) -> bool
     ensures { result ≡ is_cell i v }
 {
@@ -65,10 +64,8 @@ fn cells_on(cells: &[i32], from: usize, to: usize, before: bool) -> bool
     ensures { (result && are_cells (drop to cells.now) to) ≡ (before && are_cells (drop from cells.now) from) }
 {
     let mut good = before;
-    let mut i = from;
-    while i < to {
-        good = good & is_cell(i, cells[i]);
-        i += 1;
+    for i in from..to {
+        good &= is_cell(i, cells[i]);
     }
     good
 }
@@ -90,15 +87,14 @@ fn all_zero(xs: &[i32], n: usize) -> bool
     ensures { result ≡ all_zero (drop n xs.now) }
 {
     let mut good = true;
-    let mut i = n;
-    while i < xs.len() {
-        good = good & is_equal(xs[i], 0);
-        i += 1;
+    for i in n..xs.len() {
+        good &= is_equal(xs[i], 0);
     }
     good
 }
 
 // Whether the unused places of FIFO k, from 0, are 0.
+#[tactic(auto, unfolding(crate::specs::Sound::is_fifo_sound))]
 fn is_fifo_sound(r: &[i32; RS], cells: &[i32], k: usize) -> bool
     requires { (k < fifos) × (length cells.now ≡ state_cells) }
     ensures { result ≡ is_fifo_sound r.now cells.now k }
@@ -106,8 +102,7 @@ fn is_fifo_sound(r: &[i32; RS], cells: &[i32], k: usize) -> bool
     let start = RUN_AT + PLACES * k;
     let end = start + PLACES;
     let count = count_of(cells[COUNT_AT + k]) as usize;
-    let all = &r[..];
-    all_zero(&all[start..end], count)
+    all_zero(&r[start..end], count)
 }
 
 fn are_fifos(r: &[i32; RS], cells: &[i32]) -> bool
@@ -115,34 +110,21 @@ fn are_fifos(r: &[i32; RS], cells: &[i32]) -> bool
     ensures { result ≡ are_fifos r.now cells.now fifos 0 }
 {
     let mut good = true;
-    let mut k: usize = 0;
-    while k < FIFOS {
-        good = good & is_fifo_sound(r, cells, k);
-        k += 1;
+    for k in 0..FIFOS {
+        good &= is_fifo_sound(r, cells, k);
     }
     good
 }
 
 // Whether lock, cancel and memory of rank k go together, in a set of so many lines.
+#[tactic(auto, unfolding(crate::specs::Sound::is_flag))]
 fn is_flag(count: usize, k: usize, locked: bool, cancelled: bool, memory: bool) -> bool
     ensures { result ≡ is_flag count k locked cancelled memory }
 {
     if k < count {
-        if cancelled {
-            if locked {
-                return false;
-            }
-            return !memory;
-        }
-        return true;
+        return !cancelled || !locked && !memory;
     }
-    if locked {
-        return false;
-    }
-    if memory {
-        return false;
-    }
-    !cancelled
+    !locked && !memory && !cancelled
 }
 
 fn are_flags(
@@ -154,15 +136,14 @@ fn are_flags(
     ensures { result ≡ are_flags count locked.now cancelled.now memory.now max_lines 0 }
 {
     let mut good = true;
-    let mut k: usize = 0;
-    while k < LINES {
-        good = good & is_flag(count, k, locked[k], cancelled[k], memory[k]);
-        k += 1;
+    for k in 0..LINES {
+        good &= is_flag(count, k, locked[k], cancelled[k], memory[k]);
     }
     good
 }
 
 // Whether a line of rank k may have acted so often, in a set of so many lines.
+#[tactic(auto, unfolding(crate::specs::ActCount::is_act_count))]
 fn is_act_count(count: usize, k: usize, acts: u32) -> bool
     ensures { result ≡ is_act_count count k acts }
 {
@@ -176,70 +157,48 @@ fn are_act_counts(count: usize, acts: &[u32; LINES]) -> bool
     ensures { result ≡ are_act_counts count acts.now max_lines 0 }
 {
     let mut good = true;
-    let mut k: usize = 0;
-    while k < LINES {
-        good = good & is_act_count(count, k, acts[k]);
-        k += 1;
+    for (k, acts) in acts.iter().enumerate() {
+        good &= is_act_count(count, k, *acts);
     }
     good
 }
 
-// Whether a state is sound for a set of so many lines; it is lent by its arrays, of which all but the running timers are looked at.
-pub fn is_held_sound(
-    count: usize,
-    r: &[i32; RS],
-    cells: &[i32],
-    channels: [Channel; CHANNELS],
-    locked: &[bool; LINES],
-    cancelled: &[bool; LINES],
-    memory: &[bool; LINES],
-    acts: &[u32; LINES],
-) -> bool
-    requires { length cells.now ≡ state_cells }
-    ensures { (runs : List Bool) → result ≡ state_sound count (record { r = r.entry.now; cells = cells.now; runs = runs; channels = channels; locked = locked.now; cancelled = cancelled.now; memory = memory.now; acts = acts.now }) }
+// Whether the state that is held is sound for a set of so many lines; all of it but the running timers is looked at.
+pub fn is_held_sound(count: usize, held: &Held) -> bool
+    ensures { result ≡ state_sound count (state_held held.now) }
 {
-    if !all_ranged(r) {
-        return false;
-    }
-    if !are_cells(cells) {
-        return false;
-    }
-    if !are_fifos(r, cells) {
-        return false;
-    }
-    if !are_channels(channels) {
-        return false;
-    }
-    if !are_flags(count, locked, cancelled, memory) {
-        return false;
-    }
-    are_act_counts(count, acts)
+    let cells = &held.cells[INPUTS..];
+    all_ranged(&held.r)
+        && are_cells(cells)
+        && are_fifos(&held.r, cells)
+        && are_channels(held.channels)
+        && are_flags(count, &held.locked, &held.cancelled, &held.memory)
+        && are_act_counts(count, &held.acts)
 }
 
-// The same of a state by value.
-pub fn is_state_sound(count: usize, state: State) -> bool
-    ensures { result ≡ state_sound count state }
+// The same of a whole state.
+fn is_state_sound(count: usize, state: &State) -> bool
+    ensures { result ≡ state_sound count state.now }
 {
-    let r = state.r;
-    let cells = state.cells;
-    let channels = state.channels;
-    let locked = state.locked;
-    let cancelled = state.cancelled;
-    let memory = state.memory;
-    let acts = state.acts;
-    is_held_sound(
-        count, &r, &cells, channels, &locked, &cancelled, &memory, &acts,
-    )
+    is_held_sound(count, &Held::new(*state))
+}
+
+// The lines of a set; 22 where it or a state is not sound.
+#[tactic(auto, unfolding(crate::specs::Sound::is_sound))]
+pub fn lines_with(set: &[u32; SIZE], state: &State) -> Result<Lines, u8>
+    ensures value { result ≡ lines_with set.now state.now }
+    ensures few { IfOk result (λ l. l.count ≤ max_lines) }
+{
+    let lines = sound_lines(set).ok_or(UNSOUND)?;
+    if !is_state_sound(lines.count, state) {
+        return Err(UNSOUND);
+    }
+    Ok(lines)
 }
 
 // Whether a set and a state are sound.
 pub fn is_sound(set: &[u32; SIZE], state: State) -> bool
     ensures { result ≡ is_sound set.now state }
 {
-    let lines = sound_lines(set);
-    let sound = lines.sound;
-    if !sound {
-        return false;
-    }
-    is_state_sound(lines.count, state)
+    lines_with(set, &state).is_ok()
 }

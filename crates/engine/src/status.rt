@@ -1,25 +1,24 @@
 // The status picture of a set: for each line its kind, number, standing and how often it acted.
-ghost use Rattle.std.specs.Prelude.{◌≡◌, ◌≤◌, replicate};
-ghost use Rattle.values.specs.Codes.{unsound};
+ghost use Rattle.std.specs.Prelude.{◌≡◌, ◌≤◌};
 ghost use Rattle.tokens.specs.Token.{max_lines};
-ghost use Rattle.engine.specs.Status.{standing_of, no_status, status_lines, status_of};
+ghost use Rattle.engine.specs.Status.{standing_of, status_lines, status_of};
 
-use crate::set::{Lines, sound_lines};
-use crate::sound::is_state_sound;
+use crate::set::Lines;
+use crate::sound::lines_with;
 use crate::state::State;
 use checking::Line;
 use tokens::token::{LINES, SIZE};
-use values::codes::UNSOUND;
 
-#[derive(Clone, Copy)]
+#[derive(Clone, Copy, Default)]
 pub enum Standing {
     Locked,
     Cancelled,
+    #[default]
     Waiting,
 }
 
 // A line's row in the picture.
-#[derive(Clone, Copy)]
+#[derive(Clone, Copy, Default)]
 pub struct LineStatus {
     pub ids: bool,
     pub number: u8,
@@ -27,14 +26,14 @@ pub struct LineStatus {
     pub acts: u32,
 }
 
-// The rows of the first `count` places, by rising number, or a code.
+// The rows of the first `count` places, by rising number.
 #[derive(Clone, Copy)]
 pub struct Status {
-    pub code: u8,
     pub count: usize,
     pub lines: [LineStatus; LINES],
 }
 
+#[tactic(auto, unfolding(crate::specs::Status::standing_of))]
 fn standing_of(cancelled: bool, locked: bool) -> Standing
     ensures { result ≡ standing_of cancelled locked }
 {
@@ -47,73 +46,43 @@ fn standing_of(cancelled: bool, locked: bool) -> Standing
     Standing::Waiting
 }
 
-fn no_status() -> LineStatus
-    ensures { result ≡ no_status }
-{
-    LineStatus {
-        ids: false,
-        number: 0,
-        standing: Standing::Waiting,
-        acts: 0,
-    }
-}
-
 // The row of a line that is so cancelled, so locked and acted so often.
-fn line_status(line: Line, cancelled: bool, locked: bool, acts: u32) -> LineStatus
-    ensures { result ≡ record { ids = line.ids; number = line.number; standing = standing_of cancelled locked; acts = acts } }
+fn line_status(line: &Line, cancelled: bool, locked: bool, acts: u32) -> LineStatus
+    ensures { result ≡ record { ids = line.now.ids; number = line.now.number; standing = standing_of cancelled locked; acts = acts } }
 {
-    let standing = standing_of(cancelled, locked);
     LineStatus {
         ids: line.ids,
         number: line.number,
-        standing: standing,
-        acts: acts,
+        standing: standing_of(cancelled, locked),
+        acts,
     }
 }
 
-fn status_lines(lines: Lines, state: State) -> [LineStatus; LINES]
-    requires { lines.count ≤ max_lines }
-    ensures { result ≡ status_lines lines.items state lines.count }
+#[tactic(auto, unfolding(crate::specs::Status::status_lines, crate::specs::Status::line_status))]
+fn status_lines(lines: &Lines, state: &State) -> [LineStatus; LINES]
+    requires { lines.now.count ≤ max_lines }
+    ensures { result ≡ status_lines lines.now.items state.now lines.now.count }
 {
-    let mut rows = [no_status(); LINES];
-    let count = lines.count;
-    let items = lines.items;
-    let mut k: usize = 0;
-    while k < count {
-        let row = line_status(items[k], state.cancelled[k], state.locked[k], state.acts[k]);
-        rows[k] = row;
-        k += 1;
+    let mut rows = [LineStatus::default(); LINES];
+    for k in 0..lines.count {
+        rows[k] = line_status(
+            &lines.items[k],
+            state.cancelled[k],
+            state.locked[k],
+            state.acts[k],
+        );
     }
     rows
 }
 
-fn no_picture() -> Status
-    ensures { result ≡ record { code = unsound; count = 0; lines = replicate max_lines no_status } }
-{
-    let rows = [no_status(); LINES];
-    Status {
-        code: UNSOUND,
-        count: 0,
-        lines: rows,
-    }
-}
-
-// The picture; 22 where the set or the state is not sound, and then no rows.
-pub fn status_of(set: &[u32; SIZE], state: State) -> Status
+// The picture; 22 where the set or the state is not sound.
+#[tactic(auto, unfolding(crate::specs::Status::status_of))]
+pub fn status_of(set: &[u32; SIZE], state: State) -> Result<Status, u8>
     ensures { result ≡ status_of set.now state }
 {
-    let lines = sound_lines(set);
-    let sound = lines.sound;
-    if !sound {
-        return no_picture();
-    }
-    if !is_state_sound(lines.count, state) {
-        return no_picture();
-    }
-    let rows = status_lines(lines, state);
-    Status {
-        code: 0,
+    let lines = lines_with(set, &state)?;
+    Ok(Status {
         count: lines.count,
-        lines: rows,
-    }
+        lines: status_lines(&lines, &state),
+    })
 }

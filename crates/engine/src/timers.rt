@@ -7,21 +7,17 @@ use values::time::{Millis, Timer, grown};
 use working::variables::{TIMER_AT, TIMERS};
 
 // The running timers grow.
+#[tactic(auto, unfolding(crate::specs::Timers::grown_cells))]
 pub fn grow_timers(cells: &mut [i32], runs: &[bool; TIMERS])
     requires { length cells.old ≡ state_cells }
     ensures { cells.new ≡ grown_cells runs.now cells.old timer_count }
 {
-    let mut i: usize = 0;
-    while i < TIMERS {
+    for (i, runs) in runs.iter().enumerate() {
         let at = TIMER_AT + i;
-        let v = cells[at];
-        let on = runs[i];
-        let t = grown(Timer {
-            time: Millis(v),
-            runs: on,
+        let grown = grown(Timer {
+            time: Millis(cells[at]),
+            runs: *runs,
         });
-        let next = t.time.0;
-        cells[at] = next;
-        i += 1;
+        cells[at] = grown.time.0;
     }
 }

@@ -1,201 +1,141 @@
 // Writes to variables: a FIFO, a cell, R.
-ghost use Rattle.std.specs.Prelude.{◌≡◌, Bool, true, false, List, ◌+◌, ◌≤◌, ◌<◌, length, pos};
+ghost use Rattle.std.specs.Prelude.{◌≡◌, true, false, ◌+◌, ◌≤◌, ◌<◌, length};
 ghost use Rattle.tokens.specs.Token as T;
 ghost use Rattle.tokens.specs.Token.{is_fifo};
 ghost use Rattle.tokens.specs.Index.{is_inside};
-ghost use Rattle.tokens.specs.Descent.{good};
 ghost use Rattle.working.specs.Variables.{cell_count, timer_count, run_at, run};
-ghost use Rattle.engine.specs.Write.{change_answer, changed, with_run, change_fifo, write_fifo, write_timer, put_cell, write_cell, write_to};
+ghost use Rattle.engine.specs.Write.{change_answer, changed, with_run, change_fifo, write_fifo, write_timer, write_cell, write_to};
 ghost use Rattle.values.specs.Fifo.{places};
-ghost use Rattle.engine.specs.WriteAnswers.{vars_of, IsChanged, IsCelled, IsWritten};
+ghost use Rattle.engine.specs.WriteAnswers.{IsChanged, IsCelled, IsWritten};
 
 use tokens::index::is_inside;
 use tokens::token::{FIFO1, MARKER, OUT, PARAM, R, TIMER, is_fifo};
-use values::arithmetic::{Worked, marker, output};
-use values::codes::UNSOUND;
+use values::arithmetic::{marker, output};
+use values::codes::Alarm;
 use values::fifo::{Moved, PLACES, append, empty, remove};
 use values::time::{Millis, Timer, written};
 use working::variables::{CELLS, COUNT_CELLS, RS, RUN_AT, TIMERS, cell_of, count_of};
 
-// What a write gives.
+// The variables of a beat under way: R, the cells, which timers run.
 #[derive(Clone, Copy)]
-pub struct Wrote {
-    pub good: bool,
-    pub alarm: u8,
+pub struct Vars {
+    pub r: [i32; RS],
+    pub cells: [i32; CELLS],
+    pub runs: [bool; TIMERS],
 }
 
-// A FIFO's part and count: 0 appends, 1 removes, else empties by a written value.
-fn change(part: &mut [i32], op: u8, count: u8, v: i32) -> Moved
-    ensures value { result ≡ change_answer op part.old count v }
-    ensures part_after { part.new ≡ changed op part.old count v }
-{
-    if op == 0 {
-        return append(part, count, v);
-    }
-    if op == 1 {
-        return remove(part, count);
-    }
-    empty(part, count, v)
+// What is done to a FIFO: a value goes in behind the newest, the oldest comes out, or a value that is written empties it.
+#[derive(Clone, Copy, Debug, PartialEq, Eq)]
+pub enum Change {
+    Append(i32),
+    Remove,
+    Empty(i32),
 }
 
-// The run of FIFO k, from 0, is changed so.
-fn change_run(r: &mut [i32], k: usize, op: u8, count: u8, v: i32) -> Moved
-    requires { run_at k + places ≤ length r.old }
-    ensures value { result ≡ change_answer op (run r.old k) count v }
-    ensures r_after { r.new ≡ with_run r.old k (changed op (run r.old k) count v) }
-{
-    let start = RUN_AT + PLACES * k;
-    let end = start + PLACES;
-    change(&mut r[start..end], op, count, v)
-}
-
-// The FIFO with the word w is changed, in R and in its count.
-fn change_fifo(r: &mut [i32; RS], cells: &mut [i32; CELLS], op: u8, w: u32, v: i32) -> Worked
-    requires { is_fifo w ≡ true }
-    ensures { IsChanged result r.new cells.new (change_fifo r.old cells.old op w v) }
-{
-    let k = (w - FIFO1) as usize;
-    let at = COUNT_CELLS + k;
-    let count = count_of(cells[at]);
-    match change_run(r, k, op, count, v) {
-        Moved::Done(u, n) => {
-            cells[at] = n as i32;
-            Worked::Value(u)
+impl Vars {
+    // The run of FIFO k, from 0, with so many places in use, is changed so.
+    #[tactic(auto, unfolding(crate::specs::Write::change_answer, crate::specs::Write::changed))]
+    fn change_run(&mut self, k: usize, count: u8, change: Change) -> Result<Moved, Alarm>
+        requires { run_at k + places ≤ length self.old.r }
+        ensures value { result ≡ change_answer change (run self.old.r k) count }
+        ensures r_after { self.new ≡ record self.old { r = with_run self.old.r k (changed change (run self.old.r k) count) } }
+    {
+        let start = RUN_AT + PLACES * k;
+        let places = &mut self.r[start..start + PLACES];
+        match change {
+            Change::Append(v) => append(places, count, v),
+            Change::Remove => remove(places, count),
+            Change::Empty(v) => empty(places, count, v),
         }
-        Moved::Alarm(a) => Worked::Alarm(a),
-        Moved::Unfit => Worked::Alarm(UNSOUND),
     }
-}
 
-// The oldest value of the FIFO with the word w is removed.
-pub fn take_oldest(r: &mut [i32; RS], cells: &mut [i32; CELLS], w: u32) -> Worked
-    requires { is_fifo w ≡ true }
-    ensures { IsChanged result r.new cells.new (change_fifo r.old cells.old 1 w (pos 0)) }
-{
-    change_fifo(r, cells, 1, w, 0)
-}
-
-fn written_so() -> Wrote
-    ensures { result ≡ record { good = true; alarm = 0 } }
-{
-    Wrote {
-        good: true,
-        alarm: 0,
+    // The FIFO with the word w is changed, in R and in its count.
+    #[tactic(auto, unfolding(crate::specs::Write::change_fifo, working::specs::Variables::beat_count))]
+    fn change_fifo(&mut self, w: u32, change: Change) -> Result<i32, Alarm>
+        requires { is_fifo w ≡ true }
+        ensures value { IsChanged result self.new (change_fifo self.old.r self.old.cells change w) }
+        ensures same_runs { self.new.runs ≡ self.old.runs }
+    {
+        let k = (w - FIFO1) as usize;
+        let at = COUNT_CELLS + k;
+        let moved = self.change_run(k, count_of(self.cells[at]), change)?;
+        self.cells[at] = moved.count as i32;
+        Ok(moved.value)
     }
-}
 
-fn not_written(alarm: u8) -> Wrote
-    ensures { result ≡ record { good = false; alarm = alarm } }
-{
-    Wrote {
-        good: false,
-        alarm: alarm,
+    // The oldest value of the FIFO with the word w is removed.
+    pub fn take_oldest(&mut self, w: u32) -> Result<i32, Alarm>
+        requires { is_fifo w ≡ true }
+        ensures value { IsChanged result self.new (change_fifo self.old.r self.old.cells Change.Remove w) }
+        ensures same_runs { self.new.runs ≡ self.old.runs }
+    {
+        self.change_fifo(w, Change::Remove)
     }
-}
 
-// Writing FIFO [0] appends, writing [4] empties.
-fn write_fifo(r: &mut [i32; RS], cells: &mut [i32; CELLS], w: u32, i: u32, v: i32) -> Wrote
-    requires { is_fifo w ≡ true }
-    ensures { (runs : List Bool) → IsWritten result (vars_of r.new cells.new runs) (write_fifo (vars_of r.old cells.old runs) w i v) }
-{
-    if i == 0 {
-        return match change_fifo(r, cells, 0, w, v) {
-            Worked::Value(_) => written_so(),
-            Worked::Alarm(a) => not_written(a),
+    // Writing FIFO [0] appends, writing [4] empties.
+    #[tactic(auto, unfolding(crate::specs::Write::write_fifo))]
+    fn write_fifo(&mut self, w: u32, i: u32, v: i32) -> Result<(), Alarm>
+        requires { is_fifo w ≡ true }
+        ensures { IsWritten result self.new (write_fifo self.old w i v) }
+    {
+        match i {
+            0 => self.change_fifo(w, Change::Append(v))?,
+            4 => self.change_fifo(w, Change::Empty(v))?,
+            _ => return Err(Alarm::Unsound),
         };
+        Ok(())
     }
-    if i != 4 {
-        return not_written(UNSOUND);
-    }
-    match change_fifo(r, cells, 2, w, v) {
-        Worked::Value(_) => written_so(),
-        Worked::Alarm(a) => not_written(a),
-    }
-}
 
-// A timer is written: its cell, and whether it runs.
-fn write_timer(
-    cells: &mut [i32; CELLS],
-    runs: &mut [bool; TIMERS],
-    at: usize,
-    i: usize,
-    v: i32,
-) -> Wrote
-    requires { (at < cell_count) × (i < timer_count) }
-    ensures { IsCelled result cells.new runs.new (good (write_timer cells.old runs.old at i v)) }
-{
-    let before = cells[at];
-    let ran = runs[i];
-    let t = written(
-        Timer {
-            time: Millis(before),
-            runs: ran,
-        },
-        v,
-    );
-    let time = t.time.0;
-    cells[at] = time;
-    runs[i] = t.runs;
-    written_so()
-}
+    // A timer is written: its cell, and whether it runs.
+    fn write_timer(&mut self, at: usize, i: usize, v: i32)
+        requires { (at < cell_count) × (i < timer_count) }
+        ensures { self.new ≡ (let c = write_timer self.old.cells self.old.runs at i v in record self.old { cells = c.cells; runs = c.runs }) }
+    {
+        let before = Timer {
+            time: Millis(self.cells[at]),
+            runs: self.runs[i],
+        };
+        let after = written(before, v);
+        self.cells[at] = after.time.0;
+        self.runs[i] = after.runs;
+    }
 
-// What a target made of a value goes into the cell at `at`; with an alarm the cell stays.
-fn put(cells: &mut [i32; CELLS], at: usize, made: Worked) -> Wrote
-    requires { at < cell_count }
-    ensures { (runs : List Bool) → IsCelled result cells.new runs (put_cell cells.old runs at made) }
-{
-    match made {
-        Worked::Value(u) => {
-            cells[at] = u;
-            written_so()
+    // Outputs, markers, parameters and timers, each by its own rule.
+    #[tactic(auto, unfolding(crate::specs::Write::write_cell))]
+    fn write_cell(&mut self, w: u32, i: u32, v: i32) -> Result<(), Alarm>
+        requires { (is_inside w i ≡ true) × ((is_fifo w ≡ false) × (w ≡ T.R → ⊥)) }
+        ensures cell { IsCelled result self.new (write_cell self.old.cells self.old.runs w i v) }
+        ensures same_r { self.new.r ≡ self.old.r }
+    {
+        let at = cell_of(w, i);
+        if w == TIMER {
+            self.write_timer(at, i as usize, v);
+            return Ok(());
         }
-        Worked::Alarm(a) => not_written(a),
+        self.cells[at] = match w {
+            MARKER => marker(v)?,
+            PARAM => v,
+            OUT => output(v)?,
+            _ => return Err(Alarm::Unsound),
+        };
+        Ok(())
     }
-}
 
-// Outputs, markers, parameters and timers, each by its own rule.
-fn write_cell(cells: &mut [i32; CELLS], runs: &mut [bool; TIMERS], w: u32, i: u32, v: i32) -> Wrote
-    requires { (is_inside w i ≡ true) × ((is_fifo w ≡ false) × (w ≡ T.R → ⊥)) }
-    ensures { IsCelled result cells.new runs.new (write_cell cells.old runs.old w i v) }
-{
-    let at = cell_of(w, i);
-    if w == MARKER {
-        return put(cells, at, marker(v));
+    // The variable w[i] is written.
+    #[tactic(auto, unfolding(crate::specs::Write::write_to, crate::specs::Write::write_inside))]
+    pub fn write(&mut self, w: u32, i: u32, v: i32) -> Result<(), Alarm>
+        ensures { IsWritten result self.new (write_to self.old w i v) }
+    {
+        if !is_inside(w, i) {
+            return Err(Alarm::Unsound);
+        }
+        if w == R {
+            self.r[i as usize] = v;
+            return Ok(());
+        }
+        if is_fifo(w) {
+            return self.write_fifo(w, i, v);
+        }
+        self.write_cell(w, i, v)
     }
-    if w == PARAM {
-        cells[at] = v;
-        return written_so();
-    }
-    if w == OUT {
-        return put(cells, at, output(v));
-    }
-    if w != TIMER {
-        return not_written(UNSOUND);
-    }
-    write_timer(cells, runs, at, i as usize, v)
-}
-
-// The variable w[i] is written.
-pub fn write(
-    r: &mut [i32; RS],
-    cells: &mut [i32; CELLS],
-    runs: &mut [bool; TIMERS],
-    w: u32,
-    i: u32,
-    v: i32,
-) -> Wrote
-    ensures { IsWritten result (vars_of r.new cells.new runs.new) (write_to (vars_of r.old cells.old runs.old) w i v) }
-{
-    if !is_inside(w, i) {
-        return not_written(UNSOUND);
-    }
-    if w == R {
-        let at = i as usize;
-        r[at] = v;
-        return written_so();
-    }
-    if is_fifo(w) {
-        return write_fifo(r, cells, w, i, v);
-    }
-    write_cell(cells, runs, w, i, v)
 }

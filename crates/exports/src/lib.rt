@@ -4,28 +4,28 @@
 
 ghost use Rattle.std.specs.Prelude.{◌≡◌};
 ghost use Rattle.working.specs.Working.{condition_value, right_value};
-ghost use Rattle.checking.specs.Fault.{line_at};
+ghost use Rattle.checking.specs.Fault.{fault_of_line, line_at};
 ghost use Rattle.reader.specs.Load.{load_answer, load_set};
 ghost use Rattle.exports.specs.Packed.{packed, packed_load};
 
 use checking::line_at;
 use reader::load;
 use tokens::token::SIZE;
+use values::codes::Alarm;
 use working::variables::{CELLS, RS};
-use working::{ValueOrAlarm, condition, right_side};
+use working::{Reached, condition, right_side};
 
-// An alarm k is -2^40 - k, below every value.
+// An alarm of the code k is -2^40 - k, below every value.
 const ALARMS: i64 = -1099511627776;
 
 // What working gives, as one number: the value, or an alarm.
-fn packed_value(g: ValueOrAlarm) -> i64
-    ensures { result ≡ packed g }
+fn packed_value(answer: Result<Reached, Alarm>) -> i64
+    ensures { result ≡ packed answer }
 {
-    let good = g.good;
-    if good {
-        return g.value as i64;
+    match answer {
+        Ok(reached) => i64::from(reached.value),
+        Err(alarm) => ALARMS - i64::from(alarm.code()),
     }
-    ALARMS - g.value as i64
 }
 
 // The condition at place `at`: 1 for yes, 0 for no, or an alarm.
@@ -57,10 +57,12 @@ pub extern "C" fn set_right_side(
 // The lowest fault of 4 to 10, or 14, of the line at place `at`, 0 for none.
 #[unsafe(no_mangle)]
 pub extern "C" fn set_line_fault(set: &[u32; SIZE], at: usize) -> u32
-    ensures { result ≡ (line_at set.now at).fault }
+    ensures { result ≡ fault_of_line (line_at set.now at) }
 {
-    let line = line_at(set, at);
-    line.fault as u32
+    match line_at(set, at) {
+        Ok(_) => 0,
+        Err(fault) => fault as u32,
+    }
 }
 
 // Loads a text into a set: the code, and 256 times the line that it names.

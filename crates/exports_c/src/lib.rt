@@ -3,7 +3,7 @@
 
 ghost use Rattle.std.specs.Prelude.{◌≡◌};
 ghost use Rattle.working.specs.Working.{condition_value, right_value};
-ghost use Rattle.checking.specs.Fault.{line_at};
+ghost use Rattle.checking.specs.Fault.{fault_of_line, line_at};
 ghost use Rattle.reader.specs.Load.{load_answer, load_set};
 ghost use Rattle.exports.specs.Packed.{packed, packed_load};
 
@@ -39,7 +39,7 @@ pub extern "C" fn set_right_side(
 // The lowest fault of 4 to 10, or 14, of the line at place `at`, 0 for none.
 #[unsafe(no_mangle)]
 pub extern "C" fn set_line_fault(set: &[u32; SIZE], at: usize) -> u32
-    ensures { result ≡ (line_at set.now at).fault }
+    ensures { result ≡ fault_of_line (line_at set.now at) }
 {
     exports::set_line_fault(set, at)
 }

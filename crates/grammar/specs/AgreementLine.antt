@@ -1,5 +1,5 @@
 -- The lines that the check finds: where it tells neither fault 4 nor fault 5, a line of the grammar is written; and what follows. Assumes nothing.
-use Rattle.std.specs.Prelude.{◌≡◌, Bool, false, ◌&&◌, ◌↔◌, length, drop}
+use Rattle.std.specs.Prelude.{Result, Ok, ◌≡◌, Bool, false, ◌&&◌, ◌↔◌, length, drop}
 use Rattle.std.proofs.Math.Path.{refl, sym, ap, subst}
 use Rattle.std.proofs.Common.{◌∙◌, inl, inr}
 use Rattle.std.proofs.Math.Bool.{true}
@@ -16,7 +16,7 @@ use Rattle.grammar.specs.Tree.{variable, product, no_factor, Sum, sum, no_term, 
 use Rattle.tokens.specs.Descent.{token, Read, read, ends, is_indexed, index_at, sum_at, expression_at}
 use Rattle.grammar.specs.Meaning.{Stands}
 use Rattle.tokens.specs.SingleFault.{lower, opens_too_many}
-use Rattle.checking.specs.Fault.{Sight, sight, fault_for, is_removal, assigned_at, assignment_at, command_at, is_given, is_synfct, synfct_at, unindexed_at, action_at, moves_at, actions_at, line_parts, body_at, rest_at, line_at}
+use Rattle.checking.specs.Fault.{Sight, sight, fault_for, fault_of_line, is_removal, assigned_at, assignment_at, command_at, is_given, is_synfct, synfct_at, unindexed_at, action_at, moves_at, actions_at, line_parts, body_at, rest_at, line_at}
 use Rattle.grammar.specs.TreeFault.{line_fault, Proper, parts_from, told_from}
 use Rattle.grammar.specs.AgreementLaws.{bounds, within, ends_read, then-read, stands-join, whole-written, number-written, axis-written, variable-kind}
 use Rattle.grammar.specs.AgreementRead.{sum-found, expression-found}
@@ -189,12 +189,12 @@ module _ (s : List ℕ) where
     stands : Stands s (i + 1) (actions_tokens first rest) end
     stops : token s end ≡ END
 
-  parts-found : (p kw cp a : ℕ) (r : Read ℕ) (z : Told) → (z.fault ≡ not_in_grammar → ⊥) → Five r → line_parts s p kw cp a r ≡ z → (g : ℕ) × (e : ℕ) × (r ≡ read g e)
+  parts-found : (p kw cp a : ℕ) (r : Read ℕ) (z : Result Told ℕ) → (fault_of_line z ≡ not_in_grammar → ⊥) → Five r → line_parts s p kw cp a r ≡ z → (g : ℕ) × (e : ℕ) × (r ≡ read g e)
   unfolding line_parts
   parts-found p kw cp a (read g e) z no5 five h = (g, e, refl)
-  parts-found p kw cp a (ends k) z no5 five h = absurd (no5 (ap (λ (l : Told). l.fault) (sym h) ∙ five))
+  parts-found p kw cp a (ends k) z no5 five h = absurd (no5 (ap fault_of_line (sym h) ∙ five))
 
-  body-found : (p kw cp f i : ℕ) (z : Told) → (z.fault ≡ not_in_grammar → ⊥) → body_at s p kw cp f i ≡ z → Body i
+  body-found : (p kw cp f i : ℕ) (z : Result Told ℕ) → (fault_of_line z ≡ not_in_grammar → ⊥) → body_at s p kw cp f i ≡ z → Body i
   unfolding body_at
   body-found p kw cp f i z no5 h =
       choice _ (eqb (token s i) DO) _ _ z h
@@ -202,14 +202,14 @@ module _ (s : List ℕ) where
       let (g, n, m) = parts-found p kw cp (i + 1) (actions_at s kw set_size set_size 0 [] f (i + 1)) z no5 (actions-five s kw set_size set_size 0 [] f (i + 1)) e in
       let (a, r, y, u) = actions-found kw set_size set_size 0 [] f (i + 1) g n m in
       record { first = a; rest = r; end = n; begins = eqb-true (token s i) DO t; stands = y; stops = u })
-      (λ _ e. absurd (no5 (ap (λ (l : Told). l.fault) (sym e))))
+      (λ _ e. absurd (no5 (ap fault_of_line (sym e))))
 
   -- what a choice by a reading came to
   outcome : {X : Type 0} (P : Type 0) (r : Read ℕ) (f : ℕ → ℕ → X) (g : ℕ → X) (z : X) → elim r as (λ _. X) [ read a q ↦ f a q | ends k ↦ g k ] ≡ z → ((a q : ℕ) → r ≡ read a q → f a q ≡ z → P) → ((k : ℕ) → r ≡ ends k → g k ≡ z → P) → P
   outcome P (read a q) f g z h x y = x a q refl h
   outcome P (ends k) f g z h x y = y k refl h
 
-  rest-found : (p f : ℕ) (z : Told) → (z.fault ≡ not_in_grammar → ⊥) → rest_at s p f ≡ z → (c : Condition) × (i : ℕ) × Stands s (p + 3) (condition_tokens c) i × Body i
+  rest-found : (p f : ℕ) (z : Result Told ℕ) → (fault_of_line z ≡ not_in_grammar → ⊥) → rest_at s p f ≡ z → (c : Condition) × (i : ℕ) × Stands s (p + 3) (condition_tokens c) i × Body i
   unfolding rest_at condition_tokens
   rest-found p f z no5 h =
       choice _ (is_keyword (token s (p + 3))) _ _ z h
@@ -219,11 +219,11 @@ module _ (s : List ℕ) where
       let b = expression-found s sight set_size (p + 4) v i r in
       let four : p + 3 + 1 ≡ p + 4 = omega arith in
       (under (token s (p + 3)) (told-so _ t) b.tree, i, (refl, rw four b.stands), body-found p (token s (p + 3)) (p + 4) (lower f g) i z no5 e))
-      (λ k m e. absurd (no5 (ap (λ (l : Told). l.fault) (sym e) ∙ (rw m at (condition-five s set_size (p + 4)))))))
+      (λ k m e. absurd (no5 (ap fault_of_line (sym e) ∙ (rw m at (condition-five s set_size (p + 4)))))))
       (λ _ e. (always, p + 3, refl, body-found p 0 0 f (p + 3) z no5 e))
 
   -- where no more than eight brackets are open and the check does not tell fault 5, a line of the grammar is written
-  pub line-written : (p : ℕ) → opens_too_many (drop p s) 0 ≡ false → ((line_at s p).fault ≡ not_in_grammar → ⊥) → (l : Line) × (q : ℕ) × Stands s p (line_tokens l) q
+  pub line-written : (p : ℕ) → opens_too_many (drop p s) 0 ≡ false → (fault_of_line (line_at s p) ≡ not_in_grammar → ⊥) → (l : Line) × (q : ℕ) × Stands s p (line_tokens l) q
   unfolding line_at line_tokens
   line-written p o no5 =
       choice _ (is_id (token s p) && (eqb (token s (p + 1)) EQUALS && is_whole (token s (p + 2)))) _ _ (line_at s p) (sym (refused (opens_too_many (drop p s) 0) _ _ o))
@@ -238,7 +238,7 @@ module _ (s : List ℕ) where
       let y = stands-join s body (END ∷ []) (i + 1) b.end (b.end + 1) b.stands (b.stops, refl) in
       let z = stands-join s (condition_tokens c) (DO ∷ body ++ (END ∷ [])) (p + 3) i (b.end + 1) x (b.begins, y) in
       (line (token s p) (told-so _ v) (whole (token s (p + 2))) c b.first b.rest, b.end + 1, (refl, (eqb-true (token s (p + 1)) EQUALS a, rw (two, three) (n, z)))))
-      (λ _ e. absurd (no5 (ap (λ (l : Told). l.fault) (sym e))))
+      (λ _ e. absurd (no5 (ap fault_of_line (sym e))))
 
   -- ---- what follows
 
@@ -247,43 +247,54 @@ module _ (s : List ℕ) where
   line-told n l p q o h = let f = line-fits s l p q h in line-agrees s l p q (omega arith) o h
 
   -- its fault
-  pub line-fault : length s ≤ set_size → (l : Line) (p q : ℕ) → opens_too_many (drop p s) 0 ≡ false → Stands s p (line_tokens l) q → (line_at s p).fault ≡ line_fault l
+  pub line-fault : length s ≤ set_size → (l : Line) (p q : ℕ) → opens_too_many (drop p s) 0 ≡ false → Stands s p (line_tokens l) q → fault_of_line (line_at s p) ≡ line_fault l
   unfolding told_from parts_from
   line-fault n (line w v k c a r) p q o h =
       let l = line w v k c a r in
-      ap (λ (x : Told). x.fault) (line-told n l p q o h) ∙ decide _ (eqb (line_fault l) 0)
-      (λ t. ap (λ (x : Told). x.fault) (chosen _ _ _ t) ∙ sym (eqb-true (line_fault l) 0 t))
-      (λ t. ap (λ (x : Told). x.fault) (refused _ _ _ t))
+      ap fault_of_line (line-told n l p q o h) ∙ decide _ (eqb (line_fault l) 0)
+      (λ t. ap fault_of_line (chosen _ _ _ t) ∙ sym (eqb-true (line_fault l) 0 t))
+      (λ t. ap fault_of_line (refused _ _ _ t))
 
   -- its parts, where it has no fault; the place where it ends holds 0
-  pub line-parts : length s ≤ set_size → (l : Line) (p q : ℕ) → opens_too_many (drop p s) 0 ≡ false → Stands s p (line_tokens l) q → line_fault l ≡ 0 → (line_at s p ≡ parts_from p l) × (token s (parts_from p l).end ≡ END)
+  pub line-parts : length s ≤ set_size → (l : Line) (p q : ℕ) → opens_too_many (drop p s) 0 ≡ false → Stands s p (line_tokens l) q → line_fault l ≡ 0 → (line_at s p ≡ Ok (parts_from p l)) × (token s (parts_from p l).end ≡ END)
   unfolding told_from
   line-parts n l p q o h f = (line-told n l p q o h ∙ chosen _ _ _ (eq-eqb (line_fault l) 0 f), end-holds s l p q h)
 
   -- WHAT IS CHECKED IS WRITTEN SO: where the check tells neither fault 4 nor fault 5, a line of the grammar is written
-  pub line-found : (p : ℕ) → ((line_at s p).fault ≡ too_deep → ⊥) → ((line_at s p).fault ≡ not_in_grammar → ⊥) → (l : Line) × (q : ℕ) × Stands s p (line_tokens l) q
+  pub line-found : (p : ℕ) → (fault_of_line (line_at s p) ≡ too_deep → ⊥) → (fault_of_line (line_at s p) ≡ not_in_grammar → ⊥) → (l : Line) × (q : ℕ) × Stands s p (line_tokens l) q
   unfolding line_at
   line-found p no4 no5 =
       decide _ (opens_too_many (drop p s) 0)
-      (λ t. absurd (no4 (ap (λ (x : Told). x.fault) (chosen _ _ _ t))))
+      (λ t. absurd (no4 (ap fault_of_line (chosen _ _ _ t))))
       (λ t. line-written p t no5)
 
   -- FAULT 5 IS THE GRAMMAR'S: with no more than eight brackets open, the check tells fault 5 exactly where no line of the grammar is written
-  pub fault-five : length s ≤ set_size → (p : ℕ) → opens_too_many (drop p s) 0 ≡ false → ((line_at s p).fault ≡ not_in_grammar) ↔ ((l : Line) (q : ℕ) → Stands s p (line_tokens l) q → ⊥)
+  pub fault-five : length s ≤ set_size → (p : ℕ) → opens_too_many (drop p s) 0 ≡ false → (fault_of_line (line_at s p) ≡ not_in_grammar) ↔ ((l : Line) (q : ℕ) → Stands s p (line_tokens l) q → ⊥)
   fault-five n p o = (
     (λ e l q h. proper-5 (line_fault l) (line-proper l) (sym (line-fault n l p q o h) ∙ e)),
-    (λ none. decide _ (eqb (line_at s p).fault not_in_grammar)
-        (λ t. eqb-true (line_at s p).fault not_in_grammar t)
-        (λ t. let (l, q, h) = line-written p o (eqb-false (line_at s p).fault not_in_grammar t) in absurd (none l q h))),
+    (λ none. decide _ (eqb (fault_of_line (line_at s p)) not_in_grammar)
+        (λ t. eqb-true (fault_of_line (line_at s p)) not_in_grammar t)
+        (λ t. let (l, q, h) = line-written p o (eqb-false (fault_of_line (line_at s p)) not_in_grammar t) in absurd (none l q h))),
   )
 
 -- tokens without a fault have no fault 4
-pub not-deep : (s : List ℕ) (p : ℕ) → (line_at s p).fault ≡ 0 → opens_too_many (drop p s) 0 ≡ false
+pub not-deep : (s : List ℕ) (p : ℕ) → fault_of_line (line_at s p) ≡ 0 → opens_too_many (drop p s) 0 ≡ false
 unfolding line_at
 not-deep s p clean =
     decide _ (opens_too_many (drop p s) 0)
-    (λ t. let z : (line_at s p).fault ≡ too_deep = ap (λ (x : Told). x.fault) (chosen _ _ _ t) in absurd (omega arith))
+    (λ t. let z : fault_of_line (line_at s p) ≡ too_deep = ap fault_of_line (chosen _ _ _ t) in absurd (omega arith))
     (λ t. t)
+
+-- what has no fault has its parts told
+pub told-parts : (s : List ℕ) (p : ℕ) → length s ≤ set_size → fault_of_line (line_at s p) ≡ 0 → (t : Told) × (line_at s p ≡ Ok t)
+unfolding told_from
+told-parts s p n clean =
+    let o = not-deep s p clean in
+    let (l, q, h) = line-written s p o (λ e. omega arith) in
+    let e = line-told s n l p q o h in
+    decide _ (eqb (line_fault l) 0)
+    (λ t. (parts_from p l, e ∙ chosen _ _ _ t))
+    (λ t. absurd (eqb-false (line_fault l) 0 t (sym (line-fault s n l p q o h) ∙ clean)))
 
 -- the number among the parts of a line
 pub parts-number : (p : ℕ) (l : Line) → (parts_from p l).number ≡ tree_number l

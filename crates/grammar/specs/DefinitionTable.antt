@@ -1,8 +1,8 @@
 -- Worked lines of document 02, Req 03, computed over the definitions: FCTDEF and SYNFCT.
-use Rattle.std.specs.Prelude.{◌≡◌, refl, List, [], ◌∷◌, ◌++◌, ℕ, pos, neg_ℤ}
+use Rattle.std.specs.Prelude.{Ok, ◌≡◌, refl, List, [], ◌∷◌, ◌++◌, ℕ, pos, neg_ℤ}
 use Rattle.values.specs.Codes.{too_deep, not_in_grammar, outside, read_only, wrong_curve}
 use Rattle.values.specs.Value.{less_than}
-use Rattle.checking.specs.CurveDefinition.{limits_fault, judged_curve, number_place, parameter_at, part_at, part_behind, curve_from, ended_by, defined_by, is_defining, definition_at}
+use Rattle.checking.specs.CurveDefinition.{fault_of_definition, if_read, limits_fault, judged_curve, number_place, parameter_at, part_at, part_behind, curve_from, ended_by, defined_by, is_defining, definition_at}
 use Rattle.checking.specs.Fault.{line_at, rest_at, body_at, line_parts, moves_at, actions_at, action_at, unindexed_at, is_given, is_synfct, synfct_fault, synfct_at, count_fault, is_among, are_apart, moves_fault, number_of, names_from}
 use Rattle.tokens.specs.Token.{END, EQUALS, MINUS, OPEN, CLOSE, LEFT, RIGHT, ID, DO, COMMA, FCTDEF, IN, OUT, MARKER, R, FIFO1, IM, SYNFCT, X}
 use Rattle.tokens.specs.Descent.{is_index, index_of, is_indexed, index_at}
@@ -47,17 +47,17 @@ definition_cases =
 -- every case has the fault that it says
 unfoldable pub Defines : List Case → Type 0
 Defines [] = Unit {0}
-Defines (c ∷ cs) = ((definition_at c.tokens 0).fault ≡ c.fault) × Defines cs
+Defines (c ∷ cs) = (fault_of_definition (definition_at c.tokens 0) ≡ c.fault) × Defines cs
 
 -- the worked definitions have those faults
 pub definition-table : Defines definition_cases
-unfolding Defines definition_cases limits_fault judged_curve number_place parameter_at part_at part_behind curve_from ended_by defined_by is_defining definition_at curve_fault opens_too_many number_fault lower less_than
+unfolding Defines definition_cases if_read limits_fault judged_curve number_place parameter_at part_at part_behind curve_from ended_by defined_by is_defining definition_at curve_fault opens_too_many number_fault lower less_than
 definition-table = (refl, (refl, (refl, (refl, (refl, (refl, (refl, (refl, (refl, (refl, (refl, (refl, tt))))))))))))
 
 -- document 02's second curve, as it is defined
 pub second-curve : definition_at (defining 2 (MINUS ∷ n 100 ∷ COMMA ∷ n 100 ∷ COMMA ∷ n 500 ∷ COMMA ∷ MINUS ∷ n 100 ∷ COMMA ∷ n 0 ∷ COMMA ∷ n 0 ∷ [])) 0
-    ≡ record { fault = 0; number = 2; curve = record { lower = neg_ℤ (pos 100000); upper = pos 100000; a0 = pos 500000; a1 = neg_ℤ (pos 100000); a2 = pos 0; a3 = pos 0 }; end = 18 }
-unfolding limits_fault judged_curve number_place parameter_at part_at part_behind curve_from ended_by defined_by is_defining definition_at curve_fault opens_too_many number_fault lower less_than
+    ≡ Ok (record { number = 2; curve = record { lower = neg_ℤ (pos 100000); upper = pos 100000; a0 = pos 500000; a1 = neg_ℤ (pos 100000); a2 = pos 0; a3 = pos 0 }; end = 18 })
+unfolding if_read limits_fault judged_curve number_place parameter_at part_at part_behind curve_from ended_by defined_by is_defining definition_at curve_fault opens_too_many number_fault lower less_than
 second-curve = refl
 
 -- ---- SYNFCT

@@ -1,5 +1,5 @@
 -- A LINE'S FAULT BY ITS TREE, both ways: of the tokens of a line, wherever they stand, the check tells 4, 5, or the fault of a line of the grammar that is written as them. Theorems; nothing is assumed.
-use Rattle.std.specs.Prelude.{◌≡◌, refl, true, false, List, [], ◌∷◌, ◌++◌, ◌↔◌, ℕ, ◌≤◌, length, drop}
+use Rattle.std.specs.Prelude.{Ok, ◌≡◌, refl, true, false, List, [], ◌∷◌, ◌++◌, ◌↔◌, ℕ, ◌≤◌, length, drop}
 use Rattle.std.proofs.Common.{sym, ◌∙◌, inr, arith}
 use Rattle.std.proofs.Math.Path.{ap}
 use Rattle.values.specs.Codes.{too_deep, not_in_grammar, two_moves}
@@ -7,10 +7,10 @@ use Rattle.values.specs.Choice.{decide, chosen}
 use Rattle.checking.specs.declared.line.Line.{Line as Told}
 use Rattle.tokens.specs.Token.{END, set_size, AllReal}
 use Rattle.tokens.specs.SingleFault.{opens_too_many}
-use Rattle.checking.specs.Fault.{line_at}
+use Rattle.checking.specs.Fault.{fault_of_line, line_at}
 use Rattle.grammar.specs.Tree.{Line, tree_number, WrittenAs}
 use Rattle.grammar.specs.Meaning.{Stands}
-use Rattle.grammar.specs.TreeFault.{moves_in, parts_fault, line_fault, AxesApart, Proper}
+use Rattle.grammar.specs.TreeFault.{parts_from, moves_in, parts_fault, line_fault, AxesApart, Proper}
 use Rattle.grammar.specs.TreeFaultLaws.{line-proper}
 use Rattle.grammar.specs.OneMove.{line-14}
 use Rattle.grammar.specs.AgreementLine.{line-written, line-fault, line-parts, fault-five, parts-number, not-deep, proper-4, proper-5}
@@ -21,23 +21,25 @@ module _ (s ts : List ℕ) (p q : ℕ) (size : length s ≤ set_size) (real : Al
   opens : opens_too_many (drop p s) 0 ≡ opens_too_many ts 0
   opens = opens-stands s ts p q 0 h
 
-  deep : opens_too_many ts 0 ≡ true → (line_at s p).fault ≡ too_deep
+  deep : opens_too_many ts 0 ≡ true → fault_of_line (line_at s p) ≡ too_deep
   unfolding line_at
-  deep t = ap (λ (x : Told). x.fault) (chosen _ _ _ (opens ∙ t))
+  deep t = ap fault_of_line (chosen _ _ _ (opens ∙ t))
 
-  -- the fault of a line that is written so, and where it has none its number
-  of_tree : (l : Line) → opens_too_many ts 0 ≡ false → WrittenAs l ts → (line_at s p).fault ≡ line_fault l
+  -- the fault of a line that is written so, and the number among its parts
+  of_tree : (l : Line) → opens_too_many ts 0 ≡ false → WrittenAs l ts → fault_of_line (line_at s p) ≡ line_fault l
   of_tree l o w = line-fault s size l p q (opens ∙ o) (line-standing s ts p q l h w)
 
-  pub number-by-tree : (l : Line) → (line_at s p).fault ≡ 0 → WrittenAs l ts → (line_at s p).number ≡ tree_number l
-  number-by-tree l f w =
+  pub number-by-tree : (l : Line) (t : Told) → line_at s p ≡ Ok t → WrittenAs l ts → t.number ≡ tree_number l
+  number-by-tree l t e w =
+      let f = ap fault_of_line e in
       let o = not-deep s p f in
       let g = line-standing s ts p q l h w in
       let (x, y) = line-parts s size l p q o g (sym (line-fault s size l p q o g) ∙ f) in
-      ap (λ (z : Told). z.number) x ∙ parts-number p l
+      let same : t ≡ parts_from p l = cc in
+      ap (λ (z : Told). z.number) same ∙ parts-number p l
 
   -- 4: more than eight brackets are open
-  pub fault-4 : ((line_at s p).fault ≡ too_deep) ↔ (opens_too_many ts 0 ≡ true)
+  pub fault-4 : (fault_of_line (line_at s p) ≡ too_deep) ↔ (opens_too_many ts 0 ≡ true)
   fault-4 = (
     (λ e. decide _ (opens_too_many ts 0) (λ t. t) (λ o.
         let (l, r, g) = line-written s p (opens ∙ o) (λ z. omega arith) in
@@ -46,7 +48,7 @@ module _ (s ts : List ℕ) (p q : ℕ) (size : length s ≤ set_size) (real : Al
   )
 
   -- 5: they are not, and no line is written as these tokens
-  pub fault-5 : ((line_at s p).fault ≡ not_in_grammar) ↔ ((opens_too_many ts 0 ≡ false) × ((l : Line) → WrittenAs l ts → ⊥))
+  pub fault-5 : (fault_of_line (line_at s p) ≡ not_in_grammar) ↔ ((opens_too_many ts 0 ≡ false) × ((l : Line) → WrittenAs l ts → ⊥))
   fault-5 = (
     (λ e. decide _ (opens_too_many ts 0)
         (λ t. let z = deep t in absurd (omega arith))
@@ -55,7 +57,7 @@ module _ (s ts : List ℕ) (p q : ℕ) (size : length s ≤ set_size) (real : Al
   )
 
   -- 0, OR 6 TO 10, OR 14: they are not, a line is written as these tokens, and that is its lowest fault
-  pub fault-by-tree : (f : ℕ) → Proper f → ((line_at s p).fault ≡ f) ↔ ((opens_too_many ts 0 ≡ false) × ((l : Line) × WrittenAs l ts × (line_fault l ≡ f)))
+  pub fault-by-tree : (f : ℕ) → Proper f → (fault_of_line (line_at s p) ≡ f) ↔ ((opens_too_many ts 0 ≡ false) × ((l : Line) × WrittenAs l ts × (line_fault l ≡ f)))
   fault-by-tree f proper = (
     (λ e. decide _ (opens_too_many ts 0)
         (λ t. absurd (proper-4 f proper (sym e ∙ deep t)))
@@ -67,7 +69,7 @@ module _ (s ts : List ℕ) (p q : ℕ) (size : length s ≤ set_size) (real : Al
   )
 
   -- 14: they are not, and of the line that is written as these tokens nothing else is wrong, but it moves an axis twice
-  pub fault-14 : ((line_at s p).fault ≡ two_moves) ↔ ((opens_too_many ts 0 ≡ false) × ((l : Line) × WrittenAs l ts × (parts_fault l ≡ 0) × (AxesApart (moves_in l) → ⊥)))
+  pub fault-14 : (fault_of_line (line_at s p) ≡ two_moves) ↔ ((opens_too_many ts 0 ≡ false) × ((l : Line) × WrittenAs l ts × (parts_fault l ≡ 0) × (AxesApart (moves_in l) → ⊥)))
   fault-14 =
       let f = fault-by-tree two_moves (inr refl) in (
         (λ e. let (o, (l, w, z)) = f.0 e in let (a, b) = (line-14 l).0 z in (o, (l, w, a, b))),

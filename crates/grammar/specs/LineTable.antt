@@ -4,7 +4,7 @@ use Rattle.values.specs.Codes.{too_deep, not_in_grammar, confused, outside, read
 use Rattle.tokens.specs.Token.{END, EQUALS, SAME, LESS, MORE, ATLEAST, PLUS, TIMES, OPEN, CLOSE, LEFT, RIGHT, ID, IDS, WHEN, WHENEVER, FROM, EVERY, DO, TRUE, FALSE, NOT, AND, OR, IN, OUT, MARKER, PARAM, R, FIFO1, IM, POS, FA, MOV, M, LOCK, X, NUMBER, whole_token}
 use Rattle.tokens.specs.Descent.{is_index, index_of, is_indexed, index_at, joined, more, read_product, read_sum, read_rest, read_expression, read_close, read_variable, read_truth, operand_from, read_operand, sum_at, expression_at}
 use Rattle.tokens.specs.Index.{is_inside}
-use Rattle.checking.specs.Fault.{line_at, rest_at, body_at, line_parts, moves_at, actions_at, action_at, assignment_at, unindexed_at, command_at, count_fault, is_among, are_apart, moves_fault, number_of, assigned_at, is_removal, sight, join_sights}
+use Rattle.checking.specs.Fault.{fault_of_line, line_at, rest_at, body_at, line_parts, moves_at, actions_at, action_at, assignment_at, unindexed_at, command_at, count_fault, is_among, are_apart, moves_fault, number_of, assigned_at, is_removal, sight, join_sights}
 use Rattle.tokens.specs.SingleFault.{id_fault, opens_too_many, wanting_fault, write_fault, is_writable, code_fault, call_fault, read_fault, number_fault, lower}
 
 -- the tokens of a number without and with a point, the second by its thousandths
@@ -96,7 +96,7 @@ line_cases =
 -- every case has the fault that it says
 unfoldable pub Holds : List Case → Type 0
 Holds [] = Unit {0}
-Holds (c ∷ cs) = ((line_at c.tokens 0).fault ≡ c.fault) × Holds cs
+Holds (c ∷ cs) = (fault_of_line (line_at c.tokens 0) ≡ c.fault) × Holds cs
 
 -- the worked lines have those faults
 pub line-table : Holds line_cases

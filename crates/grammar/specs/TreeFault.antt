@@ -1,5 +1,5 @@
 -- Faults 6 to 10 and 14 of a line as a tree, 7 and 13 of a definition as a tree, and what the check tells of a line that is written as it (document 01, "Lines of text" and "Codes"; document 02, Req 03 and Req 08). Definitions only.
-use Rattle.std.specs.Prelude.{◌≡◌, ◌⊎◌, Bool, true, false, cond, ◌&&◌, List, [], ◌∷◌, ◌++◌, ℕ, suc, ◌+◌, ◌-◌, ◌≤◌, ◌<◌, eqb, ℤ, length, get_or}
+use Rattle.std.specs.Prelude.{◌≡◌, ◌⊎◌, Bool, true, false, cond, ◌&&◌, List, [], ◌∷◌, ◌++◌, ℕ, suc, ◌+◌, ◌-◌, ◌≤◌, ◌<◌, eqb, ℤ, length, get_or, Result, Ok, Err}
 use Rattle.values.specs.Codes.{confused, too_many_actions, two_moves}
 use Rattle.values.specs.Size.{signed_number}
 use Rattle.values.specs.declared.curve.Curve.{Curve}
@@ -12,7 +12,7 @@ use Rattle.grammar.specs.TreeNames.{names_in, has_names}
 use Rattle.tokens.specs.Descent.{Answer, good, stop}
 use Rattle.grammar.specs.Meaning.{sum_meaning, expression_meaning}
 use Rattle.tokens.specs.SingleFault.{lower, read_fault, write_fault, code_fault, id_fault, call_fault, curve_fault, number_fault}
-use Rattle.checking.specs.Fault.{Sight, wanting, sight, count_fault, moves_fault, faulty_line}
+use Rattle.checking.specs.Fault.{Sight, wanting, sight, count_fault, moves_fault}
 
 -- ---- 6 to 8 in an expression
 
@@ -125,7 +125,6 @@ condition_place p (under w v e) = p + 4
 -- the parts of a line without a fault that is written from p on
 unfoldable pub parts_from : ℕ → Line → Told
 parts_from p (line w v n c a r) = record {
-  fault = 0;
   number = n;
   ids = eqb w IDS;
   keyword = keyword_of c;
@@ -136,8 +135,8 @@ parts_from p (line w v n c a r) = record {
 }
 
 -- its lowest fault, or its parts
-unfoldable pub told_from : ℕ → Line → Told
-told_from p l = elim (eqb (line_fault l) 0) [ true ↦ parts_from p l | false ↦ faulty_line (line_fault l) ]
+unfoldable pub told_from : ℕ → Line → Result Told ℕ
+told_from p l = elim (eqb (line_fault l) 0) [ true ↦ Ok (parts_from p l) | false ↦ Err (line_fault l) ]
 
 -- ---- a definition
 
@@ -170,5 +169,5 @@ unfoldable pub definition_fault : Definition → ℕ
 definition_fault d = lower (numbers_fault d) (limits_fault (curve_in d))
 
 -- what the check tells of a definition that is written from p on: its lowest fault, or its curve
-unfoldable pub defined_from : ℕ → Definition → Defined
+unfoldable pub defined_from : ℕ → Definition → Result Defined ℕ
 defined_from p d = judged_curve d.number (numbers_fault d) (curve_in d) (p + length (definition_front d))

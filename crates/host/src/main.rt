@@ -10,6 +10,7 @@ use engine::{
 };
 use print::print;
 use reader::load;
+use std::fmt;
 use tokens::token::{SIZE, TEXT_SIZE};
 use values::codes::{SHORT_BUFFER, UNSOUND};
 
@@ -31,15 +32,11 @@ fn main(rt: HostRuntime) {
 fn serve(rt: &impl Print, text: &[u8]) {
     let mut set = empty_set();
     let l = load(text, &mut set);
-    let code = l.code;
-    tell(rt, "load: code ", code as u64);
-    tell(rt, ", line ", l.line as u64);
-    end_line(rt);
-    if code != 0 {
+    let _ = println!(rt; "load: code {}, line {}", l.code, l.line);
+    if l.code != 0 {
         return;
     }
-    let state = l.state;
-    work(rt, &set, state);
+    work(rt, &set, l.state);
     show(rt, &set);
 }
 
@@ -49,8 +46,7 @@ fn work(rt: &impl Print, set: &[u32; SIZE], first: State) {
     for k in 1..=BEATS {
         state = asked_at(rt, k, set, state);
         let b = one_beat(rt, k, set, state);
-        let next = b.state;
-        state = next;
+        state = b.state;
         if stops_on(b.code) {
             return;
         }
@@ -60,33 +56,29 @@ fn work(rt: &impl Print, set: &[u32; SIZE], first: State) {
 // What the operator asks for before beat k.
 fn asked_at(rt: &impl Print, k: u32, set: &[u32; SIZE], state: State) -> State {
     match k {
-        2 => called(rt, "lock 10: code ", lock(set, state, 10)),
-        4 => called(rt, "unlock 10: code ", unlock(set, state, 10)),
-        8 => called(rt, "cancel 30: code ", cancel(set, state, 30)),
+        2 => called(rt, "lock 10", lock(set, state, 10)),
+        4 => called(rt, "unlock 10", unlock(set, state, 10)),
+        8 => called(rt, "cancel 30", cancel(set, state, 30)),
         9 => ended(rt, set, state),
-        10 => called(rt, "lock 10: code ", lock(set, state, 10)),
+        10 => called(rt, "lock 10", lock(set, state, 10)),
         _ => state,
     }
 }
 
 // The end of the part program, and then a control reset.
 fn ended(rt: &impl Print, set: &[u32; SIZE], state: State) -> State {
-    let next = called(rt, "program end: code ", program_end(set, state));
-    called(rt, "control reset: code ", control_reset(set, next))
+    let next = called(rt, "program end", program_end(set, state));
+    called(rt, "control reset", control_reset(set, next))
 }
 
-fn called(rt: &impl Print, text: &str, c: Called) -> State {
-    tell(rt, text, c.code as u64);
-    end_line(rt);
-    let state = c.state;
-    state
+fn called(rt: &impl Print, call: &str, c: Called) -> State {
+    let _ = println!(rt; "{call}: code {}", c.code);
+    c.state
 }
 
 // Beat k, in AUTOMATIC, with readings of 0 V and positions that are all 0. Its orders are carried out.
 fn one_beat(rt: &impl Print, k: u32, set: &[u32; SIZE], state: State) -> Beaten {
-    let zero = Reading::Volts(0.0);
-    let readings = [zero; CHANNELS];
-    let positions = [0i32; 6];
+    let readings = [Reading::Volts(0.0); CHANNELS];
     // Room for every order that a beat can give.
     let mut orders = [0u8; ORDERS];
     let b = beat(
@@ -95,15 +87,14 @@ fn one_beat(rt: &impl Print, k: u32, set: &[u32; SIZE], state: State) -> Beaten 
         true,
         inputs_at(k),
         readings,
-        &positions,
+        &[0; 6],
         &mut orders,
     );
-    tell(rt, "beat ", k as u64);
-    tell(rt, ": code ", b.code as u64);
-    tell(rt, ", orders ", b.orders as u64);
-    tell(rt, ", acted ", b.acted);
-    end_line(rt);
-    carry_out_all(rt, &orders, b.orders);
+    let _ = println!(rt;
+        "beat {k}: code {}, orders {}, acted {}",
+        b.code, b.orders, b.acted
+    );
+    carry_out(rt, &orders, b.orders);
     b
 }
 
@@ -118,74 +109,65 @@ fn inputs_at(k: u32) -> u16 {
 
 // 20, a fault of the host, and 22, damaged memory, stop it. On 21 and 23 nothing was worked, and an alarm, 30 to 34, has undone its beat: the next one goes on.
 fn stops_on(code: u8) -> bool {
-    match code {
-        SHORT_BUFFER | UNSOUND => true,
-        _ => false,
-    }
+    matches!(code, SHORT_BUFFER | UNSOUND)
 }
 
 // What the control really holds: beats, locks and cancels change the state, and none of them the set.
 fn show(rt: &impl Print, set: &[u32; SIZE]) {
     let mut text = [0u8; TEXT_SIZE];
-    let p = print(set, &mut text);
-    tell(rt, "print: code ", p.code as u64);
-    let size = p.size;
-    tell(rt, ", bytes ", size as u64);
-    end_line(rt);
-    write_first(rt, &text, size);
-    end_line(rt);
+    let (code, size) = match print(set, &mut text) {
+        Ok(size) => (0, size),
+        Err(code) => (code, 0),
+    };
+    let _ = println!(rt; "print: code {code}, bytes {size}");
+    if let Some(printed) = text.get(..size) {
+        let _ = rt.write_all(printed);
+    }
+    let _ = println!(rt);
 }
 
 // ---- orders
 
+// An order as the buffer has it in eight bytes, its value low byte first.
+#[derive(Clone, Copy)]
+struct Order {
+    kind: u8,
+    line: u8,
+    target: u8,
+    value: i32,
+}
+
+impl From<[u8; 8]> for Order {
+    fn from(bytes: [u8; 8]) -> Order {
+        let [kind, line, target, _, a, b, c, d] = bytes;
+        Order {
+            kind,
+            line,
+            target,
+            value: i32::from_le_bytes([a, b, c, d]),
+        }
+    }
+}
+
+impl fmt::Display for Order {
+    fn fmt<W: fmt::Write>(&self, f: &mut fmt::Formatter<W>) -> fmt::Result {
+        let Order {
+            kind,
+            line,
+            target,
+            value,
+        } = self;
+        write!(
+            f,
+            "order of line {line}: kind {kind}, target {target}, value {value}"
+        )
+    }
+}
+
 // The first n orders of the buffer.
-fn carry_out_all(rt: &impl Print, orders: &[u8; ORDERS], n: u32) {
-    for i in 0..n {
-        carry_out(rt, orders, i);
+fn carry_out(rt: &impl Print, orders: &[u8; ORDERS], n: u32) {
+    let (orders, _) = orders.as_chunks();
+    for bytes in orders.iter().take(n as usize) {
+        let _ = println!(rt; "  {}", Order::from(*bytes));
     }
-}
-
-fn carry_out(rt: &impl Print, orders: &[u8; ORDERS], i: u32) {
-    tell(rt, "  order of line ", byte_of(orders, i, 1) as u64);
-    tell(rt, ": kind ", byte_of(orders, i, 0) as u64);
-    tell(rt, ", target ", byte_of(orders, i, 2) as u64);
-    tell_value(rt, orders, i);
-    end_line(rt);
-}
-
-// The value, low byte first; from 2^31 on it is negative.
-fn tell_value(rt: &impl Print, orders: &[u8; ORDERS], i: u32) {
-    let low = byte_of(orders, i, 4) as u64 + 256 * byte_of(orders, i, 5) as u64;
-    let high = byte_of(orders, i, 6) as u64 + 256 * byte_of(orders, i, 7) as u64;
-    let value = low + 65536 * high;
-    if value < 2147483648 {
-        tell(rt, ", value ", value);
-    } else {
-        tell(rt, ", value -", 4294967296 - value);
-    }
-}
-
-// Byte j of order i, of the eight that it has.
-fn byte_of(orders: &[u8; ORDERS], i: u32, j: u8) -> u8 {
-    let all = &orders[..];
-    let at = i as usize * 8 + j as usize;
-    if at < all.len() { all[at] } else { 0 }
-}
-
-// ---- writing
-
-// A text, and a number behind it.
-fn tell(rt: &impl Print, text: &str, n: u64) {
-    let _ = print!(rt; "{text}{n}");
-}
-
-// The first n bytes of a text, or nothing if it has fewer.
-fn write_first(rt: &impl Print, text: &[u8], n: usize) {
-    if n <= text.len() {
-        let _ = rt.write_all(&text[..n]);
-    }
-}
-
-fn end_line(rt: &impl Print) {
-    let _ = println!(rt);
 }

@@ -6,18 +6,16 @@ mod numbers;
 mod places;
 mod requests;
 
-use engine::{empty_set, power_on};
-use numbers::{REQUEST, letter};
-use requests::{TEXT, work};
+use numbers::{REQUEST, Request};
+use requests::{Host, TEXT};
 use std::io::Read;
-use tokens::token::SIZE;
 
 // More requests are not worked.
 const REQUESTS: u32 = 1000000;
 
 // Fills a buffer. Where the input ends before that, or fails, the rest of the buffer stays as it was.
 fn read_full(input: &mut impl Read, buffer: &mut [u8]) {
-    let mut done: usize = 0;
+    let mut done = 0;
     while done < buffer.len() {
         match input.read(&mut buffer[done..]) {
             Ok(0) | Err(_) => return,
@@ -27,28 +25,26 @@ fn read_full(input: &mut impl Read, buffer: &mut [u8]) {
 }
 
 // The next request; all 0 at the end of the input.
-fn next(input: &mut impl Read) -> [u8; REQUEST] {
-    let mut request = [0u8; REQUEST];
-    read_full(input, &mut request);
-    request
+fn next(input: &mut impl Read) -> Request {
+    let mut bytes = [0u8; REQUEST];
+    read_full(input, &mut bytes);
+    Request { bytes }
 }
 
 // Works each request up to the first without a letter.
-fn work_all(rt: &impl Print, input: &mut impl Read, text: &[u8; TEXT], set: &mut [u32; SIZE]) {
-    let mut state = power_on();
+fn work_all(rt: &impl Print, input: &mut impl Read, host: &mut Host) {
     for _ in 0..REQUESTS {
         let request = next(input);
-        if letter(&request) == 0 {
+        if request.letter() == 0 {
             return;
         }
-        state = work(rt, &request, text, set, state);
+        host.work(rt, &request);
     }
 }
 
 fn main(rt: HostRuntime) {
     let mut input = rt.stdin();
     let mut text = [0u8; TEXT];
-    let mut set = empty_set();
     read_full(&mut input, &mut text);
-    work_all(&rt, &mut input, &text, &mut set);
+    work_all(&rt, &mut input, &mut Host::new(text));
 }

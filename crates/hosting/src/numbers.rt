@@ -1,108 +1,112 @@
 // Numbers of four bytes, low byte first, as requests and answers have them.
-ghost use Rattle.std.specs.Prelude.{◌≤◌};
 
 // The bytes of a request, and those of the longest part of an answer.
 pub const REQUEST: usize = 148;
 
 pub const OUT: usize = 4096;
 
-// The place of the last number of a request.
-const LAST: usize = 144;
-
-const NEGATIVE: u32 = 2147483648;
-
 // ---- reading
 
-// So many, or all if there are fewer.
-pub fn least(n: usize, all: usize) -> usize
-    ensures { result ≤ all }
-{
-    if all < n {
-        return all;
+// The first n of some items, or all if there are fewer.
+pub fn first<T>(items: &[T], n: usize) -> &[T] {
+    &items[..n.min(items.len())]
+}
+
+// What is asked of the host: a letter, and numbers behind it.
+#[derive(Drop)]
+pub struct Request {
+    pub bytes: [u8; REQUEST],
+}
+
+impl Request {
+    pub fn letter(&self) -> u8 {
+        self.bytes[0]
     }
-    n
-}
 
-pub fn first(bytes: &[u8], n: usize) -> &[u8] {
-    let from: usize = 0;
-    let end = least(n, bytes.len());
-    &bytes[from..end]
-}
-
-// What a request asks.
-pub fn letter(request: &[u8; REQUEST]) -> u8 {
-    request[0]
-}
-
-fn wide(b: u8) -> u32
-    ensures { result ≤ 255 }
-{
-    b as u32
-}
-
-// The number at a place.
-pub fn word(request: &[u8; REQUEST], at: usize) -> u32 {
-    if LAST < at {
-        return 0;
-    }
-    let a = wide(request[at]);
-    let b = wide(request[at + 1]);
-    let c = wide(request[at + 2]);
-    let d = wide(request[at + 3]);
-    a + b * 256 + c * 65536 + d * 16777216
-}
-
-// The value whose two's complement a number is.
-pub fn value_of(n: u32) -> i32 {
-    if n < NEGATIVE {
-        n as i32
-    } else {
-        let m = (4294967295 - n) as i32;
-        !m
+    // The number at a place; 0 where the request is over.
+    pub fn word(&self, at: usize) -> u32 {
+        let Some(rest) = self.bytes.get(at..) else {
+            return 0;
+        };
+        rest.first_chunk()
+            .map_or(0, |bytes| u32::from_le_bytes(*bytes))
     }
 }
 
 // ---- answering
 
-// The low byte of a number, at a place of an answer; the place behind it.
-fn put_byte(out: &mut [u8; OUT], at: usize, n: u32) -> usize {
-    let all = &out[..];
-    if at < all.len() {
-        out[at] = (n % 256) as u8;
-        return at + 1;
+// What an answer gives as a number of four bytes.
+pub trait Number: Copy {
+    fn number(self) -> u32;
+}
+
+impl Number for u32 {
+    fn number(self) -> u32 {
+        self
     }
-    at
 }
 
-pub fn put_word(out: &mut [u8; OUT], at: usize, n: u32) -> usize {
-    let a = put_byte(out, at, n);
-    let b = put_byte(out, a, n / 256);
-    let c = put_byte(out, b, n / 65536);
-    put_byte(out, c, n / 16777216)
+impl Number for i32 {
+    fn number(self) -> u32 {
+        self.cast_unsigned()
+    }
 }
 
-// The first n bytes are written, or as many as can be.
-pub fn write_first(rt: &impl Print, bytes: &[u8], n: usize) {
-    let _ = rt.write_all(first(bytes, n));
+impl Number for bool {
+    fn number(self) -> u32 {
+        u32::from(self)
+    }
 }
 
-pub fn write(rt: &impl Print, out: &[u8; OUT], n: usize) {
-    write_first(rt, out, n);
+// A part of an answer: the numbers that were put, one behind the other.
+#[derive(Drop)]
+pub struct Part {
+    bytes: [u8; OUT],
+    size: usize,
 }
 
-// One more than the low half of a number of 64 bits holds.
-const HALF: u64 = 4294967296;
+impl Part {
+    pub fn new() -> Part {
+        Part {
+            bytes: [0; OUT],
+            size: 0,
+        }
+    }
 
-pub fn low_half(n: u64) -> u32 {
-    (n % HALF) as u32
+    // Puts a number; nothing where there is no room left.
+    pub fn put(&mut self, n: impl Number) {
+        let Some(rest) = self.bytes.get_mut(self.size..) else {
+            return;
+        };
+        if let Some(place) = rest.first_chunk_mut() {
+            *place = n.number().to_le_bytes();
+            self.size += 4;
+        }
+    }
+
+    // Puts several.
+    pub fn put_all<T: Number>(&mut self, numbers: &[T]) {
+        for n in numbers {
+            self.put(*n);
+        }
+    }
+
+    pub fn write(&self, rt: &impl Print) {
+        let _ = rt.write_all(first(&self.bytes, self.size));
+    }
+}
+
+// Answers a row of numbers.
+pub fn answer_all<T: Number>(rt: &impl Print, numbers: &[T]) {
+    let mut part = Part::new();
+    part.put_all(numbers);
+    part.write(rt);
 }
 
 // Answers two numbers, and one of 64 bits as two, its low half first.
 pub fn answer(rt: &impl Print, a: u32, b: u32, c: u64) {
-    let mut out = [0u8; OUT];
-    let second = put_word(&mut out, 0, a);
-    let third = put_word(&mut out, second, b);
-    let fourth = put_word(&mut out, third, low_half(c));
-    put_word(&mut out, fourth, (c / HALF) as u32);
-    write(rt, &out, 16);
+    let [c0, c1, c2, c3, c4, c5, c6, c7] = c.to_le_bytes();
+    let low = u32::from_le_bytes([c0, c1, c2, c3]);
+    let high = u32::from_le_bytes([c4, c5, c6, c7]);
+    answer_all(rt, &[a, b, low, high]);
 }

@@ -21,7 +21,7 @@ use Rattle.loading.specs.PlacedLaws.{CurveHeld, CurvesHeld, held_tokens}
 use Rattle.loading.specs.StoredLineLaws.{written-curve, held-front}
 use Rattle.loading.specs.LinesReadLaws.{FineFrom}
 use Rattle.loading.specs.TextTreesLaws.{there-at, front-there}
-use Rattle.loading.specs.LoadedLaws.{curves-fine, taken-held, taken-there, taken-read}
+use Rattle.loading.specs.LoadedLaws.{curves-fine, taken-held, taken-there, taken-sound}
 
 -- some definitions are those of curves that are taken: each is written as the tokens of the curve of its number,
 pub record AreDefinitions (ds : List Definition) (cs : List (List ℕ)) : Type 0 where
@@ -127,5 +127,5 @@ module _ (t : List ℕ) (q : Kept) (h : outcome t ≡ taken q) where
   loaded-curves ds are n there =
       let s = set_of q.curves (by_number q.rows) in
       let e = taken-there t q h in
-      definitions-curves s (taken-read t q h).sound (map unmarked_definition ds) (held-definitions s q.curves (taken-held t q h) ds are (λ m d. rw e at d)) n there
+      definitions-curves s (taken-sound t q h) (map unmarked_definition ds) (held-definitions s q.curves (taken-held t q h) ds are (λ m d. rw e at d)) n there
       ∙ curves-to unmarked unmarked-keeps ds n

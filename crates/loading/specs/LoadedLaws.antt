@@ -1,5 +1,5 @@
 -- The set of a text that is taken: its curves, and its lines by rising number, are laid in it and read from it. Laws; nothing is assumed.
-use Rattle.std.specs.Prelude.{◌≡◌, true, List, [], ◌∷◌, ℕ, suc, ◌+◌, ◌-◌, ◌≤◌, ◌<◌, length, get_or, replicate}
+use Rattle.std.specs.Prelude.{◌≡◌, refl, is_some, true, List, [], ◌∷◌, ℕ, suc, ◌+◌, ◌-◌, ◌≤◌, ◌<◌, length, get_or, replicate}
 use Rattle.std.proofs.Common.{sym, ap, subst, ◌∙◌, arith, ltb-true}
 use Rattle.std.proofs.Math.Decide.{dec_lt}
 use Rattle.std.proofs.lemmas.List.{length-replicate, get_or-replicate}
@@ -7,7 +7,7 @@ use Rattle.std.proofs.Math.ListN.{get_or-eq_default}
 use Rattle.values.specs.Choice.{decide}
 use Rattle.tokens.specs.Token.{is_lock, text_size, max_lines, max_curves}
 use Rattle.engine.specs.declared.set.Lines.{Lines}
-use Rattle.engine.specs.Set.{rank_in, is_known, curves_in, set_table, sound_lines}
+use Rattle.engine.specs.Set.{rank_in, is_known, curves_in, set_table, sound_lines, lines_of}
 use Rattle.soundness.specs.SetSoundLaws.{rank-number}
 use Rattle.text.specs.Lines.{token_lines}
 use Rattle.reader.specs.Row.{Row, Kept, is_there, curves_there, numbers_of, total, curve_count, curves_total, no_row, by_number, ranked, set_of}
@@ -19,7 +19,7 @@ use Rattle.reader.specs.RoomLaws.{taken-count, taken-room}
 use Rattle.loading.specs.PlacedLaws.{Laid, CurvesHeld, set-length, set-count, set-laid, set-curves}
 use Rattle.loading.specs.TakenLaws.{All, all-at, taking, Fine, taken_fine, Named, taken-named}
 use Rattle.loading.specs.ByNumberLaws.{Of, by_length, by-rises, by-of, by_rank_lem, by_total}
-use Rattle.loading.specs.LinesReadLaws.{FineFrom, ReadLines, curves-there, rows-read, known_at}
+use Rattle.loading.specs.LinesReadLaws.{FineFrom, ReadLines, IsRead, curves-there, rows-read, known_at}
 
 -- what holds of each row of some holds of rows that are each one of them
 all_of : (P : Row → Type 0) (rs xs : List Row) → All P rs → All (Of rs) xs → All P xs
@@ -124,10 +124,16 @@ module _ (t : List ℕ) (q : Kept) (h : outcome t ≡ taken q) where
     names-found w n e = decide _ (is_lock w) (λ k. rw k (line-found n (rw k at e))) (λ k. rw (k, taken-there) (rw k at e))
 
   -- THE LINES OF THE SET are read as the rows by rising number, and they are sound
-  pub taken-read : ReadLines loaded (by_number rows) 0 (replicate max_lines 0) (sound_lines loaded)
-  taken-read =
+  taken-lines : IsRead loaded (by_number rows) 0 (replicate max_lines 0) (sound_lines loaded)
+  taken-lines =
       let l = by_length rows few apart in
       let f = all-few in
       let n = set-length q.curves (by_number rows) in
       rows-read loaded q.curves (by_number rows) (kept_table q) (set-count q.curves (by_number rows)) (omega arith) curves-three (omega arith) taken-held curves-fine
       (each-by Fine (taken_fine t q h)) (each-by (Named (kept_table q)) (taken-named t q h)) taken-laid (by-rises rows few apart) names-found
+
+  pub taken-sound : is_some (sound_lines loaded) ≡ true
+  taken-sound = let (l, e, r) = taken-lines in rw e refl
+
+  pub taken-read : ReadLines loaded (by_number rows) 0 (replicate max_lines 0) (lines_of loaded)
+  taken-read = let (l, e, r) = taken-lines in rw e r

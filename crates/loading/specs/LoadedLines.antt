@@ -1,6 +1,6 @@
 -- A SET THAT LOADING TAKES IS, LINE BY LINE, WHAT THE TEXT HAS: the trees of its lines, by rising number, and its definitions, each at its curve's number, without the marks of written points.
 -- Theorem; nothing is assumed.
-use Rattle.std.specs.Prelude.{◌≡◌, true, false, List, [], ◌∷◌, map, ℕ, zero, suc, ◌+◌, ◌-◌, ◌≤◌, ◌<◌, length, get_or}
+use Rattle.std.specs.Prelude.{Ok, ◌≡◌, true, false, List, [], ◌∷◌, map, ℕ, zero, suc, ◌+◌, ◌-◌, ◌≤◌, ◌<◌, length, get_or}
 use Rattle.std.proofs.Common.{sym, subst, ◌∙◌, arith}
 use Rattle.grammar.specs.Tree.{Line, line_tokens, tree_number, Definition, definition_front, DefinedAs}
 use Rattle.tokens.specs.Token.{set_size, max_curves}
@@ -34,7 +34,7 @@ pub record HoldsLine (s : List ℕ) (k : ℕ) (r : Row) : Type 0 where
   -- the set has them where the rank begins, each number without the mark of a written point,
   pub in_set : Stands s (start_of s k) (line_tokens (unmarked_tree tree)) (start_of s k + length (line_tokens (unmarked_tree tree)))
   -- and so the engine reads the parts of that line there
-  pub read : line_of s k ≡ parts_from (start_of s k) (unmarked_tree tree)
+  pub read : line_of s k ≡ Ok (parts_from (start_of s k) (unmarked_tree tree))
 
 -- the line of the text with the tokens ts, which defines curve n, stands in the set s where that curve begins
 pub record HoldsCurve (s : List ℕ) (n : ℕ) (ts : List ℕ) : Type 0 where
@@ -82,7 +82,7 @@ laid-holds s (r ∷ rs) m zero size f p h =
     let z : m + 0 ≡ m = omega arith in
     let w = written r.tokens f.0.clean in
     let q = start_of s m + length (held_tokens r.tokens) in
-    let (a, b, c, x) = held r.tokens w s (start_of s m) q size p.0 in
+    let (a, x, c) = held r.tokens w s (start_of s m) q size p.0 in
     let e = stands-place s (line_tokens (unmarked_tree w.tree)) (start_of s m) q a in
     rw z (record {
       tree = w.tree;

@@ -1,5 +1,5 @@
 -- LOADING GIVES A SOUND SET, whatever the text; so from a load on no call answers 22. Theorems; nothing is assumed.
-use Rattle.std.specs.Prelude.{◌≡◌, true, ℕ, ◌≤◌, length}
+use Rattle.std.specs.Prelude.{◌≡◌, true, is_some, ℕ, ◌≤◌, length, Result, IsOk, is_ok}
 use Rattle.std.proofs.Common.{ap, ◌∙◌, arith}
 use mathlib.Core.List.{List, [], ◌∷◌}
 use Rattle.values.specs.Choice.{chosen}
@@ -24,15 +24,15 @@ use Rattle.reader.specs.Load.{load_answer, load_set}
 use Rattle.loading.specs.LoadAnswers.{taken-answer, refused-empty, by-outcome}
 use Rattle.reader.specs.StandLaws.{empty-length}
 use Rattle.loading.specs.PlacedLaws.{set-length}
-use Rattle.loading.specs.LoadedLaws.{taken-read}
+use Rattle.loading.specs.LoadedLaws.{taken-sound}
 
 -- ---- the set
 
 -- the lines of a set that was loaded are sound: with its curves at most 32, numbers distinct and rising, and each passes every loading check from 4 on
-pub load-lines-sound : (t : List ℕ) → (sound_lines (load_set t)).sound ≡ true
+pub load-lines-sound : (t : List ℕ) → is_some (sound_lines (load_set t)) ≡ true
 load-lines-sound t =
     by-outcome _ t
-    (λ q h. rw (taken-answer t q h).2 (taken-read t q h).sound)
+    (λ q h. rw (taken-answer t q h).2 (taken-sound t q h))
     (λ c k h. rw (refused-empty t c k h) empty-sound)
 
 -- EVERY TEXT gives a set that is sound with the state of power-on: one that is refused gives the empty set
@@ -95,6 +95,6 @@ pub never-22-from-a-load : (t : List ℕ) (qs : List Ask) → NoneIs22 (standing
 never-22-from-a-load t qs = rw (since-the-load t qs) (loaded-keeps (last_text t qs) (calls_since [] qs)).1
 
 -- nor is the status picture refused
-pub status-never-22 : (t : List ℕ) (qs : List Ask) → let n = standing t qs in (status_of n.set n.since.kept).code ≡ 0
+pub status-never-22 : (t : List ℕ) (qs : List Ask) → let n = standing t qs in IsOk (status_of n.set n.since.kept)
 unfolding status_of
-status-never-22 t qs = ap (λ (x : Status). x.code) (chosen _ _ _ (sound-from-a-load t qs))
+status-never-22 t qs = ap (λ (x : Result Status ℕ). is_ok x) (chosen _ _ _ (sound-from-a-load t qs))

@@ -1,13 +1,13 @@
 -- AFTER A LOAD THE TURNS OF A BEAT ARE THOSE OF THE TREES OF THE TEXT'S LINES, by rising number, over the curves of its definitions: what a line does is told by the text alone. Theorems; nothing
 -- is assumed.
-use Rattle.std.specs.Prelude.{◌≡◌, refl, Bool, true, false, List, [], ◌∷◌, map, ℕ, suc, ◌+◌, ltb, length}
+use Rattle.std.specs.Prelude.{◌≡◌, refl, Bool, true, false, List, [], ◌∷◌, map, ℕ, suc, ◌+◌, ltb, length, is_some}
 use Rattle.std.proofs.Common.{sym, ap, subst, ◌∙◌, arith}
 use Rattle.std.proofs.lemmas.List.{length-map}
 use Rattle.tokens.specs.Descent.{good, ◌>>=◌}
 use Rattle.grammar.specs.Tree.{Line, line_tokens, Definition}
 use Rattle.grammar.specs.Meaning.{Stands}
 use Rattle.engine.specs.declared.state.State.{State}
-use Rattle.engine.specs.Set.{start_of, sound_lines, without_mark, with_end}
+use Rattle.engine.specs.Set.{start_of, lines_of, without_mark, with_end}
 use Rattle.engine.specs.Sound.{is_sound}
 use Rattle.engine.specs.Action.{World}
 use Rattle.engine.specs.Turn.{beat_in, turns_from}
@@ -82,7 +82,7 @@ module _ (t : List ℕ) (q : Kept) (h : outcome t ≡ taken q) where
 
     -- THE TURNS of all lines, whichever are cancelled, from any world
     pub loaded-turns-by-tree : (cancelled : List Bool) (automatic : Bool) (x : World) →
-        turns_from (load_set t) (sound_lines (load_set t)).numbers cancelled automatic (sound_lines (load_set t)).items (sound_lines (load_set t)).count 0 x ≡ turns_tree (names_of ls (curve_named ds) cancelled) automatic ls 0 x
+        turns_from (load_set t) (lines_of (load_set t)).numbers cancelled automatic (lines_of (load_set t)).items (lines_of (load_set t)).count 0 x ≡ turns_tree (names_of ls (curve_named ds) cancelled) automatic ls 0 x
     loaded-turns-by-tree cancelled automatic x =
         let n = load-size t in
         sound-turns (load_set t) (omega arith) (load-lines-sound t) (map unmarked_tree ls) load-trees (curve_named ds) load-curves cancelled automatic x
@@ -90,7 +90,7 @@ module _ (t : List ℕ) (q : Kept) (h : outcome t ≡ taken q) where
         ∙ rw (names-to unmarked unmarked-keeps ls (curve_named ds) cancelled)
 
     -- A BEAT that is not refused
-    pub loaded-beat-by-trees : (st : State) (g : Given) → is_sound (load_set t) st ≡ true → ltb (length g.buffer) buffer_size ≡ false → are_inputs g.lent ≡ true → (samples_in st g).good ≡ true →
+    pub loaded-beat-by-trees : (st : State) (g : Given) → is_sound (load_set t) st ≡ true → ltb (length g.buffer) buffer_size ≡ false → are_inputs g.lent ≡ true → is_some (samples_in st g) ≡ true →
         whole_beat (load_set t) st g
         ≡ (turns_tree (names_of ls (curve_named ds) st.cancelled) g.automatic ls 0 (beat_begun st g) >>= λ u. good (record { world = u.world; entries = beat_in g.automatic ∷ u.entries }))
     loaded-beat-by-trees st g a b c d =
@@ -100,7 +100,7 @@ module _ (t : List ℕ) (q : Kept) (h : outcome t ≡ taken q) where
 
     -- SO AFTER ANY CALLS from the load on
     pub beat-after-calls : (cs : List Call) (g : Given) → ltb (length g.buffer) buffer_size ≡ false → are_inputs g.lent ≡ true →
-        let st : State = after_all (load_set t) (load_answer t).state cs in (samples_in st g).good ≡ true →
+        let st : State = after_all (load_set t) (load_answer t).state cs in is_some (samples_in st g) ≡ true →
         whole_beat (load_set t) st g
         ≡ (turns_tree (names_of ls (curve_named ds) st.cancelled) g.automatic ls 0 (beat_begun st g) >>= λ u. good (record { world = u.world; entries = beat_in g.automatic ∷ u.entries }))
     beat-after-calls cs g b c d = loaded-beat-by-trees (after_all (load_set t) (load_answer t).state cs) g (load-always-sound t cs) b c d

@@ -1,12 +1,11 @@
 -- Laws of a line that is taken: it is a line of the grammar, and the check tells of it where it stands in a set, without its marks, what its tree has. So of a definition that is taken, and its
 -- curve. Nothing is assumed.
-use Rattle.std.specs.Prelude.{◌≡◌, Bool, true, false, List, [], ◌∷◌, map, ℕ, ◌+◌, ◌≤◌, length}
+use Rattle.std.specs.Prelude.{Result, Ok, ◌≡◌, Bool, true, false, List, [], ◌∷◌, map, ℕ, ◌+◌, ◌≤◌, length}
 use Rattle.std.proofs.Common.{sym, ap, subst, ◌∙◌, arith, eq-eqb}
 use Rattle.std.proofs.lemmas.List.{map-append}
 use Rattle.values.specs.Choice.{chosen}
 use Rattle.tokens.specs.Token.{END, set_size}
 use Rattle.grammar.specs.Tree.{Line, line_tokens, tree_number, WrittenAs, Definition, definition_front, DefinedAs}
-use Rattle.checking.specs.declared.line.Line.{Line as Parts}
 use Rattle.grammar.specs.Meaning.{Stands}
 use Rattle.tokens.specs.SingleFault.{opens_too_many}
 use Rattle.checking.specs.Fault.{line_at}
@@ -20,7 +19,7 @@ use Rattle.grammar.specs.NumbersTo.{definition_to}
 use Rattle.grammar.specs.NumbersToLaws.{to-opens, to-line-number, to-names-in, to-curve}
 use Rattle.grammar.specs.ClosedTokens.{line-fits}
 use Rattle.grammar.specs.StandsLaws.{opens-stands}
-use Rattle.grammar.specs.AgreementLine.{line-fault, line-parts, parts-number}
+use Rattle.grammar.specs.AgreementLine.{line-parts, parts-number}
 use Rattle.grammar.specs.AgreementDefinition.{definition-agrees}
 use Rattle.engine.specs.Set.{without_mark, with_end, names_known}
 use Rattle.reader.specs.Load.{fault_of, number_in, names_of_tree, curve_fault_of, curve_number_in}
@@ -65,14 +64,14 @@ module _ (ts : List ℕ) (w : Written ts) where
     stands : Stands s p (line_tokens (unmarked_tree w.tree)) q
     stands = subst (λ (x : List ℕ). Stands s p x q) held-tokens h
 
-    -- WHERE IT STANDS WITHOUT MARKS, the tree without marks stands, the check finds no fault and the parts of that tree, and it has the same number
-    pub held : Stands s p (line_tokens (unmarked_tree w.tree)) q × ((line_at s p).fault ≡ 0) × ((line_at s p).number ≡ tree_number w.tree) × (line_at s p ≡ parts_from p (unmarked_tree w.tree))
+    -- WHERE IT STANDS WITHOUT MARKS, the tree without marks stands, the check finds no fault but the parts of that tree, and it has the same number
+    pub held : Stands s p (line_tokens (unmarked_tree w.tree)) q × (line_at s p ≡ Ok (parts_from p (unmarked_tree w.tree))) × ((parts_from p (unmarked_tree w.tree)).number ≡ tree_number w.tree)
     held =
         let l = unmarked_tree w.tree in
         let o = opens-stands s (map without_mark ts) p q 0 h ∙ opens-unmarked ts 0 ∙ w.shallow in
         let f = unmarked-fault w.tree ∙ w.faultless in
         let (x, y) = line-parts s size l p q o stands f in
-        (stands, line-fault s size l p q o stands ∙ f, ap (λ (z : Parts). z.number) x ∙ parts-number p l ∙ to-line-number unmarked w.tree, x)
+        (stands, x, parts-number p l ∙ to-line-number unmarked w.tree)
 
     -- and it names only what is known, if it named only such as is known
     pub names-held : (known known' : ℕ → ℕ → Bool) → ((w n : ℕ) → known' w n ≡ true → known w n ≡ true) → each_known known' (names_of_tree (tree_of ts)) ≡ true → names_known s known set_size p ≡ true
@@ -102,8 +101,8 @@ pub held-front : (ts : List ℕ) (d : Definition) → DefinedAs d ts → with_en
 held-front ts d w = ap with_end (ap (map without_mark) (sym w) ∙ unmarked-front d)
 
 -- what the check tells of a definition d without a fault at the place p
-abbrev pub told_of : ℕ → Definition → Told
-told_of p d = record { fault = 0; number = d.number; curve = curve_in d; end = p + length (definition_front (unmarked_definition d)) }
+abbrev pub told_of : ℕ → Definition → Result Told ℕ
+told_of p d = Ok (record { number = d.number; curve = curve_in d; end = p + length (definition_front (unmarked_definition d)) })
 
 -- WHERE IT STANDS WITHOUT MARKS, the definition without marks stands, and the check finds no fault, the same number and the same curve
 pub held-curve : (ts : List ℕ) (w : WrittenCurve ts) (s : List ℕ) (p q : ℕ) → Stands s p (with_end (map without_mark ts)) q →
@@ -113,6 +112,6 @@ held-curve ts w s p q h =
     let d = unmarked_definition w.tree in
     let o = opens-stands s (map without_mark ts) p q 0 h ∙ opens-unmarked ts 0 ∙ w.shallow in
     let g = subst (λ (x : List ℕ). Stands s p x q) (held-front ts w.tree w.tokens) h in
-    let e : definition_at s p ≡ record { fault = 0; number = d.number; curve = curve_in d; end = p + length (definition_front d) } =
+    let e : definition_at s p ≡ Ok (record { number = d.number; curve = curve_in d; end = p + length (definition_front d) }) =
     definition-agrees s d p q o g ∙ chosen _ _ _ (eq-eqb (definition_fault d) 0 (unmarked-definition-fault w.tree ∙ w.faultless)) in
     (g, e ∙ rw (to-curve unmarked unmarked-keeps w.tree))

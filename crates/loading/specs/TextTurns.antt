@@ -1,5 +1,5 @@
 -- WHAT A TEXT THAT IS TAKEN DOES: a beat from its load on is the turns of its trees by rising number, over the curves of its definitions, whichever calls came before. Theorems; nothing is assumed.
-use Rattle.std.specs.Prelude.{◌≡◌, true, false, List, [], ◌∷◌, ◌↔◌, ℕ, ◌≤◌, ltb, length}
+use Rattle.std.specs.Prelude.{◌≡◌, true, false, List, [], ◌∷◌, ◌↔◌, ℕ, ◌≤◌, ltb, length, is_some}
 use Rattle.std.proofs.Common.{sym, subst, inl, inr}
 use Rattle.tokens.specs.Descent.{good, ◌>>=◌}
 use Rattle.grammar.specs.Tree.{Line, tree_number, Definition}
@@ -53,7 +53,7 @@ module _ (t : List ℕ) (ds : List Definition) (xs : List Line) (takes : Takes t
 
   -- A BEAT that is not refused, after any calls from the load on
   pub beat-of-text : (cs : List Call) (g : Given) → ltb (length g.buffer) buffer_size ≡ false → are_inputs g.lent ≡ true →
-      let st : State = after_all (load_set t) (load_answer t).state cs in (samples_in st g).good ≡ true →
+      let st : State = after_all (load_set t) (load_answer t).state cs in is_some (samples_in st g) ≡ true →
       let ls : List Line = rising_trees xs in
       whole_beat (load_set t) st g
       ≡ (turns_tree (names_of ls (curve_named ds) st.cancelled) g.automatic ls 0 (beat_begun st g) >>= λ u. good (record { world = u.world; entries = beat_in g.automatic ∷ u.entries }))

@@ -1,10 +1,9 @@
 -- How much of a piece a step takes, how much it writes, and where it leads. Assumes nothing.
 use mathlib.Core.Path.{◌≡◌, ap, ◌∙◌}
 use mathlib.Core.List.{List}
-use Prim.Native.Nat.{ℕ, ◌+◌, ◌-◌, ◌≤◌}
+use Prim.Native.Nat.{ℕ, ◌≤◌}
 use native.Mathlib.Omega.{arith}
-use lib.ListN.{length, take, drop, length-drop}
-use lib.Seq.{length-take-le, take_all, drop-drop}
+use lib.ListN.{length, drop}
 use Rattle.transcript.specs.declared.session.Stepped.{Stepped}
 use Rattle.transcript.specs.Machine.{Machine, worked, finished_text, Work, LeadsTo, goes_on}
 use Rattle.transcript.specs.Output.{out_size}
@@ -13,13 +12,6 @@ use Rattle.transcript.specs.SessionRoomLaws.{finished-text-room}
 use Rattle.values.specs.PutAt.{put_at}
 use Rattle.values.specs.PutLaws.{put-length}
 use Rattle.transcript.specs.BeatTakenLaws.{worked-room, taken-within, taken-some}
-
--- what is left of a piece behind k bytes
-pub left-length : (k : ℕ) (t : List ℕ) → length (take (length t - k) (drop k t)) ≡ length t - k
-left-length k t = let d = length-drop k t in length-take-le (length t - k) (drop k t) (omega arith)
-
-left_is : (k : ℕ) (t : List ℕ) → take (length t - k) (drop k t) ≡ drop k t
-left_is k t = let d = length-drop k t in take_all (length t - k) (drop k t) (omega arith)
 
 module _ (m : Machine) (t : List ℕ) {x : Stepped} (w : x ≡ step_answer (worked m t)) where
   pub written-room : (buffer : List ℕ) {exit : List ℕ} → exit ≡ put_at buffer 0 (worked m t).output → length buffer ≡ out_size → x.written ≤ length exit
@@ -35,14 +27,13 @@ module _ (m : Machine) (t : List ℕ) {x : Stepped} (w : x ≡ step_answer (work
   pub some : 1 ≤ length t → 1 ≤ x.taken
   some h = let r = taken-some m t h in let e = ap (λ (y : Stepped). y.taken) w in omega arith
 
+  -- it leads on from before it
+  pub step-leads : (z : Machine) {text set : List ℕ} → text ≡ (worked m t).machine.text → set ≡ (worked m t).machine.set → LeadsTo (machine_of text set x.session) (drop x.taken t) z → LeadsTo m t z
+  step-leads z {text} {set} e s l = goes_on m z t (onward (worked m t) w e s)
+    where
+      onward : (w : Work) → x ≡ step_answer w → text ≡ w.machine.text → set ≡ w.machine.set → LeadsTo w.machine (drop w.taken t) z
+      onward w e t s = rw (e, t, s) at l
+
 -- what the end of input prints fits too
 pub end-room : (m : Machine) (buffer : List ℕ) {n : ℕ} {exit : List ℕ} → n ≡ length (finished_text m) → exit ≡ put_at buffer 0 (finished_text m) → length buffer ≡ out_size → n ≤ length exit
 end-room m buffer {n} {exit} e o b = let r = finished-text-room m in let l = ap length o ∙ put-length (finished_text m) buffer 0 in omega arith
-
--- a step of what is left of a piece, and what it leads to, lead on from before it
-pub step-leads : (m z : Machine) (p : List ℕ) (k : ℕ) {x : Stepped} {text set : List ℕ} → let w = worked m (take (length p - k) (drop k p)) in x ≡ step_answer w → text ≡ w.machine.text → set ≡ w.machine.set →
-    LeadsTo (machine_of text set x.session) (drop (k + x.taken) p) z → LeadsTo m (drop k p) z
-step-leads m z p k {x} {text} {set} e t s l = goes_on m z (drop k p) (onward (worked m (drop k p)) (e ∙ ap (λ (q : List ℕ). step_answer (worked m q)) (left_is k p)) (t ∙ ap (λ (q : List ℕ). (worked m q).machine.text) (left_is k p)) (s ∙ ap (λ (q : List ℕ). (worked m q).machine.set) (left_is k p)))
-  where
-    onward : (w : Work) → x ≡ step_answer w → text ≡ w.machine.text → set ≡ w.machine.set → LeadsTo w.machine (drop w.taken (drop k p)) z
-    onward w e t s = rw (drop-drop w.taken k p) (rw (e, t, s) at l)

@@ -4,7 +4,7 @@ use Rattle.std.proofs.Common.{sym, ap, ◌∙◌, arith, length-append, length-d
 use Rattle.values.specs.Choice.{decide, contrary}
 use Rattle.values.specs.Numbers.{clash}
 use Rattle.text.specs.Byte.{is_space}
-use Rattle.text.specs.First.{first_token}
+use Rattle.text.specs.First.{token_of, size_of, first_token}
 use Rattle.text.specs.Tokens.{Tokens, with_token, tokens_of}
 use Rattle.text.specs.TokensLaws.{tokens_none, tokens-space, tokens-end, tokens-one, first-within}
 use Rattle.print.specs.TokenText.{token_text, needs_space, gap, line_text}
@@ -14,12 +14,12 @@ use Rattle.print.specs.ToldLaws.{Left, side_by_side, Told, first-told}
 
 -- by the first byte: none, a space, no token, or a token of a byte and k more
 pub by_bytes : (P : List ℕ → Type 0) (t : List ℕ) → P [] → ((b : ℕ) (bs : List ℕ) → is_space b ≡ true → tokens_of (b ∷ bs) ≡ tokens_of bs → P (b ∷ bs)) → ((b : ℕ) (bs : List ℕ) → (tokens_of (b ∷ bs)).good ≡ false → P (b ∷ bs)) →
-    ((b : ℕ) (bs : List ℕ) (k : ℕ) → k ≤ length bs → Told b bs (first_token (b ∷ bs)).token k → tokens_of (b ∷ bs) ≡ with_token (first_token (b ∷ bs)).token (tokens_of (drop k bs)) → P (b ∷ bs)) → P t
+    ((b : ℕ) (bs : List ℕ) (k : ℕ) → k ≤ length bs → Told b bs (token_of (first_token (b ∷ bs))) k → tokens_of (b ∷ bs) ≡ with_token (token_of (first_token (b ∷ bs))) (tokens_of (drop k bs)) → P (b ∷ bs)) → P t
 by_bytes P [] none space bad one = none
 by_bytes P (b ∷ bs) none space bad one =
-    decide (P (b ∷ bs)) (is_space b) (λ e. space b bs e (tokens-space b bs e)) λ e. go e (first_token (b ∷ bs)).size refl
+    decide (P (b ∷ bs)) (is_space b) (λ e. space b bs e (tokens-space b bs e)) λ e. go e (size_of (first_token (b ∷ bs))) refl
   where
-    go : is_space b ≡ false → (m : ℕ) → (first_token (b ∷ bs)).size ≡ m → P (b ∷ bs)
+    go : is_space b ≡ false → (m : ℕ) → (size_of (first_token (b ∷ bs))) ≡ m → P (b ∷ bs)
     go e zero z = bad b bs (ap (λ (x : Tokens). x.good) (tokens-end b bs e z))
     go e (suc k) z = let w = (first-within (b ∷ bs)).fits in one b bs k (omega arith) (first-told b bs k z) (tokens-one b bs k e z)
 
@@ -38,7 +38,7 @@ next-room t u us rest l g e h shorter =
     (λ b bs x _ g _ _. contrary g x)
     (λ b bs k w d q l _ e _.
     let z = ap (λ (x : Tokens). x.list) q in
-    let y : (first_token (b ∷ bs)).token ≡ u = cc in
+    let y : (token_of (first_token (b ∷ bs))) ≡ u = cc in
     contrary n (side_by_side t u b l (rw y at d.right)))
     l g e shorter))
     (λ n. rw (gap-none t u n) h)
@@ -78,7 +78,7 @@ shorter-from (suc n) t h =
     (λ b bs k w d q l g p.
     let e = length-drop k bs in
     let c : get_or (drop k bs) 0 0 ≡ get_or bs k 0 = let z : k + 0 ≡ k = omega arith in get_or-drop k bs 0 0 ∙ ap (λ (j : ℕ). get_or bs j 0) z in
-    let r = one-shorter (first_token (b ∷ bs)).token k (drop k bs) (rw c d.left) d.short (λ ys m. shorter-from n ys (omega arith)) (rw q at g) (rw q at p) in
+    let r = one-shorter (token_of (first_token (b ∷ bs))) k (drop k bs) (rw c d.left) d.short (λ ys m. shorter-from n ys (omega arith)) (rw q at g) (rw q at p) in
     rw q (omega arith))
     h
 

@@ -1,5 +1,5 @@
 -- A number that is written is read back: its token, and every byte of it. Assumes nothing.
-use Rattle.std.specs.Prelude.{◌≡◌, refl, true, false, ℕ, suc, ◌+◌, ◌-◌, ◌*◌, ◌/◌, ◌%◌, ◌^◌, ◌≤◌, ◌<◌, eqb, take, drop, get_or}
+use Rattle.std.specs.Prelude.{◌≡◌, refl, true, false, Some, ℕ, suc, ◌+◌, ◌-◌, ◌*◌, ◌/◌, ◌%◌, ◌^◌, ◌≤◌, ◌<◌, eqb, take, drop, get_or}
 use Rattle.std.proofs.Math.Path.{sym, ap}
 use Rattle.std.proofs.Common.{◌∙◌, get_or-append-add, eqb-true}
 use mathlib.Core.List.{List, [], ◌∷◌, ◌++◌, append_assoc}
@@ -140,7 +140,7 @@ module _ (n : ℕ) (h : n ≤ top) where
       sym (value_in (decimal (n / unit)) (behind_digits (n % unit)) (mark (n % unit)) b.marked n w (omega arith) b.few h) ∙ omega arith
 
   -- A NUMBER IS READ BACK
-  pub number-back : (rest : List ℕ) → Stops (get_or rest 0 0) → number_first (number_text n ++ rest) ≡ record { token = NUMBER + (n * 2 + mark (n % unit)); size = length (number_text n) }
+  pub number-back : (rest : List ℕ) → Stops (get_or rest 0 0) → number_first (number_text n ++ rest) ≡ Some (record { token = NUMBER + (n * 2 + mark (n % unit)); size = length (number_text n) })
   unfolding number_text
   number-back rest s =
       let b = behind-is (n % unit) (omega arith) in

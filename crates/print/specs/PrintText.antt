@@ -1,11 +1,10 @@
 -- The print of a loaded set (document 02, Req 01 and Req 03): its rows, curves first, LF between them and none at the end; and what the call answers and writes. Definitions only.
-use Rattle.std.specs.Prelude.{true, false, ◌||◌, List, [], ◌∷◌, ◌++◌, ℕ, zero, suc, ◌+◌, eqb, ltb, length, drop}
+use Rattle.std.specs.Prelude.{true, false, Result, Ok, Err, is_some, ◌||◌, List, [], ◌∷◌, ◌++◌, ℕ, zero, suc, ◌+◌, eqb, ltb, length, drop}
 use Rattle.values.specs.Codes.{unsound, short_print}
 use Rattle.tokens.specs.Token.{END, max_curves, text_size}
-use Rattle.engine.specs.Set.{start_of, curve_start, sound_lines}
+use Rattle.engine.specs.Set.{start_of, curve_start, sound_lines, lines_of}
 use Rattle.text.specs.Byte.{LF}
 use Rattle.print.specs.TokenText.{line_text}
-use Rattle.print.specs.declared.set_print.Printed.{Printed}
 
 -- ---- the rows of a set, in the order of the print
 
@@ -30,7 +29,7 @@ curve_rows s (suc m) n = elim (ltb 0 (curve_start s n)) [ true ↦ row_at s (cur
 
 -- the curves by rising number, then the lines by rising number
 unfoldable pub rows_of : List ℕ → List (List ℕ)
-rows_of s = curve_rows s max_curves 1 ++ line_rows s (sound_lines s).count 0
+rows_of s = curve_rows s max_curves 1 ++ line_rows s (lines_of s).count 0
 
 -- ---- the print
 
@@ -49,21 +48,18 @@ print_text s = rows_text (rows_of s)
 
 -- ---- the call, on a set and a buffer
 
-abbrev pub not_printed : ℕ → Printed
-not_printed k = record { code = k; size = 0 }
-
--- 22 first, then 24 for a buffer under 4,096 bytes or too short for the print; else the bytes of the print are counted
-unfoldable pub print_answer : List ℕ → List ℕ → Printed
+-- 22 first, then 24 for a buffer under 4,096 bytes or too short for the print; else how many bytes the print has
+unfoldable pub print_answer : List ℕ → List ℕ → Result ℕ ℕ
 print_answer s b =
-    elim (sound_lines s).sound [
-      | false ↦ not_printed unsound
+    elim (is_some (sound_lines s)) [
+      | false ↦ Err unsound
       | true ↦
           elim (ltb (length b) text_size || ltb (length b) (length (print_text s))) [
-            | true ↦ not_printed short_print
-            | false ↦ record { code = 0; size = length (print_text s) }
+            | true ↦ Err short_print
+            | false ↦ Ok (length (print_text s))
           ]
     ]
 
 -- the print at the buffer's start, and the bytes behind it as they were; refused, nothing is written
 unfoldable pub print_buffer : List ℕ → List ℕ → List ℕ
-print_buffer s b = elim (eqb (print_answer s b).code 0) [ true ↦ print_text s ++ drop (length (print_text s)) b | false ↦ b ]
+print_buffer s b = elim (print_answer s b) [ Ok n ↦ print_text s ++ drop (length (print_text s)) b | Err code ↦ b ]

@@ -8,7 +8,7 @@ use Rattle.values.specs.Numbers.{clash}
 use Rattle.values.specs.Value.{unit}
 use Rattle.tokens.specs.Token.{NUMBER, is_number, number_carried, thousandths}
 use Rattle.text.specs.Byte.{is_space}
-use Rattle.text.specs.First.{first_token}
+use Rattle.text.specs.First.{token_of, first_token}
 use Rattle.text.specs.Tokens.{Tokens, tokens_of}
 use Rattle.text.specs.TokensLaws.{tokens_none}
 use Rattle.print.specs.TokenText.{token_text, goes_on, needs_space, line_text}
@@ -41,7 +41,7 @@ next-side t u us rest l n g e =
     (λ b bs x _ _ g _. contrary g x)
     (λ b bs k w d q l _ _ e.
     let z = ap (λ (x : Tokens). x.list) q in
-    let y : (first_token (b ∷ bs)).token ≡ u = cc in
+    let y : (token_of (first_token (b ∷ bs))) ≡ u = cc in
     side_by_side t u b l (rw y at d.right))
     l n g e
 
@@ -55,7 +55,7 @@ first_two x t u us n e =
     (λ b bs k w d q n e.
     let f = sym q ∙ e in
     let l = ap (λ (x : Tokens). x.list) f in
-    let y : (first_token (b ∷ bs)).token ≡ t = cc in
+    let y : (token_of (first_token (b ∷ bs))) ≡ t = cc in
     let z : (tokens_of (drop k bs)).list ≡ u ∷ us = cc in
     let i : k + 0 ≡ k = omega arith in
     let c : get_or (drop k bs) 0 0 ≡ get_or bs k 0 = get_or-drop k bs 0 0 ∙ ap (λ (j : ℕ). get_or bs j 0) i in

@@ -1,5 +1,5 @@
 -- A token that is written is read back, where the byte behind it does not go on with it. Assumes nothing.
-use Rattle.std.specs.Prelude.{◌≡◌, refl, Bool, true, false, not, ◌&&◌, ◌||◌, List, [], ◌∷◌, ◌++◌, ℕ, zero, suc, ◌+◌, ◌*◌, ◌/◌, ◌%◌, ◌≤◌, ◌<◌, eqb, leb, length, get_or}
+use Rattle.std.specs.Prelude.{◌≡◌, refl, Bool, true, false, not, ◌&&◌, ◌||◌, Option, Some, List, [], ◌∷◌, ◌++◌, ℕ, zero, suc, ◌+◌, ◌*◌, ◌/◌, ◌%◌, ◌≤◌, ◌<◌, eqb, leb, length, get_or}
 use Rattle.std.proofs.Common.{sym, ap, ◌∙◌, arith, eqb-true, ne_eqb, le-leb, leb-true}
 use Rattle.std.proofs.Math.Seq.{take-append_seam, drop-append_seam}
 use Rattle.std.proofs.lemmas.Bool.{lt-leb, not-true}
@@ -10,7 +10,7 @@ use Rattle.text.specs.Byte.{DOLLAR, is_digit, is_space, starts_word, is_word_byt
 use Rattle.text.specs.Word.{pairs, singles, names, token_in, word_token}
 use Rattle.text.specs.WordLaws.{rows, is_named, name-passes}
 use Rattle.text.specs.declared.scan.First.{First}
-use Rattle.text.specs.First.{found, word_first, number_first, sign_first, first_token}
+use Rattle.text.specs.First.{found, token_of, size_of, word_first, number_first, sign_first, first_token}
 use Rattle.text.specs.FirstLaws.{found_some}
 use Rattle.text.specs.Tokens.{with_token, tokens_of}
 use Rattle.text.specs.TokensLaws.{tokens-one, no-pair}
@@ -23,11 +23,11 @@ use Rattle.print.specs.NumberBackLaws.{Stops, number-back}
 -- ---- from the first token to all
 
 -- a token that takes just the bytes x
-pub scan-first : (x rest : List ℕ) (t : ℕ) → 0 < length x → is_space (get_or x 0 0) ≡ false → first_token (x ++ rest) ≡ record { token = t; size = length x } → tokens_of (x ++ rest) ≡ with_token t (tokens_of rest)
+pub scan-first : (x rest : List ℕ) (t : ℕ) → 0 < length x → is_space (get_or x 0 0) ≡ false → first_token (x ++ rest) ≡ Some (record { token = t; size = length x }) → tokens_of (x ++ rest) ≡ with_token t (tokens_of rest)
 scan-first [] rest t l s h = absurd (omega arith)
 scan-first (b ∷ bs) rest t l s h =
-    let z : (first_token (b ∷ bs ++ rest)).size ≡ suc (length bs) = ap (λ (f : First). f.size) h in
-    let y : (first_token (b ∷ bs ++ rest)).token ≡ t = ap (λ (f : First). f.token) h in
+    let z : (size_of (first_token (b ∷ bs ++ rest))) ≡ suc (length bs) = ap (λ (f : Option First). size_of f) h in
+    let y : (token_of (first_token (b ∷ bs ++ rest))) ≡ t = ap (λ (f : Option First). token_of f) h in
     tokens-one b (bs ++ rest) (length bs) s z ∙ rw (y, drop-append_seam bs rest)
 
 -- ---- names
@@ -69,7 +69,7 @@ unfolding first_token
 first-at-word c cs h = chosen _ _ _ h
 
 word_back : (x rest : List ℕ) (t : ℕ) → (t ≡ 0 → ⊥) → goes_on t ≡ true → word_row x t ≡ true → is_word_byte (get_or rest 0 0) ≡ false →
-    (0 < length x) × (is_space (get_or x 0 0) ≡ false) × (first_token (x ++ rest) ≡ record { token = t; size = length x })
+    (0 < length x) × (is_space (get_or x 0 0) ≡ false) × (first_token (x ++ rest) ≡ Some (record { token = t; size = length x }))
 unfolding word_row word_first
 word_back [] rest t z g h s = contrary (rw g at h) refl
 word_back (c ∷ cs) rest t z g h s =
@@ -104,18 +104,18 @@ first-at-sign a bs h =
     (not-true (is_space a) w, refused _ _ _ (not-true (starts_word a) x) ∙ refused _ _ _ (not-true (is_digit a) z))
 
 -- a sign, and a byte that makes no sign of two with it
-sign-one : (a t : ℕ) (rest : List ℕ) → (t ≡ 0 → ⊥) → token_in singles (a ∷ []) ≡ t → token_in pairs (a ∷ get_or rest 0 0 ∷ []) ≡ 0 → sign_first (a ∷ rest) ≡ record { token = t; size = 1 }
+sign-one : (a t : ℕ) (rest : List ℕ) → (t ≡ 0 → ⊥) → token_in singles (a ∷ []) ≡ t → token_in pairs (a ∷ get_or rest 0 0 ∷ []) ≡ 0 → sign_first (a ∷ rest) ≡ Some (record { token = t; size = 1 })
 unfolding sign_first
 sign-one a t [] z e s = rw (sign_first, no-pair a, e) (sym (found_some t 1 z))
 sign-one a t (c ∷ cs) z e s = rw (sign_first, s, e) (sym (found_some t 1 z))
 
-sign-two : (a b t : ℕ) (rest : List ℕ) → (t ≡ 0 → ⊥) → token_in pairs (a ∷ b ∷ []) ≡ t → sign_first (a ∷ b ∷ rest) ≡ record { token = t; size = 2 }
+sign-two : (a b t : ℕ) (rest : List ℕ) → (t ≡ 0 → ⊥) → token_in pairs (a ∷ b ∷ []) ≡ t → sign_first (a ∷ b ∷ rest) ≡ Some (record { token = t; size = 2 })
 unfolding sign_first
 sign-two a b zero rest z e = absurd (z refl)
 sign-two a b (suc t) rest z e = rw (sign_first, e)
 
 sign-back : (x rest : List ℕ) (t : ℕ) → (t ≡ 0 → ⊥) → goes_on t ≡ false → sign_row x t ≡ true → token_in pairs (x ++ (get_or rest 0 0 ∷ [])) ≡ 0 →
-    (0 < length x) × (is_space (get_or x 0 0) ≡ false) × (first_token (x ++ rest) ≡ record { token = t; size = length x })
+    (0 < length x) × (is_space (get_or x 0 0) ≡ false) × (first_token (x ++ rest) ≡ Some (record { token = t; size = length x }))
 unfolding sign_row
 sign-back [] rest t z g h s = contrary h g
 sign-back (a ∷ []) rest t z g h s =

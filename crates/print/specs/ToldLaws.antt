@@ -1,5 +1,5 @@
 -- What the reading of a first token tells: the byte behind it does not go on with it, it begins with the first byte, and it is written in no more bytes; so two tokens that are read with nothing between them need no space. Assumes nothing.
-use Rattle.std.specs.Prelude.{◌≡◌, refl, Bool, true, false, not, ◌&&◌, ◌||◌, List, [], ◌∷◌, ◌++◌, ℕ, zero, suc, ◌+◌, ◌≤◌, eqb, leb, length, take, drop, get_or}
+use Rattle.std.specs.Prelude.{◌≡◌, refl, Bool, true, false, not, ◌&&◌, ◌||◌, Option, None, List, [], ◌∷◌, ◌++◌, ℕ, zero, suc, ◌+◌, ◌≤◌, eqb, leb, length, take, drop, get_or}
 use Rattle.std.proofs.Common.{sym, ap, ◌∙◌, arith, get_or-drop, drop-drop, length-take-le, get_or-take, eq-eqb, ne_eqb, le-leb}
 use Rattle.std.proofs.Math.Bool.{and-false}
 use Rattle.std.proofs.lemmas.Bool.{lt-leb, not-true}
@@ -11,7 +11,7 @@ use Rattle.text.specs.Number.{number_token}
 use Rattle.text.specs.Word.{pairs, singles, words, names, same_bytes, token_in, word_token}
 use Rattle.text.specs.WordLaws.{same-is, rows, found-passes}
 use Rattle.text.specs.declared.scan.First.{First}
-use Rattle.text.specs.First.{found, no_token, word_first, behind_point, with_point, number_with, number_first, sign_first, first_token}
+use Rattle.text.specs.First.{found, token_of, size_of, word_first, behind_point, with_point, number_with, number_first, sign_first, first_token}
 use Rattle.text.specs.TokensLaws.{no-pair}
 use Rattle.print.specs.TokenText.{name_text, token_text, goes_on, is_following, is_one_sign, needs_space}
 use Rattle.print.specs.DecimalLaws.{All}
@@ -100,7 +100,7 @@ words-told : rows word_told words ≡ true
 unfolding word_told name_text
 words-told = refl
 
-found-size : (t n k : ℕ) → (found t n).size ≡ suc k → ((found t n).token ≡ t) × (n ≡ suc k) × (t ≡ 0 → ⊥)
+found-size : (t n k : ℕ) → (size_of (found t n)) ≡ suc k → ((token_of (found t n)) ≡ t) × (n ≡ suc k) × (t ≡ 0 → ⊥)
 found-size zero n k h = absurd (omega arith)
 found-size (suc t) n k h = (refl, h, λ e. omega arith)
 
@@ -111,7 +111,7 @@ word-told x z = found-passes word_told words x words-told z
 not-letter : (c : ℕ) → is_word_byte c ≡ false → (is_letter c ≡ false) × (is_digit c ≡ false)
 not-letter c h = let (a, b) = neither (is_letter c) _ h in let (d, e) = neither (is_digit c) _ b in (a, d)
 
-told-word : (b : ℕ) (bs : List ℕ) (k : ℕ) → (word_first (b ∷ bs)).size ≡ suc k → Told b bs (word_first (b ∷ bs)).token k
+told-word : (b : ℕ) (bs : List ℕ) (k : ℕ) → (size_of (word_first (b ∷ bs))) ≡ suc k → Told b bs (token_of (word_first (b ∷ bs))) k
 unfolding word_first word_told
 told-word b bs k h =
     let n = run is_word_byte bs in
@@ -166,18 +166,18 @@ sign-told b bs x t k q l f z =
 pairs-lone : (a : ℕ) → token_in pairs (a ∷ 0 ∷ []) ≡ 0
 pairs-lone a = one_more_lem a 0 (λ e. omega arith) (λ e. omega arith)
 
-told-sign : (b : ℕ) (bs : List ℕ) (k : ℕ) → (sign_first (b ∷ bs)).size ≡ suc k → Told b bs (sign_first (b ∷ bs)).token k
+told-sign : (b : ℕ) (bs : List ℕ) (k : ℕ) → (size_of (sign_first (b ∷ bs))) ≡ suc k → Told b bs (token_of (sign_first (b ∷ bs))) k
 unfolding sign_first
 told-sign b [] k h =
     let n = no-pair b in
-    let g : (found (token_in singles (b ∷ [])) 1).size ≡ suc k = rw (sign_first, n) at h in
+    let g : (size_of (found (token_in singles (b ∷ [])) 1)) ≡ suc k = rw (sign_first, n) at h in
     let (e, f, z) = found-size (token_in singles (b ∷ [])) 1 k g in
     rw (sign_first, n, e) (sign-told b [] (b ∷ []) _ k (found-passes sign_told singles (b ∷ []) singles-told z) f refl (pairs-lone b))
 told-sign b (c ∷ cs) k h = go (token_in pairs (b ∷ c ∷ [])) refl
   where
-    go : (m : ℕ) → token_in pairs (b ∷ c ∷ []) ≡ m → Told b (c ∷ cs) (sign_first (b ∷ c ∷ cs)).token k
+    go : (m : ℕ) → token_in pairs (b ∷ c ∷ []) ≡ m → Told b (c ∷ cs) (token_of (sign_first (b ∷ c ∷ cs))) k
     go zero n =
-        let g : (found (token_in singles (b ∷ [])) 1).size ≡ suc k = rw (sign_first, n) at h in
+        let g : (size_of (found (token_in singles (b ∷ [])) 1)) ≡ suc k = rw (sign_first, n) at h in
         let (e, f, z) = found-size (token_in singles (b ∷ [])) 1 k g in
         let y : k ≡ 0 = omega arith in
         rw (sign_first, n, e) (sign-told b (c ∷ cs) (b ∷ []) _ k (found-passes sign_told singles (b ∷ []) singles-told z) f refl (rw y n))
@@ -245,7 +245,7 @@ module _ (b : ℕ) (bs : List ℕ) (k n m : ℕ) (h : is_digit b ≡ true) (da :
             rw text (omega arith);
       }
 
-told-number : (b : ℕ) (bs : List ℕ) (k : ℕ) → is_digit b ≡ true → (number_first (b ∷ bs)).size ≡ suc k → Told b bs (number_first (b ∷ bs)).token k
+told-number : (b : ℕ) (bs : List ℕ) (k : ℕ) → is_digit b ≡ true → (size_of (number_first (b ∷ bs))) ≡ suc k → Told b bs (token_of (number_first (b ∷ bs))) k
 unfolding number_first number_with
 told-number b bs k h g =
     let t = b ∷ bs in
@@ -253,18 +253,18 @@ told-number b bs k h g =
     let m = behind_point (drop n t) in
     let T = number_token (take n t) (take m (drop (n + 1) t)) in
     decide _ (is_letter (get_or t (n + with_point m) 0))
-    (λ e. let eq : number_first t ≡ no_token = chosen _ _ _ e in let z = sym (ap (λ (f : First). f.size) eq) ∙ g in absurd (omega arith))
+    (λ e. let eq : number_first t ≡ None = chosen _ _ _ e in let z = sym (ap (λ (f : Option First). size_of f) eq) ∙ g in absurd (omega arith))
     (λ e.
     let eq : number_first t ≡ found T (n + with_point m) = refused _ _ _ e in
-    let (x, f, z) = found-size T (n + with_point m) k (sym (ap (λ (f : First). f.size) eq) ∙ g) in
+    let (x, f, z) = found-size T (n + with_point m) k (sym (ap (λ (f : Option First). size_of f) eq) ∙ g) in
     let s : n ≡ suc (run is_digit bs) = run_on is_digit b bs h in
     let y : get_or (drop n t) 0 0 ≡ get_or t n 0 = let z : n + 0 ≡ n = omega arith in get_or-drop n t 0 0 ∙ ap (λ (j : ℕ). get_or t j 0) z in
-    rw (ap (λ (f : First). f.token) eq ∙ x)
+    rw (ap (λ (f : Option First). token_of f) eq ∙ x)
     (number-made b bs k n m h (run-all is_digit t) (omega arith) (run-within is_digit t) (pointed-is (drop n t) (ap is_digit y ∙ run-off-behind is_digit t refl)) f (rw f at e)))
 
 -- ---- any of them
 
-pub first-told : (b : ℕ) (bs : List ℕ) (k : ℕ) → (first_token (b ∷ bs)).size ≡ suc k → Told b bs (first_token (b ∷ bs)).token k
+pub first-told : (b : ℕ) (bs : List ℕ) (k : ℕ) → (size_of (first_token (b ∷ bs))) ≡ suc k → Told b bs (token_of (first_token (b ∷ bs))) k
 unfolding first_token
 first-told b bs k h =
     decide _ (starts_word b)

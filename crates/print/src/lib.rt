@@ -8,4 +8,4 @@ mod name;
 mod number;
 mod set_print;
 
-pub use set_print::{Printed, print};
+pub use set_print::print;

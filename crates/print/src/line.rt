@@ -19,71 +19,53 @@ fn put_token(out: &mut [u8], at: usize, t: u32) -> usize
     ensures { IsPut out.old at (token_text t) out.new result }
 {
     if t < NUMBER {
-        return at + put_name(out, at, t);
+        at + put_name(out, at, t)
+    } else {
+        put_thousandths(out, at, (t - NUMBER) / 2)
     }
-    put_thousandths(out, at, (t - NUMBER) / 2)
 }
 
 // Whether letters and digits would go on with a token: a word or a number.
 fn goes_on(t: u32) -> bool
     ensures { result ≡ goes_on t }
 {
-    if t < ID {
-        return false;
-    }
-    t != COMMA
+    t >= ID && t != COMMA
 }
 
 // Whether a token begins with a letter or a digit.
 fn is_following(t: u32) -> bool
     ensures { result ≡ is_following t }
 {
-    if !goes_on(t) {
-        return false;
-    }
-    !is_variable(t)
+    goes_on(t) && !is_variable(t)
 }
 
 // Whether a sign is = < or >.
 fn is_opening(t: u32) -> bool
     ensures { result ≡ is_opening t }
 {
-    if t == EQUALS {
-        return true;
-    }
-    if t == LESS {
-        return true;
-    }
-    t == MORE
+    matches!(t, EQUALS | LESS | MORE)
 }
 
 // Whether a sign and the one behind it would be read as one, or as others.
 fn is_one_sign(t: u32, u: u32) -> bool
     ensures { result ≡ is_one_sign t u }
 {
-    if u == EQUALS {
-        return is_opening(t);
+    match u {
+        EQUALS | SAME => is_opening(t),
+        MORE | ATLEAST => t == LESS,
+        _ => false,
     }
-    if u == SAME {
-        return is_opening(t);
-    }
-    if u == MORE {
-        return t == LESS;
-    }
-    if u == ATLEAST {
-        return t == LESS;
-    }
-    false
 }
 
 // Whether two tokens would not read as they stand without a space.
 fn needs_space(t: u32, u: u32) -> bool
     ensures { result ≡ needs_space t u }
 {
-    if !goes_on(t) {
-        return is_one_sign(t, u);
+    if goes_on(t) {
+        is_following(u)
+    } else {
+        is_one_sign(t, u)
     }
-    is_following(u)
 }
 
 // What stands between two tokens.
@@ -91,11 +73,12 @@ fn put_gap(out: &mut [u8], at: usize, t: u32, u: u32) -> usize
     requires { at ≤ last_place }
     ensures { IsPut out.old at (gap t u) out.new result }
 {
-    if !needs_space(t, u) {
-        return at;
+    if needs_space(t, u) {
+        put(out, at, SPACE);
+        at + 1
+    } else {
+        at
     }
-    put(out, at, SPACE);
-    at + 1
 }
 
 // The line that begins at a place of the set, up to its end. The end of a line needs no space before it.
@@ -104,6 +87,7 @@ pub fn put_line(set: &[u32; SIZE], start: usize, out: &mut [u8], at: usize) -> u
     ensures put { IsPut out.old at (line_text (row_at set.now start)) out.new result }
     ensures upper_bound { result ≤ at + line_room }
 {
+    // By the token and the one behind it, each read once.
     let mut p = start;
     let mut q = at;
     let mut t = token_at(set, p);

@@ -12,14 +12,7 @@ use tokens::token::{ID, IN, POS, W};
 fn solid_size(row: &[u8]) -> usize
     ensures { result ≡ solid_size row.now }
 {
-    let mut i: usize = 0;
-    while i < row.len() {
-        if row[i] == SPACE {
-            return i;
-        }
-        i += 1;
-    }
-    i
+    row.iter().position(|b| *b == SPACE).unwrap_or(row.len())
 }
 
 // The name that begins at a place of a table of names, each in so many bytes with spaces behind it.
@@ -28,8 +21,7 @@ fn put_row(out: &mut [u8], at: usize, table: &[u8], width: usize, start: usize) 
     ensures value { result ≡ length (row_in table.now width start) }
     ensures out_after { out.new ≡ put_at out.old at (row_in table.now width start) }
 {
-    let end = start + width;
-    let row = &table[start..end];
+    let row = &table[start..start + width];
     let size = solid_size(row);
     put_bytes(out, at, &row[..size]);
     size
@@ -40,44 +32,38 @@ pub fn put_name(out: &mut [u8], at: usize, t: u32) -> usize
     ensures value { result ≡ length (name_text t) }
     ensures out_after { out.new ≡ put_at out.old at (name_text t) }
 {
-    if t < ID {
-        return put_row(
+    match t {
+        ..ID => put_row(
             out,
             at,
             b"  = ==<>< > <=>=+ - * / ( ) [ ] ",
             2,
             t as usize * 2,
-        );
-    }
-    if t < IN {
-        return put_row(
+        ),
+        ID..IN => put_row(
             out,
             at,
             b"ID      IDS     WHEN    WHENEVERFROM    EVERY   DO      \
         TRUE    FALSE   NOT     AND     OR      XOR     ,       FCTDEF          ",
             8,
             (t - ID) as usize * 8,
-        );
-    }
-    if t < POS {
-        return put_row(
+        ),
+        IN..POS => put_row(
             out,
             at,
             b"$A_IN     $A_INA    $A_OUT    $AC_MARKER$AC_PARAM $R        \
         $AC_TIMER $AC_FIFO1 $AC_FIFO2 $AC_FIFO3 $AC_FIFO4 $AA_IM                                            ",
             10,
             (t - IN) as usize * 10,
-        );
-    }
-    if t <= W {
-        return put_row(
+        ),
+        POS..=W => put_row(
             out,
             at,
             b"POS   FA    MOV   M     SETAL LOCK  UNLOCK      SYNFCT\
         X     Y     Z     U     V     W     ",
             6,
             (t - POS) as usize * 6,
-        );
+        ),
+        _ => 0,
     }
-    0
 }

@@ -1,8 +1,8 @@
 // The print of a set: its rows, an LF between them. It is put nowhere first, which counts its bytes, and then into the buffer.
-ghost use Rattle.std.specs.Prelude.{◌≡◌, ◌||◌, ◌++◌, ◌+◌, ◌≤◌, ◌<◌, length};
+ghost use Rattle.std.specs.Prelude.{◌≡◌, ◌++◌, ◌+◌, ◌≤◌, ◌<◌, length};
 ghost use Rattle.values.specs.PutAt.{IsPut};
 ghost use Rattle.tokens.specs.Token.{max_lines, max_curves};
-ghost use Rattle.print.specs.PrintText.{line_rows, curve_rows, rows_text, not_printed, print_answer, print_buffer};
+ghost use Rattle.print.specs.PrintText.{line_rows, curve_rows, rows_text, print_answer, print_buffer};
 ghost use Rattle.print.specs.PrintOrder.{slot_at, slot_start, has_row, row_behind, slot_text};
 ghost use Rattle.print.specs.PrintRoomLaws.{last_place, row_room};
 
@@ -13,31 +13,17 @@ use text::bytes::LF;
 use tokens::token::{CURVES, SIZE, TEXT_SIZE, token_at};
 use values::codes::{SHORT_PRINT, UNSOUND};
 
-// The code, and with 0 how many bytes were printed.
-#[derive(Clone, Copy)]
-pub struct Printed {
-    pub code: u8,
-    pub size: usize,
-}
-
-fn not_printed(code: u8) -> Printed
-    ensures { result ≡ not_printed code }
-{
-    Printed {
-        code: code,
-        size: 0,
-    }
-}
-
 // Slot k of the print: those of the curves, then those of the lines.
+#[tactic(auto, unfolding(crate::specs::PrintOrder::slot_at))]
 fn slot_at(k: usize) -> usize
     requires { k < max_curves + max_lines }
     ensures { result ≡ slot_at k }
 {
     if k < CURVES {
-        return CURVE_PLACE + k;
+        CURVE_PLACE + k
+    } else {
+        START_PLACE + (k - CURVES)
     }
-    START_PLACE + (k - CURVES)
 }
 
 // Where the row of slot k begins.
@@ -49,14 +35,12 @@ fn slot_start(set: &[u32; SIZE], k: usize) -> usize
 }
 
 // Whether the set has it: a line always, a curve if it begins somewhere.
+#[tactic(auto, unfolding(crate::specs::PrintOrder::has_row))]
 fn is_there(set: &[u32; SIZE], k: usize) -> bool
     requires { k < max_curves + max_lines }
     ensures { result ≡ has_row set.now k }
 {
-    if CURVES <= k {
-        return true;
-    }
-    0 < slot_start(set, k)
+    CURVES <= k || 0 < slot_start(set, k)
 }
 
 // The row that begins at a place of the set, with an LF before it behind others; the answer is the place behind it in the buffer.
@@ -84,29 +68,16 @@ fn put_slot(set: &[u32; SIZE], behind: bool, k: usize, out: &mut [u8], at: usize
     put_row_behind(set, behind, slot_start(set, k), out, at)
 }
 
-// Whether rows were put up to slot k; `behind`: before it.
-fn is_behind(set: &[u32; SIZE], behind: bool, k: usize) -> bool
-    requires { k < max_curves + max_lines }
-    ensures { result ≡ (behind || has_row set.now k) }
-{
-    if behind {
-        return true;
-    }
-    is_there(set, k)
-}
-
 // The rows of a set, curves and lines, each by rising number, from the buffer's start on; the answer is how many bytes they take, those past its end too.
 fn put_rows(set: &[u32; SIZE], count: usize, out: &mut [u8]) -> usize
     requires { count ≤ max_lines }
     ensures { IsPut out.old 0 (rows_text (curve_rows set.now max_curves 1 ++ line_rows set.now count 0)) out.new result }
 {
-    let mut at: usize = 0;
+    let mut at = 0;
     let mut behind = false;
-    let mut k: usize = 0;
-    while k < CURVES + count {
+    for k in 0..CURVES + count {
         at = put_slot(set, behind, k, out, at);
-        behind = is_behind(set, behind, k);
-        k += 1;
+        behind = behind || is_there(set, k);
     }
     at
 }
@@ -120,27 +91,16 @@ fn size_of(set: &[u32; SIZE], count: usize) -> usize
     put_rows(set, count, &mut nowhere)
 }
 
-// The set is printed at the start of the buffer; nothing is written before the size of the print is known.
-pub fn print(set: &[u32; SIZE], buffer: &mut [u8]) -> Printed
+// The set is printed at the start of the buffer: how many bytes that takes, or the code of the refusal, a number of the document (22, 24). Nothing is written before the size of the print is known.
+pub fn print(set: &[u32; SIZE], buffer: &mut [u8]) -> Result<usize, u8>
     ensures value { result ≡ print_answer set.now buffer.old }
     ensures buffer_after { buffer.new ≡ print_buffer set.now buffer.old }
 {
-    let lines = sound_lines(set);
-    let sound = lines.sound;
-    if !sound {
-        return not_printed(UNSOUND);
+    let Some(lines) = sound_lines(set) else {
+        return Err(UNSOUND);
+    };
+    if buffer.len() < TEXT_SIZE || buffer.len() < size_of(set, lines.count) {
+        return Err(SHORT_PRINT);
     }
-    if buffer.len() < TEXT_SIZE {
-        return not_printed(SHORT_PRINT);
-    }
-    let count = lines.count;
-    let size = size_of(set, count);
-    if buffer.len() < size {
-        return not_printed(SHORT_PRINT);
-    }
-    put_rows(set, count, buffer);
-    Printed {
-        code: 0,
-        size: size,
-    }
+    Ok(put_rows(set, lines.count, buffer))
 }

@@ -1,9 +1,9 @@
 -- Laws of tokens that are laid at the beginning of an array that is otherwise 0, and wiped off again.
 use mathlib.Core.Path.{◌≡◌, refl, sym, ap, ◌∙◌}
-use mathlib.Core.List.{List, [], ◌∷◌}
-use Prim.Native.Nat.{ℕ, suc, ◌+◌, ◌-◌, ◌<◌, ◌≤◌}
+use mathlib.Core.List.{List, [], ◌∷◌, ◌++◌}
+use Prim.Native.Nat.{ℕ, suc, ◌+◌, ◌<◌, ◌≤◌}
 use native.Mathlib.Omega.{arith}
-use lib.ListN.{length, set, replicate}
+use lib.ListN.{length, set, drop, replicate}
 use lib.Seq.{set-set, set_comm, set-get_or}
 use Rattle.values.specs.PutAt.{put_at}
 use Rattle.tokens.specs.Token.{set_size}
@@ -31,10 +31,13 @@ pub wiped : (ts : List ℕ) → put_at (alone ts) 0 (replicate (length ts) 0) �
 unfolding empty_set
 wiped ts = wiped-off ts set_size 0
 
--- zeros that are put up to place n: those from place i on
-module _ (s : List ℕ) (n i : ℕ) where
-  pub zeros-next : i < n → put_at s i (replicate (n - i) 0) ≡ put_at (set s i 0) (i + 1) (replicate (n - (i + 1)) 0)
-  zeros-next h = let e : n - i ≡ suc (n - (i + 1)) = omega arith in rw e
+-- ---- what is put at the beginning
 
-  pub zeros-none : n ≤ i → put_at s i (replicate (n - i) 0) ≡ s
-  zeros-none h = let e : n - i ≡ 0 = omega arith in rw e
+put_cons : (l s : List ℕ) (x p : ℕ) → put_at (x ∷ s) (suc p) l ≡ x ∷ put_at s p l
+put_cons [] s x p = refl
+put_cons (t ∷ l) s x p = let e : suc p + 1 ≡ suc (p + 1) = omega arith in rw e (put_cons l (set s p t) x (p + 1))
+
+pub put-front : (ts s : List ℕ) → length ts ≤ length s → ts ++ drop (length ts) s ≡ put_at s 0 ts
+put-front [] s h = refl
+put-front (t ∷ ts) [] h = absurd (omega arith)
+put-front (t ∷ ts) (x ∷ s) h = ap (λ (l : List ℕ). t ∷ l) (put-front ts s (omega arith)) ∙ sym (put_cons ts s t 0)

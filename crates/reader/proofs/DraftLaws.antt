@@ -12,10 +12,14 @@ use borrow.Author.Tests.{le-leb, lt-ltb, ltb-false}
 use Rattle.values.specs.PutAt.{put_at}
 use Rattle.values.specs.PutLaws.{put-length, put-before}
 use Rattle.tokens.specs.Token.{set_size, max_lines, max_curves}
+use Rattle.std.specs.Prelude.{Option, Some, None, is_some}
+use Rattle.std.proofs.lemmas.List.{map-set}
 use Rattle.reader.specs.declared.draft.Draft.{Draft}
+use Rattle.reader.specs.declared.draft.DraftLine.{DraftLine}
+use Rattle.reader.specs.declared.draft.Span.{Span}
 use Rattle.engine.specs.Set.{is_defined}
 use Rattle.reader.specs.Row.{Row, is_there, curves_there, numbers_of, no_row}
-use Rattle.reader.specs.Draft.{grown_by, grown_by_curve, row_in, rows_at, rows_in, curve_in, curves_at, kept_in, tokens_to, lengths, tokens_kept, Held}
+use Rattle.reader.specs.Draft.{no_draft_line, grown_by, grown_by_curve, row_of_line, curve_tokens, Before, CurveBefore, row_in, rows_at, rows_in, curve_in, curves_at, kept_in, tokens_to, lengths, tokens_kept, Held}
 use Rattle.reader.specs.RisingLaws.{number_at, numbers-length}
 
 -- ---- a part of an array that something is put into
@@ -74,31 +78,34 @@ module _ (s : List ℕ) (d : Draft) where
       ap (λ (x : List Row). row_in s d j ∷ x) (rows_last n (j + 1) ∙ ap (λ (x : ℕ). rows_at s d n (j + 1) ++ (row_in s d x ∷ [])) e)
 
 -- where the tokens of a line stand
-pub row-bounds : (s : List ℕ) (d : Draft) → Held s d → (j : ℕ) → j < d.count →
-    (get_or d.starts j 0 ≤ get_or d.ends j 0) × (get_or d.ends j 0 ≤ set_size) × (length (row_in s d j).tokens ≡ get_or d.ends j 0 - get_or d.starts j 0) × (j < max_lines)
+pub row-bounds : (s : List ℕ) (d : Draft) → Held s d → (j : ℕ) → j < d.count → let x = (get_or d.lines j no_draft_line).tokens in
+    (x.start ≤ x.end) × (x.end ≤ set_size) × (length (row_in s d j).tokens ≡ x.end - x.start) × (j < max_lines)
 row-bounds s d h j l =
+    let x = (get_or d.lines j no_draft_line).tokens in
     let o = h.ordered j l in
     let w = h.within in
     let z = h.size in
     let f = h.few in
-    let t = length-take (get_or d.ends j 0 - get_or d.starts j 0) (drop (get_or d.starts j 0) s) in
-    let r = length-drop (get_or d.starts j 0) s in
+    let t = length-take (x.end - x.start) (drop x.start s) in
+    let r = length-drop x.start s in
     (o.0, omega arith, omega arith, omega arith)
 
 -- and those of a curve's line
-pub curve-bounds : (s : List ℕ) (d : Draft) → Held s d → (j : ℕ) → j < max_curves →
-    (get_or d.from j 0 ≤ get_or d.to j 0) × (get_or d.to j 0 ≤ set_size) × (length (curve_in s d j) ≡ get_or d.to j 0 - get_or d.from j 0)
-curve-bounds s d h j l =
-    let o = h.curves_ordered j l in
+pub curve-bounds : (s : List ℕ) (d : Draft) → Held s d → (j : ℕ) → j < max_curves → (x : Span) → get_or d.curves j None ≡ Some x → (x.start ≤ x.end) × (x.end ≤ set_size) × (length (curve_in s d j) ≡ x.end - x.start)
+curve-bounds s d h j l x e =
+    let o : CurveBefore d.at (Some x) = rw e at (h.curves_ordered j l) in
     let w = h.within in
     let z = h.size in
-    let t = length-take (get_or d.to j 0 - get_or d.from j 0) (drop (get_or d.from j 0) s) in
-    let r = length-drop (get_or d.from j 0) s in
-    (o.0, omega arith, omega arith)
+    let t = length-take (x.end - x.start) (drop x.start s) in
+    let r = length-drop x.start s in
+    (omega arith, omega arith, rw e (omega arith))
 
 -- and those of the next line
 pub tokens-length : (s : List ℕ) (d : Draft) → Held s d → (end : ℕ) → d.at ≤ end → end ≤ set_size → length (tokens_to s d end) ≡ end - d.at
 tokens-length s d h end b f = let t = length-take (end - d.at) (drop d.at s) in let r = length-drop d.at s in let z = h.size in omega arith
+
+pub tokens-short : (s : List ℕ) (d : Draft) → Held s d → (end : ℕ) → d.at ≤ end → end ≤ set_size → length (tokens_to s d end) ≤ set_size
+tokens-short s d h end b f = let n = tokens-length s d h end b f in omega arith
 
 rows_same : (s z : List ℕ) (d e : Draft) (n j : ℕ) → ((i : ℕ) → i < j + n → row_in s d i ≡ row_in z e i) → rows_at s d n j ≡ rows_at z e n j
 unfolding rows_at
@@ -114,10 +121,14 @@ curves-same s z d e (suc n) j h = rw (h j (omega arith)) (ap (λ (x : List (List
 
 module _ (s : List ℕ) (d : Draft) (h : Held s d) (ts : List ℕ) where
   rows-put : rows_in (put_at s d.at ts) d ≡ rows_in s d
-  rows-put = rows_same (put_at s d.at ts) s d d d.count 0 (λ i l. let o = h.ordered i (omega arith) in rw (part-before ts s d.at (get_or d.starts i 0) (get_or d.ends i 0) o.0 o.1))
+  rows-put = rows_same (put_at s d.at ts) s d d d.count 0 (λ i l. let x = (get_or d.lines i no_draft_line).tokens in let o = h.ordered i (omega arith) in rw (part-before ts s d.at x.start x.end o.0 o.1))
+
+  curve-put : (o : Option Span) → CurveBefore d.at o → curve_tokens (put_at s d.at ts) o ≡ curve_tokens s o
+  curve-put None b = refl
+  curve-put (Some x) b = part-before ts s d.at x.start x.end (omega arith) b.1
 
   curves-put : curves_at (put_at s d.at ts) d max_curves 0 ≡ curves_at s d max_curves 0
-  curves-put = curves-same (put_at s d.at ts) s d d max_curves 0 (λ i l. let o = h.curves_ordered i (omega arith) in part-before ts s d.at (get_or d.from i 0) (get_or d.to i 0) o.0 o.1)
+  curves-put = curves-same (put_at s d.at ts) s d d max_curves 0 (λ i l. curve-put (get_or d.curves i None) (h.curves_ordered i (omega arith)))
 
   pub kept_put : kept_in (put_at s d.at ts) d ≡ kept_in s d
   kept_put = rw (rows-put, curves-put)
@@ -162,6 +173,11 @@ unfolding lengths
 lengths-last [] r = omega arith
 lengths-last (q ∷ rs) r = let i = lengths-last rs r in omega arith
 
+-- what stands before a place stands before a later one
+curve-later : (at end : ℕ) (o : Option Span) → at ≤ end → CurveBefore at o → CurveBefore end o
+curve-later at end None l b = tt
+curve-later at end (Some x) l b = (b.0, omega arith)
+
 -- the line k of the text, with the number n, whose tokens stand behind those that are kept, up to the place `end`
 module _ (s : List ℕ) (d : Draft) (h : Held s d) (k n end : ℕ) (few : d.count < max_lines) (begin : d.at ≤ end) (fits : end ≤ set_size) where
   abbrev draft : Draft
@@ -170,28 +186,14 @@ module _ (s : List ℕ) (d : Draft) (h : Held s d) (k n end : ℕ) (few : d.coun
   abbrev row : Row
   row = record { place = k; number = n; tokens = tokens_to s d end }
 
-  kept : (i : ℕ) → i < d.count → row_in s draft i ≡ row_in s d i
-  kept i l =
-      rw (
-        get_or-set_other d.places d.count i k 0 (λ e. omega arith),
-        get_or-set_other d.numbers d.count i n 0 (λ e. omega arith),
-        get_or-set_other d.starts d.count i d.at 0 (λ e. omega arith),
-        get_or-set_other d.ends d.count i end 0 (λ e. omega arith),
-      )
+  abbrev line : DraftLine
+  line = record { number = n; place = k; tokens = record { start = d.at; end = end } }
 
-  numbers-size : length d.numbers ≡ max_lines
-  numbers-size = ap length h.numbers ∙ numbers-length (rows_in s d)
+  kept : (i : ℕ) → i < d.count → row_in s draft i ≡ row_in s d i
+  kept i l = ap (row_of_line s) (get_or-set_other d.lines d.count i line no_draft_line (λ e. omega arith))
 
   newest : row_in s draft d.count ≡ row
-  newest =
-      let z = h.sizes in
-      let m = numbers-size in
-      rw (
-        get_or-set_same d.places d.count k 0 (omega arith),
-        get_or-set_same d.numbers d.count n 0 (omega arith),
-        get_or-set_same d.starts d.count d.at 0 (omega arith),
-        get_or-set_same d.ends d.count end 0 (omega arith),
-      )
+  newest = let z = h.sizes in ap (row_of_line s) (get_or-set_same d.lines d.count line no_draft_line (omega arith))
 
   pub grown-rows : rows_in s draft ≡ rows_in s d ++ (row ∷ [])
   grown-rows =
@@ -213,24 +215,22 @@ module _ (s : List ℕ) (d : Draft) (h : Held s d) (k n end : ℕ) (few : d.coun
       let m = tokens-length s d h end begin fits in
       record {
         size = h.size;
-        sizes = (length-set d.places d.count k ∙ z.0, length-set d.starts d.count d.at ∙ z.1, length-set d.ends d.count end ∙ z.2);
+        sizes = length-set d.lines d.count line ∙ z;
         curve_sizes = h.curve_sizes;
         few = omega arith;
-        numbers = ap (λ (ns : List ℕ). set ns d.count n) h.numbers ∙ ap (λ (j : ℕ). set (numbers_of (rows_in s d)) j n) (sym c) ∙ numbers-last (rows_in s d) row (omega arith) ∙ ap numbers_of (sym grown-rows);
+        numbers = map-set (λ (l : DraftLine). l.number) d.lines d.count line ∙ ap (λ (ns : List ℕ). set ns d.count n) h.numbers ∙ ap (λ (j : ℕ). set (numbers_of (rows_in s d)) j n) (sym c) ∙ numbers-last (rows_in s d) row (omega arith) ∙ ap numbers_of (sym grown-rows);
         there = h.there ∙ ap curves_there (sym grown-curves);
         room = let q = ap (λ (x : List Row). lengths (map (λ (r : Row). r.tokens) x)) grown-rows in let v = ap lengths grown-curves in omega arith;
         within = fits;
         ordered = λ j l. at_place j l (ℕ_discrete j d.count);
-        curves_ordered = λ j l. let o = h.curves_ordered j l in (o.0, omega arith);
+        curves_ordered = λ j l. curve-later d.at end (get_or d.curves j None) (omega arith) (h.curves_ordered j l);
       }
     where
-      at_place : (j : ℕ) → j < d.count + 1 → Dec (j ≡ d.count) → (get_or draft.starts j 0 ≤ get_or draft.ends j 0) × (get_or draft.ends j 0 ≤ draft.at)
-      at_place j l (yes e) =
-          let z = h.sizes in
-          rw (e, get_or-set_same d.starts d.count d.at 0 (omega arith), get_or-set_same d.ends d.count end 0 (omega arith)) (omega arith, omega arith)
+      at_place : (j : ℕ) → j < d.count + 1 → Dec (j ≡ d.count) → Before draft.at (get_or draft.lines j no_draft_line).tokens
+      at_place j l (yes e) = let z = h.sizes in rw (e, get_or-set_same d.lines d.count line no_draft_line (omega arith)) (omega arith, omega arith)
       at_place j l (no m) =
           let o = h.ordered j (omega (arith, m)) in
-          rw (get_or-set_other d.starts d.count j d.at 0 m, get_or-set_other d.ends d.count j end 0 m) (o.0, omega arith)
+          rw (get_or-set_other d.lines d.count j line no_draft_line m) (o.0, omega arith)
 
 -- ---- one curve more
 
@@ -259,6 +259,9 @@ module _ (s : List ℕ) (d : Draft) (h : Held s d) (n end : ℕ) (low : 1 ≤ n)
   abbrev curved : Draft
   curved = grown_by_curve d n end
 
+  abbrev here : Option Span
+  here = Some (record { start = d.at; end = end })
+
   same_rows : rows_in s curved ≡ rows_in s d
   same_rows = rows_same s s curved d d.count 0 (λ i l. refl)
 
@@ -274,10 +277,10 @@ module _ (s : List ℕ) (d : Draft) (h : Held s d) (n end : ℕ) (low : 1 ≤ n)
           let z = h.curve_sizes in
           let m = curves-length s d max_curves 0 in
           let f : 0 + i ≡ n - 1 = omega arith in
-          curve-at s curved max_curves 0 i l ∙ rw (f, e, get_or-set_same d.from (n - 1) d.at 0 (omega arith), get_or-set_same d.to (n - 1) end 0 (omega arith)) (sym (get_or-set_same (curves_at s d max_curves 0) (n - 1) (tokens_to s d end) [] (omega arith)))
+          curve-at s curved max_curves 0 i l ∙ rw (f, e, get_or-set_same d.curves (n - 1) here None (omega arith)) (sym (get_or-set_same (curves_at s d max_curves 0) (n - 1) (tokens_to s d end) [] (omega arith)))
       at_place i l (no m) =
           let f : 0 + i ≡ i = omega arith in
-          curve-at s curved max_curves 0 i l ∙ rw (f, get_or-set_other d.from (n - 1) i d.at 0 m, get_or-set_other d.to (n - 1) i end 0 m) (sym (get_or-set_other (curves_at s d max_curves 0) (n - 1) i (tokens_to s d end) [] m ∙ curve-at s d max_curves 0 i l ∙ ap (curve_in s d) f))
+          curve-at s curved max_curves 0 i l ∙ rw (f, get_or-set_other d.curves (n - 1) i here None m) (sym (get_or-set_other (curves_at s d max_curves 0) (n - 1) i (tokens_to s d end) [] m ∙ curve-at s d max_curves 0 i l ∙ ap (curve_in s d) f))
 
   pub defined-kept : kept_in s curved ≡ record { curves = set (kept_in s d).curves (n - 1) (tokens_to s d end); rows = rows_in s d }
   defined-kept = rw (same_rows, defined-curves)
@@ -292,11 +295,11 @@ module _ (s : List ℕ) (d : Draft) (h : Held s d) (n end : ℕ) (low : 1 ≤ n)
       record {
         size = h.size;
         sizes = h.sizes;
-        curve_sizes = (length-set d.curves (n - 1) true ∙ z.0, length-set d.from (n - 1) d.at ∙ z.1, length-set d.to (n - 1) end ∙ z.2);
+        curve_sizes = length-set d.curves (n - 1) here ∙ z;
         few = h.few;
         numbers = h.numbers ∙ ap numbers_of (sym same_rows);
         there =
-            ap (λ (x : List Bool). set x (n - 1) true) h.there
+            map-set (λ (x : Option Span). is_some x) d.curves (n - 1) here ∙ ap (λ (x : List Bool). set x (n - 1) true) h.there
             ∙ ap (set (curves_there (curves_at s d max_curves 0)) (n - 1)) (sym (lt-ltb 0 (length (tokens_to s d end)) (omega arith)))
             ∙ sym (there-set (curves_at s d max_curves 0) (n - 1) (tokens_to s d end)) ∙ ap curves_there (sym defined-curves);
         room = let q = ap (λ (x : List Row). lengths (map (λ (r : Row). r.tokens) x)) same_rows in let v = ap lengths defined-curves in omega arith;
@@ -305,10 +308,6 @@ module _ (s : List ℕ) (d : Draft) (h : Held s d) (n end : ℕ) (low : 1 ≤ n)
         curves_ordered = λ j l. at_place j l (ℕ_discrete j (n - 1));
       }
     where
-      at_place : (j : ℕ) → j < max_curves → Dec (j ≡ n - 1) → (get_or curved.from j 0 ≤ get_or curved.to j 0) × (get_or curved.to j 0 ≤ curved.at)
-      at_place j l (yes e) =
-          let z = h.curve_sizes in
-          rw (e, get_or-set_same d.from (n - 1) d.at 0 (omega arith), get_or-set_same d.to (n - 1) end 0 (omega arith)) (omega arith, omega arith)
-      at_place j l (no m) =
-          let o = h.curves_ordered j l in
-          rw (get_or-set_other d.from (n - 1) j d.at 0 m, get_or-set_other d.to (n - 1) j end 0 m) (o.0, omega arith)
+      at_place : (j : ℕ) → j < max_curves → Dec (j ≡ n - 1) → CurveBefore curved.at (get_or curved.curves j None)
+      at_place j l (yes e) = let z = h.curve_sizes in rw (e, get_or-set_same d.curves (n - 1) here None (omega arith)) (begin, omega arith)
+      at_place j l (no m) = rw (get_or-set_other d.curves (n - 1) j here None m) (curve-later d.at end (get_or d.curves j None) (omega arith) (h.curves_ordered j l))

@@ -11,7 +11,9 @@ use Rattle.tokens.specs.Token.{set_size, max_lines, text_size}
 use Rattle.engine.specs.Set.{empty_set}
 use Rattle.text.specs.TokensLaws.{tokens-real}
 use Rattle.text.specs.Lines.{Numbered, token_lines}
+use Rattle.std.specs.Prelude.{Ok, Err}
 use Rattle.reader.specs.declared.draft.Draft.{Draft}
+use Rattle.reader.specs.declared.draft.Refused.{Refused}
 use Rattle.reader.specs.declared.load_text.Loaded.{Loaded}
 use Rattle.reader.specs.Row.{Row, Kept, nothing, by_number, with_rows, set_of}
 use Rattle.reader.specs.Load.{Outcome, taken, refused, row_of, rows_from, first_not, first_unknown, kept_table, named, outcome, answered, load_answer, load_set}
@@ -60,23 +62,22 @@ module _ (t : List ℕ) where
       unfolding outcome
       by_names = not-Chosen _ _ _ (le-ltb text_size (length t) h) ∙ not-Chosen _ _ _ (le-ltb max_lines (length (token_lines t)) few)
 
-      -- the draft d says what becomes of its lines
-      module _ (s : List ℕ) (d : Draft) (y : Says (rows_from nothing (token_lines t)) s d) where
-        pub text-faulty : (d.code ≡ 0 → ⊥) → Loads (answered d.code d.line) empty_set
-        unfolding named
-        text-faulty f = go (rows_from nothing (token_lines t)) refl y
-          where
-            go : (o : Outcome) → rows_from nothing (token_lines t) ≡ o → Says o s d → Loads (answered d.code d.line) empty_set
-            go (taken k) e w = absurd (f w.0)
-            go (refused c k) e w = rw (w.0, w.1) (loads-refused c k (by_names ∙ ap named e))
+      -- a line refuses it
+      pub text-faulty : (s : List ℕ) (r : Refused) → Says (rows_from nothing (token_lines t)) s (Err r) → Loads (answered r.code r.line) empty_set
+      unfolding named
+      text-faulty s r y = go (rows_from nothing (token_lines t)) refl y
+        where
+          go : (o : Outcome) → rows_from nothing (token_lines t) ≡ o → Says o s (Err r) → Loads (answered r.code r.line) empty_set
+          go (taken k) e w = absurd w
+          go (refused c k) e w = rw (w.0, w.1) (loads-refused c k (by_names ∙ ap named e))
 
-        -- they are taken
-        pub text-kept : d.code ≡ 0 → (rows_from nothing (token_lines t) ≡ taken (kept_in s d)) × Held s d × Apart (rows_in s d)
-        text-kept z = go (rows_from nothing (token_lines t)) refl y
-          where
-            go : (o : Outcome) → rows_from nothing (token_lines t) ≡ o → Says o s d → (rows_from nothing (token_lines t) ≡ taken (kept_in s d)) × Held s d × Apart (rows_in s d)
-            go (taken k) e w = let q = e ∙ ap taken (sym w.1) in (q, w.2, (taken-apart (token_lines t) (kept_in s d) few q).0)
-            go (refused c k) e w = let p = w.2 in let q = w.0 in absurd (omega arith)
+      -- its lines are taken
+      pub text-kept : (s : List ℕ) (d : Draft) → Says (rows_from nothing (token_lines t)) s (Ok d) → (rows_from nothing (token_lines t) ≡ taken (kept_in s d)) × Held s d × Apart (rows_in s d)
+      text-kept s d y = go (rows_from nothing (token_lines t)) refl y
+        where
+          go : (o : Outcome) → rows_from nothing (token_lines t) ≡ o → Says o s (Ok d) → (rows_from nothing (token_lines t) ≡ taken (kept_in s d)) × Held s d × Apart (rows_in s d)
+          go (taken k) e w = let q = e ∙ ap taken (sym w.0) in (q, w.1, (taken-apart (token_lines t) (kept_in s d) few q).0)
+          go (refused c k) e w = absurd w
 
       -- k is taken; u is where the first of its lines stands with an unknown name
       module _ (k : Kept) (e : rows_from nothing (token_lines t) ≡ taken k) (u : ℕ) (looked : u ≡ first_not (names_alone (kept_table k)) k.rows) where

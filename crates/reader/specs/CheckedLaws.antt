@@ -1,5 +1,5 @@
 -- WHAT THE CHECK TELLS OF A LINE ALONE is what its tree has: the fault, the number, and whether the names are known; of a line FCTDEF the fault and the curve's number. Nothing is assumed.
-use Rattle.std.specs.Prelude.{◌≡◌, Bool, true, List, [], ◌∷◌, ℕ, ◌≤◌, leb, length}
+use Rattle.std.specs.Prelude.{Ok, Err, ◌+◌, ◌≡◌, Bool, true, List, [], ◌∷◌, ℕ, ◌≤◌, leb, length}
 use Rattle.std.proofs.Math.Path.{refl, sym}
 use Rattle.std.proofs.Common.{ap, ◌∙◌, arith, leb-true}
 use Rattle.std.proofs.Math.Bool.{false}
@@ -9,15 +9,18 @@ use Rattle.values.specs.Choice.{both, decide, choice, chosen, refused}
 use Rattle.values.specs.PutLaws.{put-length}
 use Rattle.tokens.specs.Token.{set_size, max_curves, between, AllReal}
 use Rattle.tokens.specs.SingleFault.{opens_too_many, unless, id_fault, curve_fault}
-use Rattle.checking.specs.Fault.{line_at}
+use Rattle.checking.specs.declared.line.Line.{Line as Told}
+use Rattle.checking.specs.Fault.{fault_of_line, line_at}
 use Rattle.checking.specs.declared.definition.Definition.{Definition as Defined}
-use Rattle.checking.specs.CurveDefinition.{definition_at}
-use Rattle.grammar.specs.Tree.{Line, line, tree_number, Definition}
-use Rattle.grammar.specs.TreeFault.{parts_fault, line_fault, numbers_fault, definition_fault}
+use Rattle.checking.specs.CurveDefinition.{fault_of_definition, definition_at}
+use Rattle.grammar.specs.Tree.{Line, line, tree_number, Definition, definition_front}
+use Rattle.grammar.specs.TreeFault.{curve_in, parts_fault, line_fault, numbers_fault, definition_fault}
 use Rattle.grammar.specs.TreeFaultLaws.{line-proper, parts-fine, definition-proper, lower-first}
 use Rattle.grammar.specs.DefinitionByTree.{curve-by-tree, defined-4, defined-5, defined-by-tree}
 use Rattle.grammar.specs.TreeOf.{tree_of, definition_of}
 use Rattle.grammar.specs.TreeOfLaws.{tree-of-tokens, no-tree, definition-of-tokens, no-definition}
+use Rattle.grammar.specs.AgreementLine.{told-parts}
+use Rattle.grammar.specs.AgreementDefinition.{told-definition}
 use Rattle.grammar.specs.ClosedTokens.{line-fits}
 use Rattle.grammar.specs.StandsLaws.{line-standing}
 use Rattle.grammar.specs.LineByTree.{fault-4, fault-5, fault-by-tree, number-by-tree}
@@ -61,7 +64,7 @@ module _ (ts : List ℕ) (real : AllReal ts) (short : length ts ≤ set_size) wh
   size = let m = put-length ts empty_set 0 in let e = empty-length in omega arith
 
   -- the fault
-  pub check-fault : (line_at (alone ts) 0).fault ≡ fault_of ts
+  pub check-fault : fault_of_line (line_at (alone ts) 0) ≡ fault_of ts
   unfolding fault_of
   check-fault =
       let h = alone-stands ts short in
@@ -69,20 +72,24 @@ module _ (ts : List ℕ) (real : AllReal ts) (short : length ts ≤ set_size) wh
       (λ t. (fault-4 (alone ts) ts 0 _ size real h).1 t ∙ sym (chosen _ _ _ t))
       (λ o. go o (tree_of ts) refl ∙ sym (refused _ _ _ o))
     where
-      go : opens_too_many ts 0 ≡ false → (t : Option Line) → tree_of ts ≡ t → (line_at (alone ts) 0).fault ≡ tree_fault (tree_of ts)
+      go : opens_too_many ts 0 ≡ false → (t : Option Line) → tree_of ts ≡ t → fault_of_line (line_at (alone ts) 0) ≡ tree_fault (tree_of ts)
       go o none f = rw f ((fault-5 (alone ts) ts 0 _ size real (alone-stands ts short)).1 (o, (no-tree ts).0 f))
       go o (some l) f = rw f ((fault-by-tree (alone ts) ts 0 _ size real (alone-stands ts short) (line_fault l) (line-proper l)).1 (o, (l, (tree-of-tokens ts l).0 f, refl)))
 
+  -- a line that is refused has one
+  pub check-refused : (k : ℕ) → line_at (alone ts) 0 ≡ Err k → k ≡ 0 → ⊥
+  check-refused k e z = let (t, f) = told-parts (alone ts) 0 size (ap fault_of_line e ∙ z) in absurd (cc)
+
   -- of a line that names nothing all is known
-  pub check-nameless : (known : ℕ → ℕ → Bool) → (line_at (alone ts) 0).fault ≡ 0 → (line_at (alone ts) 0).names ≡ false → names_known (alone ts) known set_size 0 ≡ true
-  check-nameless known f h = no_names (alone ts) known 0 size f h
+  pub check-nameless : (known : ℕ → ℕ → Bool) (t : Told) → line_at (alone ts) 0 ≡ Ok t → t.names ≡ false → names_known (alone ts) known set_size 0 ≡ true
+  check-nameless known t f h = no_names (alone ts) known 0 size t f h
 
   -- the number and the names, of a line without a fault
   module _ (e : fault_of ts ≡ 0) where
-    pub check-number : (line_at (alone ts) 0).number ≡ number_in ts
-    check-number =
+    pub check-number : (t : Told) → line_at (alone ts) 0 ≡ Ok t → t.number ≡ number_in ts
+    check-number t f =
         let w = faultless ts e in
-        rw w.found (number-by-tree (alone ts) ts 0 _ size real (alone-stands ts short) w.tree (check-fault ∙ e) ((tree-of-tokens ts w.tree).0 w.found))
+        rw w.found (number-by-tree (alone ts) ts 0 _ size real (alone-stands ts short) w.tree t f ((tree-of-tokens ts w.tree).0 w.found))
 
     pub check-names : (known : ℕ → ℕ → Bool) → names_known (alone ts) known set_size 0 ≡ are_known known ts
     check-names known =
@@ -123,7 +130,7 @@ curve-number ts e = let w = faultless-curve ts e in rw w.found (definition-numbe
 
 module _ (ts : List ℕ) (real : AllReal ts) (short : length ts ≤ set_size) where
   -- the fault
-  pub check-curve-fault : (definition_at (alone ts) 0).fault ≡ curve_fault_of ts
+  pub check-curve-fault : fault_of_definition (definition_at (alone ts) 0) ≡ curve_fault_of ts
   unfolding curve_fault_of
   check-curve-fault =
       let h = alone-stands ts short in
@@ -131,15 +138,21 @@ module _ (ts : List ℕ) (real : AllReal ts) (short : length ts ≤ set_size) wh
       (λ t. (defined-4 (alone ts) ts 0 _ real h).1 t ∙ sym (chosen _ _ _ t))
       (λ o. go o (definition_of ts) refl ∙ sym (refused _ _ _ o))
     where
-      go : opens_too_many ts 0 ≡ false → (t : Option Definition) → definition_of ts ≡ t → (definition_at (alone ts) 0).fault ≡ defined_fault (definition_of ts)
+      go : opens_too_many ts 0 ≡ false → (t : Option Definition) → definition_of ts ≡ t → fault_of_definition (definition_at (alone ts) 0) ≡ defined_fault (definition_of ts)
       go o none f = rw f ((defined-5 (alone ts) ts 0 _ real (alone-stands ts short)).1 (o, (no-definition ts).0 f))
       go o (some d) f = rw f ((defined-by-tree (alone ts) ts 0 _ real (alone-stands ts short) (definition_fault d) (definition-proper d)).1 (o, (d, (definition-of-tokens ts d).0 f, refl)))
 
+  -- a line FCTDEF that is refused has one
+  pub check-curve-refused : (k : ℕ) → definition_at (alone ts) 0 ≡ Err k → k ≡ 0 → ⊥
+  check-curve-refused k e z = let (d, f) = told-definition (alone ts) 0 (ap fault_of_definition e ∙ z) in absurd (cc)
+
   -- the number of a curve without a fault
-  pub check-curve-number : curve_fault_of ts ≡ 0 → (definition_at (alone ts) 0).number ≡ curve_number_in ts
-  check-curve-number e =
+  pub check-curve-number : curve_fault_of ts ≡ 0 → (d : Defined) → definition_at (alone ts) 0 ≡ Ok d → d.number ≡ curve_number_in ts
+  check-curve-number e d f =
       let w = faultless-curve ts e in
-      rw w.found (ap (λ (d : Defined). d.number) (curve-by-tree (alone ts) ts 0 _ real (alone-stands ts short) w.tree w.shallow ((definition-of-tokens ts w.tree).0 w.found) w.clean))
+      let t = curve-by-tree (alone ts) ts 0 _ real (alone-stands ts short) w.tree w.shallow ((definition-of-tokens ts w.tree).0 w.found) w.clean in
+      let same : d ≡ record { number = w.tree.number; curve = curve_in w.tree; end = 0 + length (definition_front w.tree) } = cc in
+      rw w.found (ap (λ (x : Defined). x.number) same)
 
 -- ---- some lines
 

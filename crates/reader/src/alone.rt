@@ -16,11 +16,7 @@ fn lay(row: &mut [u32; SIZE], tokens: &[u32])
     requires { length tokens.now ≤ set_size }
     ensures { row.new ≡ put_at row.old 0 tokens.now }
 {
-    let mut i: usize = 0;
-    while i < tokens.len() {
-        row[i] = tokens[i];
-        i += 1;
-    }
+    row[..tokens.len()].copy_from_slice(tokens);
 }
 
 // The first n places are 0.
@@ -28,15 +24,13 @@ fn wipe(row: &mut [u32; SIZE], n: usize)
     requires { n ≤ set_size }
     ensures { row.new ≡ put_at row.old 0 (replicate n 0) }
 {
-    let mut i: usize = 0;
-    while i < n {
-        row[i] = 0;
-        i += 1;
+    for t in &mut row[..n] {
+        *t = 0;
     }
 }
 
 // What the check tells of a line.
-pub fn line_alone(row: &mut [u32; SIZE], tokens: &[u32]) -> Line
+pub fn line_alone(row: &mut [u32; SIZE], tokens: &[u32]) -> Result<Line, u8>
     requires { (row.old ≡ empty_set) × (length tokens.now ≤ set_size) }
     ensures { (result ≡ line_at (alone tokens.now) 0) × (row.new ≡ empty_set) }
 {
@@ -47,7 +41,7 @@ pub fn line_alone(row: &mut [u32; SIZE], tokens: &[u32]) -> Line
 }
 
 // What the check tells of a line FCTDEF.
-pub fn curve_alone(row: &mut [u32; SIZE], tokens: &[u32]) -> Definition
+pub fn curve_alone(row: &mut [u32; SIZE], tokens: &[u32]) -> Result<Definition, u8>
     requires { (row.old ≡ empty_set) × (length tokens.now ≤ set_size) }
     ensures { (result ≡ definition_at (alone tokens.now) 0) × (row.new ≡ empty_set) }
 {

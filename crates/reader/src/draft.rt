@@ -1,9 +1,11 @@
 // What is kept of a text while it is read: the tokens of its lines one behind the other in one array, and beside it a draft; and a line added to it.
-ghost use Rattle.std.specs.Prelude.{◌≡◌, true, false, ◌&&◌, [], ◌∷◌, ◌+◌, ◌<◌, ◌≤◌, eqb, length, get_or};
+ghost use Rattle.std.specs.Prelude.{map, Option, is_some, ◌≡◌, true, false, ◌&&◌, [], ◌∷◌, ◌+◌, ◌<◌, ◌≤◌, eqb, length, get_or};
 ghost use Rattle.tokens.specs.Token.{END, FCTDEF, set_size, max_lines, max_curves};
 ghost use Rattle.engine.specs.Set.{asked_table, names_known, empty_set};
+ghost use Rattle.reader.specs.declared.draft.DraftLine.{DraftLine};
+ghost use Rattle.reader.specs.declared.draft.Span.{Span};
 ghost use Rattle.reader.specs.Load.{rows_from};
-ghost use Rattle.reader.specs.Draft.{alone, no_draft, refused_at, grown_by, grown_by_curve, kept_in, curve_added, line_added, Held, Follows, Says};
+ghost use Rattle.reader.specs.Draft.{alone, no_draft, grown_by, grown_by_curve, kept_in, curve_added, line_added, at_line, Held, Follows, Says};
 
 use crate::alone::{curve_alone, line_alone, names_alone};
 use crate::line_tokens::write_tokens;
@@ -11,50 +13,74 @@ use engine::{is_defined, rank_in};
 use tokens::token::{CURVES, FCTDEF, LINES, SIZE};
 use values::codes::{NO_TOKEN, USED_ABOVE, WRONG_CURVE};
 
-// The code and the line that refuse the text, 0 while there is none; how many lines are kept, and the place behind their tokens; of each line its number, where it stands in the text, and
-// where its tokens begin and end; and of each curve, by number, whether it is there and where its tokens begin and end.
+// What refuses a text: the code, and the line of the text.
 #[derive(Clone, Copy)]
-pub struct Draft {
+pub struct Refused {
     pub code: u8,
     pub line: u32,
+}
+
+// Where the tokens of a line stand: from `start` on, before `end`.
+#[derive(Clone, Copy)]
+pub struct Span {
+    pub start: usize,
+    pub end: usize,
+}
+
+// A numbered line that is kept: its number, where it stands in the text, and where its tokens stand.
+#[derive(Clone, Copy)]
+pub struct DraftLine {
+    pub number: u8,
+    pub place: u32,
+    pub tokens: Span,
+}
+
+// How many lines are kept, and the place behind their tokens; each line; and of each curve, by number, where the tokens of its line stand, if it is there.
+#[derive(Clone, Copy)]
+pub struct Draft {
     pub count: usize,
     pub at: usize,
-    pub numbers: [u8; LINES],
-    pub places: [u32; LINES],
-    pub starts: [usize; LINES],
-    pub ends: [usize; LINES],
-    pub curves: [bool; CURVES],
-    pub from: [usize; CURVES],
-    pub to: [usize; CURVES],
+    pub lines: [DraftLine; LINES],
+    pub curves: [Option<Span>; CURVES],
 }
 
 // The draft without lines.
 pub fn no_draft() -> Draft
     ensures { result ≡ no_draft }
 {
+    let none = DraftLine {
+        number: 0,
+        place: 0,
+        tokens: Span { start: 0, end: 0 },
+    };
     Draft {
-        code: 0,
-        line: 0,
         count: 0,
         at: 0,
-        numbers: [0u8; LINES],
-        places: [0u32; LINES],
-        starts: [0usize; LINES],
-        ends: [0usize; LINES],
-        curves: [false; CURVES],
-        from: [0usize; CURVES],
-        to: [0usize; CURVES],
+        lines: [none; LINES],
+        curves: [None; CURVES],
     }
 }
 
-// The text is refused.
-fn refused_at(d: Draft, code: u8, k: u32) -> Draft
-    ensures { result ≡ refused_at d code k }
+// The numbers of the lines: a look-up of a line by its number goes through them.
+pub fn numbers_in(lines: &[DraftLine; LINES]) -> [u8; LINES]
+    ensures { result ≡ map (λ (l : DraftLine). l.number) lines.now }
 {
-    let mut e = d;
-    e.code = code;
-    e.line = k;
-    e
+    let mut numbers = [0u8; LINES];
+    for k in 0..LINES {
+        numbers[k] = lines[k].number;
+    }
+    numbers
+}
+
+// Which curves are there.
+pub fn curves_there(curves: &[Option<Span>; CURVES]) -> [bool; CURVES]
+    ensures { result ≡ map (λ (x : Option Span). is_some x) curves.now }
+{
+    [
+        curves[0].is_some(),
+        curves[1].is_some(),
+        curves[2].is_some(),
+    ]
 }
 
 // The line k of the text, with the number n, stands behind the others and ends before the place `end`.
@@ -62,25 +88,22 @@ fn grown_by(d: Draft, k: u32, n: u8, end: usize) -> Draft
     requires { d.count < max_lines }
     ensures { result ≡ grown_by d k n end }
 {
-    let count = d.count;
-    let mut e = d;
-    let mut numbers = d.numbers;
-    numbers[count] = n;
-    let mut places = d.places;
-    places[count] = k;
-    let mut starts = d.starts;
-    starts[count] = d.at;
-    let mut ends = d.ends;
-    ends[count] = end;
-    e.code = 0;
-    e.line = 0;
-    e.count = count + 1;
-    e.at = end;
-    e.numbers = numbers;
-    e.places = places;
-    e.starts = starts;
-    e.ends = ends;
-    e
+    let curves = d.curves;
+    let mut lines = d.lines;
+    lines[d.count] = DraftLine {
+        number: n,
+        place: k,
+        tokens: Span {
+            start: d.at,
+            end: end,
+        },
+    };
+    Draft {
+        count: d.count + 1,
+        at: end,
+        lines: lines,
+        curves: curves,
+    }
 }
 
 // The line that defines curve n stands behind the others and ends before the place `end`.
@@ -88,53 +111,37 @@ fn grown_by_curve(d: Draft, n: u32, end: usize) -> Draft
     requires { (1 ≤ n) × (n ≤ max_curves) }
     ensures { result ≡ grown_by_curve d n end }
 {
-    let j = (n - 1) as usize;
-    let mut e = d;
+    let lines = d.lines;
     let mut curves = d.curves;
-    curves[j] = true;
-    let mut from = d.from;
-    from[j] = d.at;
-    let mut to = d.to;
-    to[j] = end;
-    e.code = 0;
-    e.line = 0;
-    e.at = end;
-    e.curves = curves;
-    e.from = from;
-    e.to = to;
-    e
+    curves[(n - 1) as usize] = Some(Span {
+        start: d.at,
+        end: end,
+    });
+    Draft {
+        count: d.count,
+        at: end,
+        lines: lines,
+        curves: curves,
+    }
 }
 
 // Whether a line defines a curve, where `count` numbered lines stand above it.
 fn defines(count: usize, tokens: &[u32]) -> bool
     ensures { result ≡ (eqb count 0 && eqb (get_or tokens.now 0 END) FCTDEF) }
 {
-    if count != 0 {
-        return false;
-    }
-    if tokens.len() == 0 {
-        return false;
-    }
-    tokens[0] == FCTDEF
+    count == 0 && tokens.first() == Some(&FCTDEF)
 }
 
-// The line k of the text, whose tokens are the last in s, up to the place `end`, defines a curve or refuses the text.
-fn add_curve(s: &[u32; SIZE], row: &mut [u32; SIZE], d: Draft, k: u32, end: usize) -> Draft
+// The next line of the text, whose tokens are the last in s, up to the place `end`, defines a curve or refuses the text.
+fn add_curve(s: &[u32; SIZE], row: &mut [u32; SIZE], d: Draft, end: usize) -> Result<Draft, u8>
     requires { Held s.now d × Follows s.now d end × (row.old ≡ empty_set) }
-    ensures { (result ≡ curve_added s.now d k end) × (row.new ≡ empty_set) }
+    ensures { (result ≡ curve_added s.now d end) × (row.new ≡ empty_set) }
 {
-    let at = d.at;
-    let all = &s[..];
-    let f = curve_alone(row, &all[at..end]);
-    let fault = f.fault;
-    if fault != 0 {
-        return refused_at(d, fault, k);
+    let f = curve_alone(row, &s[d.at..end])?;
+    if is_defined(&curves_there(&d.curves), f.number) {
+        return Err(WRONG_CURVE);
     }
-    let curves = d.curves;
-    if is_defined(&curves, f.number) {
-        return refused_at(d, WRONG_CURVE, k);
-    }
-    grown_by_curve(d, f.number, end)
+    Ok(grown_by_curve(d, f.number, end))
 }
 
 // Whether each curve that a line names is there, where it is noted whether the line names anything: a line that names nothing is not looked through.
@@ -155,44 +162,47 @@ fn curves_known(
 }
 
 // The line k of the text, whose tokens are the last in s, up to the place `end`, is added as a numbered line or refuses the text.
-fn add_numbered(s: &[u32; SIZE], row: &mut [u32; SIZE], d: Draft, k: u32, end: usize) -> Draft
+fn add_numbered(
+    s: &[u32; SIZE],
+    row: &mut [u32; SIZE],
+    d: Draft,
+    k: u32,
+    end: usize,
+) -> Result<Draft, u8>
     requires { Held s.now d × Follows s.now d end × (row.old ≡ empty_set) × (d.count < max_lines) }
     ensures { (result ≡ line_added s.now d k end) × (row.new ≡ empty_set) }
 {
-    let at = d.at;
-    let all = &s[..];
-    let l = line_alone(row, &all[at..end]);
-    let fault = l.fault;
-    if fault != 0 {
-        return refused_at(d, fault, k);
+    let tokens = &s[d.at..end];
+    let l = line_alone(row, tokens)?;
+    let numbers = numbers_in(&d.lines);
+    if rank_in(&numbers, l.number as u32) < LINES {
+        return Err(USED_ABOVE);
     }
-    let number = l.number;
-    let numbers = d.numbers;
-    if rank_in(&numbers, number as u32) < LINES {
-        return refused_at(d, USED_ABOVE, k);
+    let curves = curves_there(&d.curves);
+    if !curves_known(row, &numbers, &curves, l.names, tokens) {
+        return Err(WRONG_CURVE);
     }
-    let curves = d.curves;
-    if !curves_known(row, &numbers, &curves, l.names, &all[at..end]) {
-        return refused_at(d, WRONG_CURVE, k);
-    }
-    grown_by(d, k, number, end)
+    Ok(grown_by(d, k, l.number, end))
 }
 
 // The line k of the text is added, or refuses the text.
-pub fn add_line(body: &[u8], s: &mut [u32; SIZE], row: &mut [u32; SIZE], d: Draft, k: u32) -> Draft
+pub fn add_line(
+    body: &[u8],
+    s: &mut [u32; SIZE],
+    row: &mut [u32; SIZE],
+    d: Draft,
+    k: u32,
+) -> Result<Draft, u8>
     requires { Held s.old d × (row.old ≡ empty_set) × (d.count < max_lines) × (d.at + length body.now ≤ set_size) }
-    ensures { Says (rows_from (kept_in s.old d) (record { place = k; body = body.now } ∷ [])) s.new result × (row.new ≡ empty_set) }
+    ensures { Says (rows_from (kept_in s.old d) (record { place = k; body = body.now } ∷ [])) s.new (at_line k result) × (row.new ≡ empty_set) }
 {
     let at = d.at;
-    let w = write_tokens(body, s, at);
-    let good = w.good;
-    if !good {
-        return refused_at(d, NO_TOKEN, k);
-    }
-    let end = at + w.count;
-    let all = &s[..];
-    if defines(d.count, &all[at..end]) {
-        return add_curve(s, row, d, k, end);
+    let Some(count) = write_tokens(body, s, at) else {
+        return Err(NO_TOKEN);
+    };
+    let end = at + count;
+    if defines(d.count, &s[at..end]) {
+        return add_curve(s, row, d, end);
     }
     add_numbered(s, row, d, k, end)
 }

@@ -9,39 +9,24 @@ use text::bytes::SPACE;
 use text::first_token;
 use tokens::token::SIZE;
 
-// How many tokens were written, and whether every byte of the line made one.
-#[derive(Clone, Copy)]
-pub struct Written {
-    pub good: bool,
-    pub count: usize,
-}
-
-// The tokens of a body are written from a place on.
-pub fn write_tokens(body: &[u8], s: &mut [u32; SIZE], at: usize) -> Written
+// The tokens of a body are written from a place on; how many, if every byte of the line made one.
+pub fn write_tokens(body: &[u8], s: &mut [u32; SIZE], at: usize) -> Option<usize>
     requires { at + length body.now ≤ set_size }
-    ensures { (result ≡ written (tokens_of body.now)) × (s.new ≡ put_at s.old at (tokens_of body.now).list) }
+    ensures value { result ≡ written (tokens_of body.now) }
+    ensures s_after { s.new ≡ put_at s.old at (tokens_of body.now).list }
 {
     let mut n: usize = 0;
+    // By the size of the token at hand, or a space.
     let mut i: usize = 0;
     while i < body.len() {
         if body[i] == SPACE {
             i += 1;
             continue;
         }
-        let f = first_token(body, i);
-        let size = f.size;
-        if size == 0 {
-            return Written {
-                good: false,
-                count: n,
-            };
-        }
-        s[at + n] = f.token;
+        let first = first_token(body, i)?;
+        s[at + n] = first.token;
         n += 1;
-        i += size;
+        i += first.size;
     }
-    Written {
-        good: true,
-        count: n,
-    }
+    Some(n)
 }

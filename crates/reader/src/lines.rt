@@ -5,41 +5,54 @@ ghost use Rattle.tokens.specs.Token.{set_size, max_lines, text_size};
 ghost use Rattle.engine.specs.Set.{empty_set};
 ghost use Rattle.reader.specs.Row.{nothing};
 ghost use Rattle.reader.specs.Load.{rows_from};
-ghost use Rattle.reader.specs.Draft.{kept_in, Held, Says};
+ghost use Rattle.reader.specs.Draft.{kept_in, at_line, Held, Says};
 
-use crate::draft::{Draft, add_line, no_draft};
+use crate::draft::{Draft, Refused, add_line, no_draft};
 use text::{is_blank, line_bounds};
 use tokens::token::SIZE;
 
 // The line k of the text is added, unless it is only spaces and comment.
-fn take_line(body: &[u8], s: &mut [u32; SIZE], row: &mut [u32; SIZE], d: Draft, k: u32) -> Draft
-    requires { Held s.old d × (row.old ≡ empty_set) × (d.code ≡ 0) × (d.count + length (numbered k (body.now ∷ [])) ≤ max_lines) × (d.at + length body.now ≤ set_size) }
-    ensures { Says (rows_from (kept_in s.old d) (numbered k (body.now ∷ []))) s.new result × (row.new ≡ empty_set) }
+fn take_line(
+    body: &[u8],
+    s: &mut [u32; SIZE],
+    row: &mut [u32; SIZE],
+    d: Draft,
+    k: u32,
+) -> Result<Draft, u8>
+    requires { Held s.old d × (row.old ≡ empty_set) × (d.count + length (numbered k (body.now ∷ [])) ≤ max_lines) × (d.at + length body.now ≤ set_size) }
+    ensures { Says (rows_from (kept_in s.old d) (numbered k (body.now ∷ []))) s.new (at_line k result) × (row.new ≡ empty_set) }
 {
     if is_blank(body) {
-        return d;
+        return Ok(d);
     }
     add_line(body, s, row, d, k)
 }
 
+// What refuses the text does so at its line k.
+fn at_line(k: u32, added: Result<Draft, u8>) -> Result<Draft, Refused>
+    ensures { result ≡ at_line k added }
+{
+    added.map_err(|code| Refused {
+        code: code,
+        line: k,
+    })
+}
+
 // The lines of a text, up to the first that refuses it.
-pub fn read_lines(text: &[u8], s: &mut [u32; SIZE], row: &mut [u32; SIZE]) -> Draft
+pub fn read_lines(text: &[u8], s: &mut [u32; SIZE], row: &mut [u32; SIZE]) -> Result<Draft, Refused>
     requires { (length text.now ≤ text_size) × (length (token_lines text.now) ≤ max_lines) × (s.old ≡ empty_set) × (row.old ≡ empty_set) }
     ensures { Says (rows_from nothing (token_lines text.now)) s.new result × (row.new ≡ empty_set) }
 {
     let mut d = no_draft();
     let mut k: u32 = 1;
+    // By the bounds of the line at hand: a `split` would look for its end a second time.
     let mut i: usize = 0;
     while i <= text.len() {
         let b = line_bounds(text, i);
         let end = b.body;
-        d = take_line(&text[i..end], s, row, d, k);
-        let code = d.code;
-        if code != 0 {
-            return d;
-        }
+        d = at_line(k, take_line(&text[i..end], s, row, d, k))?;
         k += 1;
         i = b.end + 1;
     }
-    d
+    Ok(d)
 }

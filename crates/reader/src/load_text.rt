@@ -1,8 +1,11 @@
 // Loading a text.
 ghost use Rattle.std.specs.Prelude.{◌≡◌};
+ghost use Rattle.engine.specs.Set.{empty_set};
 ghost use Rattle.reader.specs.Load.{answered, load_answer, load_set};
+ghost use Rattle.reader.specs.Draft.{answer_of};
 
 use crate::by_number::{first_unknown, put_rows};
+use crate::draft::Refused;
 use crate::line_count::count_lines;
 use crate::lines::read_lines;
 use engine::{State, empty_set, power_on};
@@ -33,22 +36,38 @@ pub fn load(text: &[u8], set: &mut [u32; SIZE]) -> Loaded
     ensures set_after { set.new ≡ load_set text.now }
 {
     *set = empty_set();
+    match take_text(text, set) {
+        Ok(()) => answered(0, 0),
+        Err(r) => answered(r.code, r.line),
+    }
+}
+
+// The text is taken into the set, which is empty before, or refused.
+fn take_text(text: &[u8], set: &mut [u32; SIZE]) -> Result<(), Refused>
+    requires { set.old ≡ empty_set }
+    ensures { (answer_of result ≡ load_answer text.now) × (set.new ≡ load_set text.now) }
+{
     if TEXT_SIZE < text.len() {
-        return answered(TOO_LONG, 0);
+        return Err(Refused {
+            code: TOO_LONG,
+            line: 0,
+        });
     }
     if LINES < count_lines(text) {
-        return answered(TOO_MANY_LINES, 0);
+        return Err(Refused {
+            code: TOO_MANY_LINES,
+            line: 0,
+        });
     }
     let mut s = empty_set();
-    let d = read_lines(text, &mut s, set);
-    let code = d.code;
-    if code != 0 {
-        return answered(code, d.line);
-    }
+    let d = read_lines(text, &mut s, set)?;
     let k = first_unknown(&s, set, d);
     if k != 0 {
-        return answered(NOT_IN_SET, k);
+        return Err(Refused {
+            code: NOT_IN_SET,
+            line: k,
+        });
     }
     put_rows(&s, d, set);
-    answered(0, 0)
+    Ok(())
 }

@@ -8,7 +8,7 @@ use Rattle.tokens.specs.Token.{set_size, max_curves}
 use Rattle.grammar.specs.Tree.{Definition, definition_front, DefinedAs}
 use Rattle.grammar.specs.Meaning.{Stands}
 use Rattle.grammar.specs.TreeOfLaws.{written-front}
-use Rattle.engine.specs.Set.{start_of, curve_start, without_mark, with_end, with_line, empty_set, sound_lines, curves_sound, named_lines, lines_read, lines_from, all_known, with_count, count_place, first_place}
+use Rattle.engine.specs.Set.{start_of, curve_start, without_mark, with_end, with_line, empty_set, sound_lines, lines_of, curves_sound, named_lines, lines_read, lines_from, all_known, with_count, count_place, first_place}
 use Rattle.reader.specs.Row.{Row, Kept, nothing, is_there, rising, by_number, Slotted, ranked, curve_slots, placed, set_of}
 use Rattle.reader.specs.Load.{curve_fault_of, taken, outcome, load_set}
 use Rattle.loading.specs.Unmarked.{unmarked_tree, unmarked_definition}
@@ -38,7 +38,7 @@ laid-rows s [] k size f p = refl
 laid-rows s (r ∷ rs) k size f p =
     let w = written r.tokens f.0.clean in
     let q = start_of s k + length (held_tokens r.tokens) in
-    let (a, b, c, x) = held r.tokens w s (start_of s k) q size p.0 in
+    let (a, x, c) = held r.tokens w s (start_of s k) q size p.0 in
     let e = row-front s (unmarked_tree w.tree) (start_of s k) q a ∙ sym (front-unmarked w.tree) ∙ ap (map without_mark) (written-front w.tree r.tokens w.tokens) in
     rw (e, laid-rows s rs (k + 1) size f.1 p.1)
 
@@ -61,11 +61,11 @@ held-curves s (ts ∷ cs) n h f =
     (λ t. let z = h.0.none t in rw (curve_rows, there_of, t, le-ltb 0 (curve_start s n) (omega arith), i))
 
 -- THE ROWS OF A SET THAT WAS LOADED: its lines,
-pub loaded_lines : (t : List ℕ) (q : Kept) → outcome t ≡ taken q → line_rows (load_set t) (sound_lines (load_set t)).count 0 ≡ map held_row (by_number q.rows)
+pub loaded_lines : (t : List ℕ) (q : Kept) → outcome t ≡ taken q → line_rows (load_set t) (lines_of (load_set t)).count 0 ≡ map held_row (by_number q.rows)
 loaded_lines t q h =
     let rs = by_number q.rows in
     let s = set_of q.curves rs in
-    let c : (sound_lines s).count ≡ length rs = let z = (taken-read t q h).count in omega arith in
+    let c : (lines_of s).count ≡ length rs = let z = (taken-read t q h).count in omega arith in
     let n = set-length q.curves rs in
     rw ((taken-answer t q h).2, c) (laid-rows s rs 0 (omega arith) (each-by t q h Fine (taken_fine t q h)) (taken-laid t q h))
 
@@ -157,7 +157,7 @@ same_set bs cs qs rs c e =
 
 -- ---- the empty set
 
-empty-count : (sound_lines empty_set).count ≡ 0
+empty-count : (lines_of empty_set).count ≡ 0
 unfolding sound_lines named_lines curves_sound lines_read empty_set all_known lines_from
 empty-count = refl
 

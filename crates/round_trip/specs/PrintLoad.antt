@@ -1,12 +1,12 @@
 -- LOADING A PRINT GIVES THE SAME SET, AND PRINTING THAT THE SAME BYTES (document 02, Req 01): of every sound set whose print has at most 4,096 bytes; of a set from text, the whole array. Theorems; nothing is assumed.
-use Rattle.std.specs.Prelude.{◌≡◌, refl, true, List, [], ◌∷◌, ◌++◌, map, ℕ, ◌≤◌, length}
+use Rattle.std.specs.Prelude.{◌≡◌, refl, true, List, [], ◌∷◌, ◌++◌, map, ℕ, ◌≤◌, length, is_some}
 use Rattle.std.proofs.Common.{sym, ◌∙◌, arith}
 use Rattle.std.proofs.Math.Path.{ap}
 use Rattle.std.proofs.lemmas.List.{map-append}
 use Rattle.tokens.specs.Token.{set_size, text_size, max_curves}
 use Rattle.grammar.specs.Tree.{Line, tree_number, Definition, definition_front}
 use Rattle.grammar.specs.ClosedTokens.{front}
-use Rattle.engine.specs.Set.{without_mark, sound_lines}
+use Rattle.engine.specs.Set.{without_mark, sound_lines, lines_of}
 use Rattle.reader.specs.Row.{Row, Kept, by_number, set_of}
 use Rattle.reader.specs.Load.{taken, outcome, load_answer, load_set}
 use Rattle.loading.specs.TextTrees.{curve_number, RisesBy}
@@ -33,7 +33,7 @@ held-twice : (rs : List Row) → map (map without_mark) (map held_row rs) ≡ ma
 held-twice [] = refl
 held-twice (r ∷ rs) = rw (unmarked-twice r.tokens, held-twice rs)
 
-module _ (s : List ℕ) (size : length s ≤ set_size) (sound : (sound_lines s).sound ≡ true) where
+module _ (s : List ℕ) (size : length s ≤ set_size) (sound : is_some (sound_lines s) ≡ true) where
   abbrev ds : List Definition
   ds = (sound-set-trees s size sound).0
 
@@ -94,7 +94,7 @@ module _ (s : List ℕ) (size : length s ≤ set_size) (sound : (sound_lines s).
     print-again = ap rows_text rows-again ∙ rows-unmarked (rows_of s)
 
     -- what the print gives is told by the rows: a set of curves and lines that are those of s is what its print loads
-    set_same : (cs : List (List ℕ)) (rs : List Row) → length cs ≡ max_curves → AreCurves s cs → line_rows s (sound_lines s).count 0 ≡ map held_row rs → load_set (print_text s) ≡ set_of cs rs
+    set_same : (cs : List (List ℕ)) (rs : List Row) → length cs ≡ max_curves → AreCurves s cs → line_rows s (lines_of s).count 0 ≡ map held_row rs → load_set (print_text s) ≡ set_of cs rs
     set_same cs rs n a e =
         (taken-answer (print_text s) again taken-again).2
         ∙ same_set again.curves cs (by_number again.rows) rs

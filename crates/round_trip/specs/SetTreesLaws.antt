@@ -1,24 +1,24 @@
 -- Laws of the lines of a sound set as trees, and of its curves: its rows are their tokens, they have no fault, their numbers rise, and they name only each other. Nothing is assumed.
-use Rattle.std.specs.Prelude.{◌≡◌, refl, true, false, List, [], ◌∷◌, ◌++◌, map, ltb, leb, length, get_or, drop}
+use Rattle.std.specs.Prelude.{◌≡◌, refl, true, false, List, [], ◌∷◌, ◌++◌, map, ltb, leb, length, get_or, is_some}
 use Rattle.std.proofs.Common.{sym, ap, subst, ◌∙◌, inl, inr, ltb-true, ltb-false, lt-ltb, leb-true, le-leb}
 use Prim.Native.Nat.{ℕ, zero, suc, ◌+◌, ◌-◌, ◌≤◌, ◌<◌}
 use Rattle.std.proofs.Math.Decide.{ℕ_discrete}
 use native.Mathlib.Omega.{arith}
 use Rattle.std.proofs.lemmas.List.{length-map}
-use Rattle.values.specs.Codes.{too_deep}
-use Rattle.values.specs.Choice.{both, decide, chosen, and-true}
+use Rattle.values.specs.Choice.{both, decide, and-true}
 use Rattle.values.specs.Numbers.{clash}
 use Rattle.tokens.specs.Token.{set_size, max_lines, max_curves, is_lock}
 use Rattle.tokens.specs.SingleFault.{opens_too_many}
-use Rattle.checking.specs.declared.definition.Definition.{Definition as Told}
-use Rattle.checking.specs.CurveDefinition.{definition_at}
+use Rattle.checking.specs.Fault.{fault_of_line}
+use Rattle.checking.specs.CurveDefinition.{fault_of_definition}
 use Rattle.grammar.specs.Tree.{Line, tree_number, Definition, definition_front}
 use Rattle.grammar.specs.TreeFault.{line_fault, definition_fault}
 use Rattle.grammar.specs.TreeNames.{names_in, each_known}
 use Rattle.grammar.specs.ClosedTokens.{front, front-end}
 use Rattle.grammar.specs.StandsLaws.{opens-stands}
 use Rattle.grammar.specs.AgreementLine.{not-deep}
-use Rattle.engine.specs.Set.{start_of, rank_in, is_known, line_of, curve_start, is_defined, curves_from, curves_in, set_table, sound_lines}
+use Rattle.engine.specs.Set.{start_of, rank_in, is_known, curve_start, is_defined, curves_from, curves_in, set_table, sound_lines, lines_of, no_line}
+use Rattle.grammar.specs.AgreementDefinition.{not-deep-definition}
 use Rattle.engine.specs.SetLinesLaws.{lines-lined}
 use Rattle.engine.specs.NamesByTreeLaws.{names-by-tree}
 use Rattle.soundness.specs.AnswerCodes.{OneOf}
@@ -90,14 +90,6 @@ defined-begins s n h =
 begins-defined : (s : List ℕ) (n : ℕ) → 1 ≤ n → n ≤ max_curves → 0 < curve_start s n → Defined s n
 begins-defined s n l m h = let e : 1 + (n - 1) ≡ n = omega arith in and-true (le-leb 1 n l) (at-curves s max_curves 1 (n - 1) (omega arith) (rw e h))
 
--- a curve without a fault opens few brackets
-curve-shallow : (s : List ℕ) (p : ℕ) → (definition_at s p).fault ≡ 0 → opens_too_many (drop p s) 0 ≡ false
-unfolding definition_at
-curve-shallow s p clean =
-    decide _ (opens_too_many (drop p s) 0)
-    (λ t. let z : (definition_at s p).fault ≡ too_deep = ap (λ (x : Told). x.fault) (chosen _ _ _ t) in absurd (omega arith))
-    (λ t. t)
-
 -- ---- its curves as definitions
 
 -- those of m curves from curve n on
@@ -151,11 +143,11 @@ module _ (s : List ℕ) (m n : ℕ) (ds : List Definition) (x : Definition) (t :
     has = λ j a b c. first-has j a b c (ℕ_discrete j n);
   }
 
-module _ (s : List ℕ) (sound : (sound_lines s).sound ≡ true) where
+module _ (s : List ℕ) (sound : is_some (sound_lines s) ≡ true) where
   good-definition : (n : ℕ) → Defined s n → (d : Definition) → DefinitionAt s n d → GoodDefinition d
   good-definition n there d h = record {
     faultless = definition-faultless s sound n there d h;
-    shallow = sym (opens-stands s (definition_front d) (curve_start s n) h.0 0 h.1) ∙ curve-shallow s (curve_start s n) (curve-defined s sound n there).0;
+    shallow = sym (opens-stands s (definition_front d) (curve_start s n) h.0 0 h.1) ∙ not-deep-definition s (curve_start s n) (let (_, e, _) = curve-defined s sound n there in ap fault_of_definition e);
   }
 
   curves-from : (m n : ℕ) → 1 ≤ n → n + m ≡ 1 + max_curves → (ds : List Definition) × CurvesFrom s m n ds
@@ -180,36 +172,36 @@ unfolding line_rows
 rows-from s [] k t = refl
 rows-from s (x ∷ xs) k t = rw (row-front s x (start_of s k) t.0.0 t.0.1, rows-from s xs (k + 1) t.1)
 
-module _ (s : List ℕ) (size : length s ≤ set_size) (sound : (sound_lines s).sound ≡ true) where
-  module _ (k : ℕ) (inside : k < (sound_lines s).count) (x : Line) (t : TreeAt s k x) where
+module _ (s : List ℕ) (size : length s ≤ set_size) (sound : is_some (sound_lines s) ≡ true) where
+  module _ (k : ℕ) (inside : k < (lines_of s).count) (x : Line) (t : TreeAt s k x) where
     tree-good : GoodTree x
     tree-good = record {
       faultless = tree-faultless s size sound k inside x t;
-      shallow = sym (opens-stands s (front x) (start_of s k) t.0 0 (rw (front-end x) at t.1)) ∙ not-deep s (start_of s k) ((lines-lined s).listed.faultless k inside);
+      shallow = sym (opens-stands s (front x) (start_of s k) t.0 0 (rw (front-end x) at t.1)) ∙ not-deep s (start_of s k) (ap fault_of_line ((lines-lined s).listed.item k inside));
     }
 
     -- its number is that of its rank
-    tree-rank : tree_number x ≡ (line_of s k).number
+    tree-rank : tree_number x ≡ (get_or (lines_of s).items k no_line).number
     tree-rank = tree-number s size sound k inside x t ∙ (lines-lined s).listed.number k inside
 
     -- what it names is known: lines,
-    names-all : each_known (set_table s (sound_lines s).numbers) (names_in x) ≡ true
-    names-all = sym (names-by-tree s (set_table s (sound_lines s).numbers) x (start_of s k) t.0 (tree-short s size sound k inside x t) t.1) ∙ lines-known s sound k inside
+    names-all : each_known (set_table s (lines_of s).numbers) (names_in x) ≡ true
+    names-all = sym (names-by-tree s (set_table s (lines_of s).numbers) x (start_of s k) t.0 (tree-short s size sound k inside x t) t.1) ∙ lines-known s sound k inside
 
-    tree-known : (n : ℕ) → OneOf n (lines_named x) → (1 ≤ n) × (rank_in (sound_lines s).numbers n 0 < max_lines)
+    tree-known : (n : ℕ) → OneOf n (lines_named x) → (1 ≤ n) × (rank_in (lines_of s).numbers n 0 < max_lines)
     tree-known n o =
-        let ns = (sound_lines s).numbers in
+        let ns = (lines_of s).numbers in
         (named-positive is_lock (names_in x) (line-names x tree-good.faultless) n o, ltb-true (rank_in ns n 0) max_lines (each_line (is_known ns) (is_defined (curves_in s)) (names_in x) names-all n o))
 
     -- and curves
     tree-defined : (n : ℕ) → OneOf n (curves_named x) → Defined s n
-    tree-defined n o = each-curve (is_known (sound_lines s).numbers) (is_defined (curves_in s)) (names_in x) names-all n o
+    tree-defined n o = each-curve (is_known (lines_of s).numbers) (is_defined (curves_in s)) (names_in x) names-all n o
 
-  trees-good : (xs : List Line) (k : ℕ) → TreesFrom s k xs → k + length xs ≤ (sound_lines s).count → GoodTrees xs
+  trees-good : (xs : List Line) (k : ℕ) → TreesFrom s k xs → k + length xs ≤ (lines_of s).count → GoodTrees xs
   trees-good [] k t c = tt
   trees-good (x ∷ xs) k t c = (tree-good k (omega arith) x t.0, trees-good xs (k + 1) t.1 (omega arith))
 
-  trees-rise : (xs : List Line) (k n : ℕ) → TreesFrom s k xs → k + length xs ≤ (sound_lines s).count → ((j : ℕ) → k ≤ j → j < (sound_lines s).count → n < (line_of s j).number) → RisesBy tree_number n xs
+  trees-rise : (xs : List Line) (k n : ℕ) → TreesFrom s k xs → k + length xs ≤ (lines_of s).count → ((j : ℕ) → k ≤ j → j < (lines_of s).count → n < (get_or (lines_of s).items j no_line).number) → RisesBy tree_number n xs
   trees-rise [] k n t c h = tt
   trees-rise (x ∷ xs) k n t c h =
       let e = tree-rank k (omega arith) x t.0 in
@@ -218,9 +210,9 @@ module _ (s : List ℕ) (size : length s ≤ set_size) (sound : (sound_lines s).
 
   module _ (xs : List Line) (trees : TreesOf s xs) where
     -- a number that is known is that of a line
-    known-tree : (n : ℕ) → 1 ≤ n → rank_in (sound_lines s).numbers n 0 < max_lines → OneOf n (map tree_number xs)
+    known-tree : (n : ℕ) → 1 ≤ n → rank_in (lines_of s).numbers n 0 < max_lines → OneOf n (map tree_number xs)
     known-tree n p h =
-        let ns = (sound_lines s).numbers in
+        let ns = (lines_of s).numbers in
         let i = rank_in ns n 0 in
         let l = rank-inside s n p h in
         let c = trees.count in
@@ -228,14 +220,14 @@ module _ (s : List ℕ) (size : length s ≤ set_size) (sound : (sound_lines s).
         let z : 0 + i ≡ i = omega arith in
         one_at (map tree_number xs) i n (omega arith) ((rw z at (numbers-at s size sound xs 0 i trees.trees (omega arith) (omega arith))) ∙ rank-number ns n (lines-lined s).numbers_length h)
 
-    trees-named : (ys : List Line) (k : ℕ) → TreesFrom s k ys → k + length ys ≤ (sound_lines s).count → AllNameOnly (map tree_number xs) ys
+    trees-named : (ys : List Line) (k : ℕ) → TreesFrom s k ys → k + length ys ≤ (lines_of s).count → AllNameOnly (map tree_number xs) ys
     trees-named [] k t c = tt
     trees-named (y ∷ ys) k t c = (
       (λ n o. let (p, h) = tree-known k (omega arith) y t.0 n o in known-tree n p h),
       trees-named ys (k + 1) t.1 (omega arith),
     )
 
-    set_lines : line_rows s (sound_lines s).count 0 ≡ map front xs
+    set_lines : line_rows s (lines_of s).count 0 ≡ map front xs
     set_lines = let c = trees.count in rw (← c) (rows-from s xs 0 trees.trees)
 
     module _ (ds : List Definition) (curves : CurvesFrom s max_curves 1 ds) where
@@ -251,7 +243,7 @@ module _ (s : List ℕ) (size : length s ≤ set_size) (sound : (sound_lines s).
           one_number d (x ∷ es) (inl e) = inl (ap curve_number e)
           one_number d (x ∷ es) (inr o) = inr (one_number d es o)
 
-      trees-use : (ys : List Line) (k : ℕ) → TreesFrom s k ys → k + length ys ≤ (sound_lines s).count → AllUseOnly (map curve_number ds) ys
+      trees-use : (ys : List Line) (k : ℕ) → TreesFrom s k ys → k + length ys ≤ (lines_of s).count → AllUseOnly (map curve_number ds) ys
       trees-use [] k t c = tt
       trees-use (y ∷ ys) k t c = ((λ n o. defined-one n (tree-defined k (omega arith) y t.0 n o)), trees-use ys (k + 1) t.1 (omega arith))
 
@@ -277,7 +269,7 @@ module _ (s : List ℕ) (size : length s ≤ set_size) (sound : (sound_lines s).
   -- a set and its trees
   pub record SetTrees (ds : List Definition) (xs : List Line) : Type 0 where
     pub rows : rows_of s ≡ map definition_front ds ++ map front xs
-    pub lines : line_rows s (sound_lines s).count 0 ≡ map front xs
+    pub lines : line_rows s (lines_of s).count 0 ≡ map front xs
     pub trees : SoundTrees ds xs
     pub curves : DefinitionsIn s ds
 

@@ -1,8 +1,7 @@
 -- END's three numbers are the counts over what was printed before it: the C lines, those of them with a code, and the O lines; PE and RS count as lines only, toward the number of an E line and toward the 1,000,000. Assumes nothing.
-use Rattle.std.specs.Prelude.{◌≡◌, refl, Bool, true, false, not, ◌&&◌, ◌||◌, List, [], ◌∷◌, ◌++◌, ◌⊎◌, ℕ, zero, suc, ◌+◌, ◌*◌, ◌-◌, ◌/◌, ◌%◌, ◌≤◌, ◌<◌, eqb, ltb, length, get_or, take, drop}
+use Rattle.std.specs.Prelude.{◌≡◌, refl, Bool, true, false, not, ◌&&◌, ◌||◌, List, [], ◌∷◌, ◌++◌, ◌⊎◌, ℕ, zero, suc, ◌+◌, ◌*◌, ◌-◌, ◌/◌, ◌%◌, ◌≤◌, ◌<◌, eqb, ltb, length, get_or, take, drop, Option, None, Some}
 use Rattle.std.proofs.Common.{sym, ap, ◌∙◌, append_assoc, inl, inr, arith, length-append, eqb-true, eq-eqb, ne_eqb}
 use Rattle.std.proofs.Math.Bool.{and-false}
-use Rattle.std.proofs.Math.Option.{Option, none, some}
 use Rattle.values.specs.Choice.{either}
 use Rattle.values.specs.Numbers.{clash}
 use Rattle.engine.specs.Order.{order_size}
@@ -13,7 +12,10 @@ use Rattle.text.specs.Word.{same_bytes}
 use Rattle.text.specs.Lines.{before, split, text_lines}
 use Rattle.reader.specs.Load.{load_answer, load_set}
 use Rattle.transcript.specs.Input.{input_of}
-use Rattle.transcript.specs.BeatLine.{Lent, Said, beat, program_end, control_reset, says_beat, fields, line_lent, line_said}
+use Rattle.transcript.specs.declared.beat_line.Lent.{Lent}
+use Rattle.transcript.specs.declared.beat_line.Said.{Said}
+use Rattle.transcript.specs.declared.beat_line.Said.TheVariants.{Beat, ProgramEnd, ControlReset}
+use Rattle.transcript.specs.BeatLine.{says_beat, fields, line_lent, line_said}
 use Rattle.transcript.specs.Output.{spaced, printed_line, decimals, four_of, code_line, order_line, order_lines, error_line, end_line}
 use Rattle.transcript.specs.declared.totals.Totals.{Totals}
 use Rattle.transcript.specs.declared.view.View.{View}
@@ -214,16 +216,16 @@ orders-add p x h (suc n) b rest =
     rw e (omega arith)
 
 -- a C line and its O lines add what each does
-beat-adds : (p : List ℕ → Bool) (x y : ℕ) (s : List ℕ) (n : Totals) (l : Lent) (rest : List ℕ) → one (p (code_body (n.beats.0 + 1) (answer_of s n l).code (answer_of s n l).orders)) ≡ y →
+beat-adds : (p : List ℕ → Bool) (x y : ℕ) (s : List ℕ) (n : Totals) (l : Lent) (rest : List ℕ) → one (p (code_body (n.counts.beats.0 + 1) (answer_of s n l).code (answer_of s n l).orders)) ≡ y →
     ((o : List ℕ) → one (p (order_body o)) ≡ x) → lines_in p (beat_text s n l ++ rest) ≡ y + ((answer_of s n l).orders * x + lines_in p rest)
 unfolding beat_text
 beat-adds p x y s n l rest g h =
     let a = answer_of s n l in
-    let body = code_body (n.beats.0 + 1) a.code a.orders in
+    let body = code_body (n.counts.beats.0 + 1) a.code a.orders in
     let os = order_lines a.orders (buffer_of s n l) in
-    let head = code_line (n.beats.0 + 1) a.code a.orders in
-    let e : head ++ os ++ rest ≡ body ++ (LF ∷ (os ++ rest)) = append_assoc head os rest ∙ code-line (n.beats.0 + 1) a.code a.orders (os ++ rest) in
-    let c = count-first p body (os ++ rest) (code-above (n.beats.0 + 1) a.code a.orders) in
+    let head = code_line (n.counts.beats.0 + 1) a.code a.orders in
+    let e : head ++ os ++ rest ≡ body ++ (LF ∷ (os ++ rest)) = append_assoc head os rest ∙ code-line (n.counts.beats.0 + 1) a.code a.orders (os ++ rest) in
+    let c = count-first p body (os ++ rest) (code-above (n.counts.beats.0 + 1) a.code a.orders) in
     let d = orders-add p x h a.orders (buffer_of s n l) rest in
     rw e (c ∙ omega arith)
 
@@ -232,26 +234,26 @@ module _ (s : List ℕ) (n : Totals) (l : Lent) (rest : List ℕ) where
   answer = answer_of s n l
 
   beats-one : lines_in is_beat (beat_text s n l ++ rest) ≡ 1 + lines_in is_beat rest
-  beats-one = let e = beat-adds is_beat 0 1 s n l rest (code-is-beat (n.beats.0 + 1) answer.code answer.orders) order-no-beat in omega arith
+  beats-one = let e = beat-adds is_beat 0 1 s n l rest (code-is-beat (n.counts.beats.0 + 1) answer.code answer.orders) order-no-beat in omega arith
 
   coded-one : lines_in is_coded (beat_text s n l ++ rest) ≡ one_if answer.code + lines_in is_coded rest
-  coded-one = let e = beat-adds is_coded 0 (one_if answer.code) s n l rest (code-is-coded (n.beats.0 + 1) answer.code answer.orders) order-no-code in omega arith
+  coded-one = let e = beat-adds is_coded 0 (one_if answer.code) s n l rest (code-is-coded (n.counts.beats.0 + 1) answer.code answer.orders) order-no-code in omega arith
 
   orders-all : lines_in is_order (beat_text s n l ++ rest) ≡ answer.orders + lines_in is_order rest
-  orders-all = let e = beat-adds is_order 1 0 s n l rest (code-no-order (n.beats.0 + 1) answer.code answer.orders) order-is-order in omega arith
+  orders-all = let e = beat-adds is_order 1 0 s n l rest (code-no-order (n.counts.beats.0 + 1) answer.code answer.orders) order-is-order in omega arith
 
 -- ---- what stands at the end
 
 -- END with what was counted before and in what was shown
 abbrev end_from : Totals → List ℕ → List ℕ
-end_from n shown = end_line (n.beats.0 + lines_in is_beat shown) (n.coded + lines_in is_coded shown) (n.orders + lines_in is_order shown)
+end_from n shown = end_line (n.counts.beats.0 + lines_in is_beat shown) (n.counts.coded + lines_in is_coded shown) (n.counts.orders + lines_in is_order shown)
 
-nothing-counted : (n : Totals) → (n.beats.0 + lines_in is_beat [] ≡ n.beats.0) × (n.coded + lines_in is_coded [] ≡ n.coded) × (n.orders + lines_in is_order [] ≡ n.orders)
+nothing-counted : (n : Totals) → (n.counts.beats.0 + lines_in is_beat [] ≡ n.counts.beats.0) × (n.counts.coded + lines_in is_coded [] ≡ n.counts.coded) × (n.counts.orders + lines_in is_order [] ≡ n.counts.orders)
 unfolding count split
 nothing-counted n = (omega arith, omega arith, omega arith)
 
 -- in the view of a run: END, and all that there is to print of a beat
-end-now : (s : List ℕ) (n : Totals) → n.view ≡ Run → ended s n ≡ end_from n []
+end-now : (s : List ℕ) (n : Totals) → n.counts.view ≡ Run → ended s n ≡ end_from n []
 end-now s n r = ap (λ (v : View). end_by v s n) r ∙ counts
   where
     counts : end_by Run s n ≡ end_from n []
@@ -259,15 +261,15 @@ end-now s n r = ap (λ (v : View). end_by v s n) r ∙ counts
 
 -- of any line
 abbrev shown_of : List ℕ → Totals → Said → List ℕ
-shown_of s n (beat l) = beat_text s n l
-shown_of s n program_end = []
-shown_of s n control_reset = []
+shown_of s n (Beat l) = beat_text s n l
+shown_of s n ProgramEnd = []
+shown_of s n ControlReset = []
 
-said-run : (s : List ℕ) (n : Totals) (x : Said) → n.view ≡ Run → said_printed s n x ≡ shown_of s n x
+said-run : (s : List ℕ) (n : Totals) (x : Said) → n.counts.view ≡ Run → said_printed s n x ≡ shown_of s n x
 unfolding beat_printed
-said-run s n (beat l) r = ap (λ (v : View). printed_by v (beat_text s n l)) r
-said-run s n program_end r = refl
-said-run s n control_reset r = refl
+said-run s n (Beat l) r = ap (λ (v : View). printed_by v (beat_text s n l)) r
+said-run s n ProgramEnd r = refl
+said-run s n ControlReset r = refl
 
 -- ---- a line before what follows
 
@@ -277,27 +279,27 @@ is_call l = same_bytes l (bytes "PE") || same_bytes l (bytes "RS")
 
 -- a line counts as a beat, unless it is a call
 abbrev pub beats_of : Said → ℕ
-beats_of (beat l) = 1
-beats_of program_end = 0
-beats_of control_reset = 0
+beats_of (Beat l) = 1
+beats_of ProgramEnd = 0
+beats_of ControlReset = 0
 
-call-said : (l : List ℕ) (x : Said) → line_said l ≡ some x → beats_of x + one (is_call l) ≡ 1
+call-said : (l : List ℕ) (x : Said) → line_said l ≡ Some x → beats_of x + one (is_call l) ≡ 1
 unfolding line_said
 call-said l x =
-    let P : Option Said → Type 0 = λ o. o ≡ some x → beats_of x + one (is_call l) ≡ 1 in
-    either P (same_bytes l (bytes "PE")) (λ e h. let q : program_end ≡ x = cc in rw (← q, e)) λ e.
-    either P (same_bytes l (bytes "RS")) (λ g h. let q : control_reset ≡ x = cc in rw (← q, e, g)) λ g h.
+    let P : Option Said → Type 0 = λ o. o ≡ Some x → beats_of x + one (is_call l) ≡ 1 in
+    either P (same_bytes l (bytes "PE")) (λ e h. let q : ProgramEnd ≡ x = cc in rw (← q, e)) λ e.
+    either P (same_bytes l (bytes "RS")) (λ g h. let q : ControlReset ≡ x = cc in rw (← q, e, g)) λ g h.
     rw (e, g) (lent (line_lent l) h)
   where
-    lent : (o : Option Lent) → says_beat o ≡ some x → beats_of x + 0 ≡ 1
-    lent none h = clash (cc)
-    lent (some l) h = let q : beat l ≡ x = cc in rw (← q)
+    lent : (o : Option Lent) → says_beat o ≡ Some x → beats_of x + 0 ≡ 1
+    lent None h = clash (cc)
+    lent (Some l) h = let q : Beat l ≡ x = cc in rw (← q)
 
 module _ (s : List ℕ) (n : Totals) (shown : List ℕ) where
   said-beats : (x : Said) → lines_in is_beat (shown_of s n x ++ shown) ≡ beats_of x + lines_in is_beat shown
-  said-beats (beat l) = beats-one s n l shown
-  said-beats program_end = omega arith
-  said-beats control_reset = omega arith
+  said-beats (Beat l) = beats-one s n l shown
+  said-beats ProgramEnd = omega arith
+  said-beats ControlReset = omega arith
 
   beat-later : (l : Lent) → end_from (counted n (answer_of s n l)) shown ≡ end_from n (beat_text s n l ++ shown)
   beat-later l =
@@ -305,18 +307,18 @@ module _ (s : List ℕ) (n : Totals) (shown : List ℕ) where
       let b = beats-one s n l shown in
       let c = coded-one s n l shown in
       let o = orders-all s n l shown in
-      let p : then.beats.0 + lines_in is_beat shown ≡ n.beats.0 + lines_in is_beat (beat_text s n l ++ shown) = omega arith in
-      let q : then.coded + lines_in is_coded shown ≡ n.coded + lines_in is_coded (beat_text s n l ++ shown) = omega arith in
-      let r : then.orders + lines_in is_order shown ≡ n.orders + lines_in is_order (beat_text s n l ++ shown) = omega arith in
+      let p : then.counts.beats.0 + lines_in is_beat shown ≡ n.counts.beats.0 + lines_in is_beat (beat_text s n l ++ shown) = omega arith in
+      let q : then.counts.coded + lines_in is_coded shown ≡ n.counts.coded + lines_in is_coded (beat_text s n l ++ shown) = omega arith in
+      let r : then.counts.orders + lines_in is_order shown ≡ n.counts.orders + lines_in is_order (beat_text s n l ++ shown) = omega arith in
       λ i. end_line (p i) (q i) (r i)
 
   end_later : (x : Said) → end_from (said_counted s n x) shown ≡ end_from n (shown_of s n x ++ shown)
-  end_later (beat l) = beat-later l
-  end_later program_end = refl
-  end_later control_reset = refl
+  end_later (Beat l) = beat-later l
+  end_later ProgramEnd = refl
+  end_later ControlReset = refl
 
   -- what is printed of it, what is shown then, and the last line
-  later : (x : Said) (text last end : List ℕ) → n.view ≡ Run → last ≡ end → text ≡ shown ++ last → said_printed s n x ++ text ≡ (shown_of s n x ++ shown) ++ end
+  later : (x : Said) (text last end : List ℕ) → n.counts.view ≡ Run → last ≡ end → text ≡ shown ++ last → said_printed s n x ++ text ≡ (shown_of s n x ++ shown) ++ end
   later x text last end v e h =
       ap (λ (y : List ℕ). y ++ text) (said-run s n x v) ∙ ap (λ (y : List ℕ). shown_of s n x ++ y) h ∙ sym (append_assoc (shown_of s n x) shown last)
       ∙ ap (λ (y : List ℕ). shown_of s n x ++ shown ++ y) e
@@ -326,11 +328,11 @@ module _ (s : List ℕ) (n : Totals) (shown : List ℕ) where
 -- each of some lines behind the line * is
 unfoldable pub well_formed : List (List ℕ) → Bool
 well_formed [] = true
-well_formed (l ∷ ls) = elim (line_said l) [ none ↦ false | some x ↦ well_formed ls ]
+well_formed (l ∷ ls) = elim (line_said l) [ None ↦ false | Some x ↦ well_formed ls ]
 
-well-first : (l : List ℕ) (ls : List (List ℕ)) → well_formed (l ∷ ls) ≡ true → (x : Said) × (line_said l ≡ some x) × (well_formed ls ≡ true)
+well-first : (l : List ℕ) (ls : List (List ℕ)) → well_formed (l ∷ ls) ≡ true → (x : Said) × (line_said l ≡ Some x) × (well_formed ls ≡ true)
 unfolding well_formed
-well-first l ls = by_lent (λ (y : Bool). y ≡ true → (x : Said) × (line_said l ≡ some x) × (well_formed ls ≡ true)) (line_said l) (λ e h. clash (cc)) (λ x e h. (x, e, h))
+well-first l ls = by_lent (λ (y : Bool). y ≡ true → (x : Said) × (line_said l ≡ Some x) × (well_formed ls ≡ true)) (line_said l) (λ e h. clash (cc)) (λ x e h. (x, e, h))
 
 -- the C lines in what was shown, and the calls among some lines, are those lines
 abbrev pub Counts : List ℕ → List (List ℕ) → Type 0
@@ -340,14 +342,14 @@ none-count : Counts [] []
 unfolding count split
 none-count = refl
 
-one-counts : (s : List ℕ) (n : Totals) (l : List ℕ) (ls : List (List ℕ)) (x : Said) (shown : List ℕ) → line_said l ≡ some x → Counts shown ls → Counts (shown_of s n x ++ shown) (l ∷ ls)
+one-counts : (s : List ℕ) (n : Totals) (l : List ℕ) (ls : List (List ℕ)) (x : Said) (shown : List ℕ) → line_said l ≡ Some x → Counts shown ls → Counts (shown_of s n x ++ shown) (l ∷ ls)
 unfolding count
 one-counts s n l ls x shown e h = let a = said-beats s n shown x in let b = call-said l x e in omega arith
 
 -- with k lines left at most
-end-counted : (ls : List (List ℕ)) (s : List ℕ) (n : Totals) (k : ℕ) → n.lines + k ≡ last_line → n.view ≡ Run → well_formed ls ≡ true → (shown : List ℕ) × (beats_text s n ls ≡ shown ++ end_from n shown) × Counts shown (take k ls)
+end-counted : (ls : List (List ℕ)) (s : List ℕ) (n : Totals) (k : ℕ) → n.counts.lines + k ≡ last_line → n.counts.view ≡ Run → well_formed ls ≡ true → (shown : List ℕ) × (beats_text s n ls ≡ shown ++ end_from n shown) × Counts shown (take k ls)
 unfolding beats_text
-end-counted ls s n zero r v h = ([], beats-over s n ls (eq-eqb n.lines last_line (omega arith)) ∙ end-now s n v, none-count)
+end-counted ls s n zero r v h = ([], beats-over s n ls (eq-eqb n.counts.lines last_line (omega arith)) ∙ end-now s n v, none-count)
 end-counted [] s n (suc k) r v h = ([], end-now s n v, none-count)
 end-counted (l ∷ ls) s n (suc k) r v h =
     let w = well-first l ls h in
@@ -356,7 +358,7 @@ end-counted (l ∷ ls) s n (suc k) r v h =
     let c = said-lines s n x in
     let f = end-counted ls s m k (omega arith) (said-view s n x ∙ v) w.2 in (
       shown_of s n x ++ f.0,
-      beats-some s n l ls x (ne_eqb n.lines last_line (λ e. omega arith)) w.1 ∙ later s n f.0 x (beats_text s m ls) (end_from m f.0) (end_from n (shown_of s n x ++ f.0)) v (end_later s n f.0 x) f.1,
+      beats-some s n l ls x (ne_eqb n.counts.lines last_line (λ e. omega arith)) w.1 ∙ later s n f.0 x (beats_text s m ls) (end_from m f.0) (end_from n (shown_of s n x ++ f.0)) v (end_later s n f.0 x) f.1,
       one-counts s n l (take k ls) x f.0 w.1 f.2,
     )
 
@@ -368,22 +370,22 @@ pub record Ill (ls : List (List ℕ)) (n : ℕ) (shown text : List ℕ) : Type 0
   pub line : List ℕ
   pub rest : List (List ℕ)
   pub are : ls ≡ taken ++ (line ∷ rest)
-  pub says : line_said line ≡ none
+  pub says : line_said line ≡ None
   pub counts : Counts shown taken
   pub prints : text ≡ shown ++ error_line (n + length taken + 1)
 
 -- END or E
 abbrev Last : List (List ℕ) → Totals → List ℕ → Type 0
-Last ls n text = (shown : List ℕ) × ((text ≡ shown ++ end_from n shown) ⊎ Ill ls n.lines shown text)
+Last ls n text = (shown : List ℕ) × ((text ≡ shown ++ end_from n shown) ⊎ Ill ls n.counts.lines shown text)
 
-ill-now : (l : List ℕ) (ls : List (List ℕ)) (n : ℕ) → line_said l ≡ none → Ill (l ∷ ls) n [] (error_line (n + 1))
+ill-now : (l : List ℕ) (ls : List (List ℕ)) (n : ℕ) → line_said l ≡ None → Ill (l ∷ ls) n [] (error_line (n + 1))
 ill-now l ls n h = record { taken = []; line = l; rest = ls; are = refl; says = h; counts = none-count; prints = let e : n + 1 ≡ n + 0 + 1 = omega arith in ap error_line e }
 
-module _ (l : List ℕ) (ls : List (List ℕ)) (s : List ℕ) (n : Totals) (x : Said) (e : line_said l ≡ some x) (v : n.view ≡ Run) where
-  ill-later : (shown text : List ℕ) → Ill ls (said_counted s n x).lines shown text → Ill (l ∷ ls) n.lines (shown_of s n x ++ shown) (said_printed s n x ++ text)
+module _ (l : List ℕ) (ls : List (List ℕ)) (s : List ℕ) (n : Totals) (x : Said) (e : line_said l ≡ Some x) (v : n.counts.view ≡ Run) where
+  ill-later : (shown text : List ℕ) → Ill ls (said_counted s n x).counts.lines shown text → Ill (l ∷ ls) n.counts.lines (shown_of s n x ++ shown) (said_printed s n x ++ text)
   ill-later shown text i =
       let c = said-lines s n x in
-      let q : (said_counted s n x).lines + length i.taken + 1 ≡ n.lines + length (l ∷ i.taken) + 1 = omega arith in
+      let q : (said_counted s n x).counts.lines + length i.taken + 1 ≡ n.counts.lines + length (l ∷ i.taken) + 1 = omega arith in
       record {
         taken = l ∷ i.taken;
         line = i.line;
@@ -391,23 +393,23 @@ module _ (l : List ℕ) (ls : List (List ℕ)) (s : List ℕ) (n : Totals) (x : 
         are = ap (λ (y : List (List ℕ)). l ∷ y) i.are;
         says = i.says;
         counts = one-counts s n l i.taken x shown e i.counts;
-        prints = later s n shown x text (error_line ((said_counted s n x).lines + length i.taken + 1)) (error_line (n.lines + length (l ∷ i.taken) + 1)) v (ap error_line q) i.prints;
+        prints = later s n shown x text (error_line ((said_counted s n x).counts.lines + length i.taken + 1)) (error_line (n.counts.lines + length (l ∷ i.taken) + 1)) v (ap error_line q) i.prints;
       }
 
   last-later : (text : List ℕ) → Last ls (said_counted s n x) text → Last (l ∷ ls) n (said_printed s n x ++ text)
   last-later text r = (shown_of s n x ++ r.0, by_end r.1)
     where
-      by_end : (text ≡ r.0 ++ end_from (said_counted s n x) r.0) ⊎ Ill ls (said_counted s n x).lines r.0 text →
-          (said_printed s n x ++ text ≡ (shown_of s n x ++ r.0) ++ end_from n (shown_of s n x ++ r.0)) ⊎ Ill (l ∷ ls) n.lines (shown_of s n x ++ r.0) (said_printed s n x ++ text)
+      by_end : (text ≡ r.0 ++ end_from (said_counted s n x) r.0) ⊎ Ill ls (said_counted s n x).counts.lines r.0 text →
+          (said_printed s n x ++ text ≡ (shown_of s n x ++ r.0) ++ end_from n (shown_of s n x ++ r.0)) ⊎ Ill (l ∷ ls) n.counts.lines (shown_of s n x ++ r.0) (said_printed s n x ++ text)
       by_end (inl g) = inl (later s n r.0 x text (end_from (said_counted s n x) r.0) (end_from n (shown_of s n x ++ r.0)) v (end_later s n r.0 x) g)
       by_end (inr i) = inr (ill-later r.0 text i)
 
-last-counted : (ls : List (List ℕ)) (s : List ℕ) (n : Totals) → n.view ≡ Run → Last ls n (beats_text s n ls)
+last-counted : (ls : List (List ℕ)) (s : List ℕ) (n : Totals) → n.counts.view ≡ Run → Last ls n (beats_text s n ls)
 unfolding beats_text
 last-counted [] s n v = ([], inl (end-now s n v))
 last-counted (l ∷ ls) s n v =
-    either (Last (l ∷ ls) n) (eqb n.lines last_line) (λ e. ([], inl (end-now s n v)))
-    (λ e. by_lent (Last (l ∷ ls) n) (line_said l) (λ u. ([], inr (ill-now l ls n.lines u)))
+    either (Last (l ∷ ls) n) (eqb n.counts.lines last_line) (λ e. ([], inl (end-now s n v)))
+    (λ e. by_lent (Last (l ∷ ls) n) (line_said l) (λ u. ([], inr (ill-now l ls n.counts.lines u)))
     (λ x u. last-later l ls s n x u v (beats_text s (said_counted s n x) ls) (last-counted ls s (said_counted s n x) (said-view s n x ∙ v))))
 
 -- ---- all that is printed

@@ -1,8 +1,6 @@
 -- A session prints what the definition says, whatever the pieces of its input. Assumes nothing.
-use Rattle.std.specs.Prelude.{◌≡◌, refl, List, [], ◌∷◌, ◌++◌, ℕ, ◌+◌, min, ◌≤◌, eqb, leb, length, take}
-use Rattle.std.proofs.Common.{sym, ap, ◌∙◌, append_assoc, arith, length-append, length-set, leb-true, leb-false, eqb-true}
-use Rattle.std.proofs.Math.Option.{none, some}
-use Rattle.std.proofs.lemmas.Bool.{eqb-false}
+use Rattle.std.specs.Prelude.{◌≡◌, refl, true, false, List, [], ◌∷◌, ◌++◌, ℕ, ◌+◌, min, ◌≤◌, eqb, leb, length, take, set, None, Some}
+use Rattle.std.proofs.Common.{sym, ap, ◌∙◌, append_assoc, arith, length-append, length-set, leb-true, leb-false}
 use Rattle.values.specs.Choice.{decide, either, either_both}
 use Rattle.values.specs.Numbers.{clash}
 use Rattle.text.specs.Byte.{LF}
@@ -11,17 +9,22 @@ use Rattle.text.specs.LinesLaws.{split-some}
 use Rattle.values.specs.PutAt.{put_at}
 use Rattle.values.specs.PutLaws.{put-length, put-past, put-join}
 use Rattle.transcript.specs.declared.set_text.Place.{Place}
+use Rattle.transcript.specs.declared.set_text.Star.{Star}
 use Rattle.transcript.specs.declared.beat_line.HalfLine.{HalfLine}
 use Rattle.transcript.specs.declared.intake.Intake.{Intake}
+use Rattle.transcript.specs.declared.intake.Phase.{Phase}
+use Rattle.transcript.specs.declared.intake.Phase.TheVariants.{Text, Beats, Over}
 use Rattle.reader.specs.Load.{load_answer}
 use Rattle.transcript.specs.HalfLine.{read_byte, read_on}
 use Rattle.transcript.specs.Totals.{last_line}
 use Rattle.transcript.specs.Tally.{said_counted}
-use Rattle.transcript.specs.Intake.{TEXT, BEATS, with_place, with_half_line, bytes_kept, Arrival, nothing, whole_text, line_came, text_line_kept, line_over, line_kept}
-use Rattle.transcript.specs.IntakeLaws.{text-bytes, text-bytes-kept, beats-bytes, else-bytes, else-bytes-kept}
+use Rattle.transcript.specs.declared.intake.Arrival.{Arrival}
+use Rattle.transcript.specs.declared.intake.Arrival.TheVariants.{Nothing, WholeText, LineCame}
+use Rattle.transcript.specs.Intake.{with_place, with_half_line, bytes_kept, text_line_kept, line_over, line_kept}
+use Rattle.transcript.specs.IntakeLaws.{text-bytes, text-bytes-kept, beats-bytes, beats-bytes-kept}
 use Rattle.transcript.specs.Machine.{Machine, Fed, opened, said_of, said_end, arrival_worked, keeping, chunk, line_end, behind, fed_lines}
 use Rattle.transcript.specs.SetText.{kept_size, star_after, star_on, star_ends, place_on}
-use Rattle.transcript.specs.SessionRoomLaws.{by_code}
+use Rattle.transcript.specs.SessionRoomLaws.{by_code, over-chunk}
 
 -- ---- bytes of a line, in two parts
 
@@ -30,7 +33,7 @@ unfolding read_on
 read-append r [] k = refl
 read-append r (b ∷ bs) k = read-append (read_byte r b) bs k
 
-star-append : (s : ℕ) (l k : List ℕ) → star_on s (l ++ k) ≡ star_on (star_on s l) k
+star-append : (s : Star) (l k : List ℕ) → star_on s (l ++ k) ≡ star_on (star_on s l) k
 unfolding star_on
 star-append s [] k = refl
 star-append s (b ∷ bs) k = star-append (star_after s b) bs k
@@ -61,21 +64,19 @@ abbrev beats_on : Machine → List ℕ → Machine
 beats_on m l = let x = m.session.intake in keeping m m.text (with_half_line x (read_on x.half l))
 
 module _ (m : Machine) (l : List ℕ) where
-  pub chunk-text : m.session.intake.phase ≡ TEXT → chunk m l ≡ text_on m l
+  pub chunk-text : m.session.intake.phase ≡ Text → chunk m l ≡ text_on m l
   unfolding chunk
   chunk-text h = let x = m.session.intake in rw (text-bytes x h l, text-bytes-kept x h m.text l)
 
-  pub chunk-beats : m.session.intake.phase ≡ BEATS → chunk m l ≡ beats_on m l
+  pub chunk-beats : m.session.intake.phase ≡ Beats → chunk m l ≡ beats_on m l
   unfolding chunk
-  chunk-beats h = let x = m.session.intake in rw (beats-bytes x h l, else-bytes-kept x (λ e. omega arith) m.text l)
-
-  pub chunk-else : (m.session.intake.phase ≡ TEXT → ⊥) → (m.session.intake.phase ≡ BEATS → ⊥) → chunk m l ≡ m
-  unfolding chunk
-  chunk-else h g = let x = m.session.intake in rw (else-bytes x h g l, else-bytes-kept x h m.text l)
+  chunk-beats h = let x = m.session.intake in rw (beats-bytes x h l, beats-bytes-kept x h m.text l)
 
 -- what holds in each phase
-pub by_phase : (P : Type 0) (p : ℕ) → (p ≡ TEXT → P) → (p ≡ BEATS → P) → ((p ≡ TEXT → ⊥) → (p ≡ BEATS → ⊥) → P) → P
-by_phase P p f g h = decide P (eqb p TEXT) (λ e. f (eqb-true p TEXT e)) λ e. decide P (eqb p BEATS) (λ k. g (eqb-true p BEATS k)) (λ k. h (eqb-false p TEXT e) (eqb-false p BEATS k))
+pub by_phase : (P : Type 0) (p : Phase) → (p ≡ Text → P) → (p ≡ Beats → P) → (p ≡ Over → P) → P
+by_phase P Text f g h = f refl
+by_phase P Beats f g h = g refl
+by_phase P Over f g h = h refl
 
 -- bytes of a line in two parts are taken as the whole
 pub chunk-append : (m : Machine) (l k : List ℕ) → Held m → chunk m (l ++ k) ≡ chunk (chunk m l) k
@@ -85,7 +86,7 @@ chunk-append m l k h =
     by_phase (chunk m (l ++ k) ≡ chunk (chunk m l) k) m.session.intake.phase
     (λ e. chunk-text m (l ++ k) e ∙ in-text ∙ sym (ap on (chunk-text m l e) ∙ chunk-text (text_on m l) k e))
     (λ e. chunk-beats m (l ++ k) e ∙ in-beats ∙ sym (ap on (chunk-beats m l e) ∙ chunk-beats (beats_on m l) k e))
-    (λ e g. chunk-else m (l ++ k) e g ∙ sym (chunk-else m k e g) ∙ sym (ap on (chunk-else m l e g)))
+    (λ e. over-chunk m (l ++ k) e ∙ sym (over-chunk m k e) ∙ sym (ap on (over-chunk m l e)))
   where
     in-text : text_on m (l ++ k) ≡ text_on (text_on m l) k
     in-text = let x = m.session.intake in λ i. keeping m (text-append m.text x.place.size l k h i) (with_place x (place-append x.place l k i))
@@ -99,22 +100,23 @@ pub chunk-held : (m : Machine) (l : List ℕ) → length (chunk m l).text ≡ le
 unfolding chunk bytes_kept
 chunk-held m l =
     let x = m.session.intake in
-    either (λ (y : List ℕ). length y ≡ length m.text) (eqb x.phase TEXT) (λ e. put-length l m.text x.place.size) (λ e. refl)
+    elim x.phase as (λ p. length {A = ℕ} (elim p [ Text ↦ put_at m.text x.place.size l | _ ↦ m.text ]) ≡ length m.text) [ Text ↦ put-length l m.text x.place.size | _ ↦ refl ]
 
 -- what comes in is worked without it
 arrival-text : (m : Machine) (a : Arrival) → (arrival_worked m a).machine.text ≡ m.text
 unfolding arrival_worked opened said_end said_of
-arrival-text m nothing = refl
-arrival-text m (whole_text n) = by_code (λ (y : Fed). y.machine.text ≡ m.text) (load_answer (take n m.text)).code (λ e. refl) (λ c e. refl)
-arrival-text m (line_came none) = refl
-arrival-text m (line_came (some x)) =
-    either (λ (y : Fed). y.machine.text ≡ m.text) (eqb (said_counted m.set m.session.totals x).lines last_line) (λ e. refl) (λ e. refl)
+arrival-text m Nothing = refl
+arrival-text m (WholeText n) = by_code (λ (y : Fed). y.machine.text ≡ m.text) (load_answer (take n m.text)).code (λ e. refl) (λ c e. refl)
+arrival-text m (LineCame None) = refl
+arrival-text m (LineCame (Some x)) =
+    either (λ (y : Fed). y.machine.text ≡ m.text) (eqb (said_counted m.set m.session.totals x).counts.lines last_line) (λ e. refl) (λ e. refl)
 
 kept-held : (x : Intake) (t : List ℕ) → length (line_kept x t) ≡ length t
 unfolding line_kept text_line_kept
 kept-held x t =
-    let P : List ℕ → Type 0 = λ y. length y ≡ length t in
-    either P (eqb x.phase TEXT) (λ e. either P (star_ends x.place.star) (λ g. refl) (λ g. length-set t x.place.size LF)) (λ e. refl)
+    let ends : List ℕ = elim (star_ends x.place.star) [ true ↦ t | false ↦ set t x.place.size LF ] in
+    let same : length ends ≡ length t = either (λ (y : List ℕ). length y ≡ length t) (star_ends x.place.star) (λ g. refl) (λ g. length-set t x.place.size LF) in
+    elim x.phase as (λ p. length {A = ℕ} (elim p [ Text ↦ ends | _ ↦ t ]) ≡ length t) [ Text ↦ same | _ ↦ refl ]
 
 pub line-held : (m : Machine) → length (line_end m).machine.text ≡ length m.text
 unfolding line_end
@@ -132,20 +134,20 @@ join_lines (l ∷ []) (y ∷ ys) = (l ++ y) ∷ ys
 join_lines (l ∷ k ∷ ls) ys = l ∷ join_lines (k ∷ ls) ys
 
 -- there is a line
-abbrev Some : List (List ℕ) → Type 0
-Some ls = ls ≡ [] → ⊥
+abbrev AnyLine : List (List ℕ) → Type 0
+AnyLine ls = ls ≡ [] → ⊥
 
-join-nil : (ys : List (List ℕ)) → Some ys → join_lines ([] ∷ []) ys ≡ ys
+join-nil : (ys : List (List ℕ)) → AnyLine ys → join_lines ([] ∷ []) ys ≡ ys
 unfolding join_lines
 join-nil [] h = absurd (h refl)
 join-nil (y ∷ ys) h = refl
 
-join-line : (l : List ℕ) (ls ys : List (List ℕ)) → Some ls → join_lines (l ∷ ls) ys ≡ l ∷ join_lines ls ys
+join-line : (l : List ℕ) (ls ys : List (List ℕ)) → AnyLine ls → join_lines (l ∷ ls) ys ≡ l ∷ join_lines ls ys
 unfolding join_lines
 join-line l [] ys h = absurd (h refl)
 join-line l (k ∷ ls) ys h = refl
 
-join-before : (b : ℕ) (ls ys : List (List ℕ)) → Some ls → Some ys → join_lines (before b ls) ys ≡ before b (join_lines ls ys)
+join-before : (b : ℕ) (ls ys : List (List ℕ)) → AnyLine ls → AnyLine ys → join_lines (before b ls) ys ≡ before b (join_lines ls ys)
 unfolding join_lines
 join-before b [] ys h g = absurd (h refl)
 join-before b (l ∷ []) [] h g = refl
@@ -160,7 +162,7 @@ lines-append (c ∷ cs) b =
     (λ e. ap (λ (y : List (List ℕ)). [] ∷ y) (lines-append cs b) ∙ sym (join-line [] (text_lines cs) (text_lines b) (split-some LF cs)))
     (λ e. ap (before c) (lines-append cs b) ∙ sym (join-before c (text_lines cs) (text_lines b) (split-some LF cs) (split-some LF b)))
 
-join-some : (ls ys : List (List ℕ)) → Some ls → Some (join_lines ls ys)
+join-some : (ls ys : List (List ℕ)) → AnyLine ls → AnyLine (join_lines ls ys)
 unfolding join_lines
 join-some [] ys h g = absurd (h refl)
 join-some (l ∷ []) [] h g = clash (cc)
@@ -168,7 +170,7 @@ join-some (l ∷ []) (y ∷ ys) h g = clash (cc)
 join-some (l ∷ k ∷ ls) ys h g = clash (cc)
 
 -- a line, its LF and what follows
-pub fed-line : (m : Machine) (l : List ℕ) (ls : List (List ℕ)) → Some ls → fed_lines m (l ∷ ls) ≡ behind (line_end (chunk m l)).output (fed_lines (line_end (chunk m l)).machine ls)
+pub fed-line : (m : Machine) (l : List ℕ) (ls : List (List ℕ)) → AnyLine ls → fed_lines m (l ∷ ls) ≡ behind (line_end (chunk m l)).output (fed_lines (line_end (chunk m l)).machine ls)
 unfolding fed_lines
 fed-line m l [] h = absurd (h refl)
 fed-line m l (k ∷ ls) h = refl
@@ -182,7 +184,7 @@ unfolding fed_lines
 fed-head m l [] y h = rw (chunk-append m l y h)
 fed-head m l (z ∷ zs) y h = rw (chunk-append m l y h)
 
-fed-join : (ls ys : List (List ℕ)) (m : Machine) → Some ls → Some ys → Held m → fed_lines m (join_lines ls ys) ≡ behind (fed_lines m ls).output (fed_lines (fed_lines m ls).machine ys)
+fed-join : (ls ys : List (List ℕ)) (m : Machine) → AnyLine ls → AnyLine ys → Held m → fed_lines m (join_lines ls ys) ≡ behind (fed_lines m ls).output (fed_lines (fed_lines m ls).machine ys)
 unfolding join_lines fed_lines
 fed-join [] ys m h g t = absurd (h refl)
 fed-join (l ∷ []) [] m h g t = absurd (g refl)

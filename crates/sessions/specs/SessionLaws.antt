@@ -1,10 +1,9 @@
 -- What a session prints, line by line, is what the definition says. Assumes nothing.
-use Rattle.std.specs.Prelude.{◌≡◌, Bool, true, cond, eqb, leb, ltb, set}
+use Rattle.std.specs.Prelude.{◌≡◌, Bool, true, cond, eqb, leb, ltb, set, Option, None, Some}
 use Rattle.std.proofs.Math.Path.{refl, sym, ap}
-use Rattle.std.proofs.Common.{◌∙◌, length-set, length-take, take_all, take-suc-set, leb-true, leb-false, ne_eqb, lt-ltb}
+use Rattle.std.proofs.Common.{◌∙◌, length-set, length-take, take_all, take-suc-set, leb-true, leb-false, lt-ltb}
 use Rattle.std.proofs.Math.Bool.{false}
 use mathlib.Core.List.{List, [], ◌∷◌, ◌++◌, append_assoc, append-nil}
-use Rattle.std.proofs.Math.Option.{Option, none, some}
 use Prim.Native.Nat.{ℕ, zero, suc, ◌+◌, min, ◌≤◌, ◌<◌}
 use native.Mathlib.Omega.{arith}
 use Rattle.std.proofs.Math.ListN.{length, take, length-append}
@@ -24,7 +23,9 @@ use Rattle.values.specs.PutLaws.{put-length, put-past}
 use Rattle.transcript.specs.declared.set_text.Place.{Place}
 use Rattle.transcript.specs.declared.beat_line.HalfLine.{HalfLine}
 use Rattle.transcript.specs.Input.{Input, is_star, beat_lines, cut, input_of}
-use Rattle.transcript.specs.BeatLine.{Said, beat, program_end, control_reset, line_said}
+use Rattle.transcript.specs.declared.beat_line.Said.{Said}
+use Rattle.transcript.specs.declared.beat_line.Said.TheVariants.{Beat, ProgramEnd, ControlReset}
+use Rattle.transcript.specs.BeatLine.{line_said}
 use Rattle.transcript.specs.Output.{load_line, error_line}
 use Rattle.transcript.specs.declared.session.Session.{Session}
 use Rattle.transcript.specs.declared.totals.Totals.{Totals}
@@ -33,10 +34,12 @@ use Rattle.transcript.specs.Totals.{last_line, no_totals, ended}
 use Rattle.transcript.specs.Tally.{said_counted, said_printed}
 use Rattle.transcript.specs.Synrun.{beats_text, loaded_text, printout}
 use Rattle.transcript.specs.HalfLine.{no_half_line, read_on, without_cr, is_untouched, read_said}
-use Rattle.transcript.specs.Intake.{TEXT, BEATS, OVER, bytes_taken, bytes_kept, line_over, line_kept, input_over}
+use Rattle.transcript.specs.declared.intake.Phase.TheVariants.{Text, Beats, Over}
+use Rattle.transcript.specs.Intake.{bytes_taken, bytes_kept, line_over, line_kept, input_over}
 use Rattle.transcript.specs.IntakeLaws.{beats-input, star-line, star-line-kept, plain-line, plain-line-kept, over-input}
 use Rattle.transcript.specs.Machine.{Machine, Fed, begun, with_totals, stopped, standing, opened, said_of, said_end, arrival_worked, chunk, line_end, fed_lines, end_after, last_output, finished}
-use Rattle.transcript.specs.SetText.{kept_size, star_ends, place_on, place_end, last_size}
+use Rattle.transcript.specs.declared.set_text.Star.TheVariants.{Empty}
+use Rattle.transcript.specs.SetText.{is_alone, kept_size, star_ends, place_on, place_end, last_size}
 use Rattle.transcript.specs.StarLaws.{star-last, star-ended, cut-star, cut-last, cut-here, cut_later}
 use Rattle.transcript.specs.SessionRoomLaws.{by_code, by_lent, over-chunk, over-line}
 use Rattle.sessions.specs.HalfLineLaws.{by_option}
@@ -65,66 +68,66 @@ prints-line m l k ls =
 
 -- ---- over
 
-end-over : (s : List ℕ) (x : Session) → x.intake.phase ≡ OVER → end_after s x ≡ []
+end-over : (s : List ℕ) (x : Session) → x.intake.phase ≡ Over → end_after s x ≡ []
 unfolding end_after
-end-over s x o = simp (end_after, ne_eqb x.intake.phase BEATS (λ g. omega arith))
+end-over s x o = rw (end_after, o)
 
-pub over-finished : (m : Machine) → m.session.intake.phase ≡ OVER → finished m ≡ []
+pub over-finished : (m : Machine) → m.session.intake.phase ≡ Over → finished m ≡ []
 unfolding finished arrival_worked
 over-finished m o = rw (over-input m.session.intake o) (end-over m.set m.session o)
 
-pub over-fed : (ls : List (List ℕ)) (m : Machine) → m.session.intake.phase ≡ OVER → fed_lines m ls ≡ standing m
+pub over-fed : (ls : List (List ℕ)) (m : Machine) → m.session.intake.phase ≡ Over → fed_lines m ls ≡ standing m
 unfolding fed_lines
 over-fed [] m o = refl
 over-fed (l ∷ []) m o = rw (over-chunk m l o)
 over-fed (l ∷ k ∷ ls) m o = rw (over-chunk m l o, over-line m o) (over-fed (k ∷ ls) m o)
 
-pub over-prints : (ls : List (List ℕ)) (m : Machine) → m.session.intake.phase ≡ OVER → prints m ls ≡ []
+pub over-prints : (ls : List (List ℕ)) (m : Machine) → m.session.intake.phase ≡ Over → prints m ls ≡ []
 unfolding prints
 over-prints ls m o = rw (over-fed ls m o) (over-finished m o)
 
-over-onward : (m : Machine) (o : List ℕ) (ls : List (List ℕ)) → m.session.intake.phase ≡ OVER → onward (record { machine = m; output = o }) ls ≡ o
+over-onward : (m : Machine) (o : List ℕ) (ls : List (List ℕ)) → m.session.intake.phase ≡ Over → onward (record { machine = m; output = o }) ls ≡ o
 over-onward m o ls h = ap (λ (y : List ℕ). o ++ y) (over-prints ls m h) ∙ append-nil o
 
 -- ---- the lines behind the line *
 
 -- each is counted as a line, and leaves the view
-pub said-lines : (s : List ℕ) (n : Totals) (x : Said) → (said_counted s n x).lines ≡ n.lines + 1
-said-lines s n (beat l) = refl
-said-lines s n program_end = refl
-said-lines s n control_reset = refl
+pub said-lines : (s : List ℕ) (n : Totals) (x : Said) → (said_counted s n x).counts.lines ≡ n.counts.lines + 1
+said-lines s n (Beat l) = refl
+said-lines s n ProgramEnd = refl
+said-lines s n ControlReset = refl
 
-pub said-view : (s : List ℕ) (n : Totals) (x : Said) → (said_counted s n x).view ≡ n.view
-said-view s n (beat l) = refl
-said-view s n program_end = refl
-said-view s n control_reset = refl
+pub said-view : (s : List ℕ) (n : Totals) (x : Said) → (said_counted s n x).counts.view ≡ n.counts.view
+said-view s n (Beat l) = refl
+said-view s n ProgramEnd = refl
+said-view s n ControlReset = refl
 
 module _ (s : List ℕ) (n : Totals) where
   -- after the last line nothing more is read
-  pub beats-over : (ls : List (List ℕ)) → eqb n.lines last_line ≡ true → beats_text s n ls ≡ ended s n
+  pub beats-over : (ls : List (List ℕ)) → eqb n.counts.lines last_line ≡ true → beats_text s n ls ≡ ended s n
   unfolding beats_text
   beats-over [] h = refl
-  beats-over (l ∷ ls) h = either (λ (y : List ℕ). y ≡ ended s n) (eqb n.lines last_line) (λ e. refl) (λ e. clash (cc))
+  beats-over (l ∷ ls) h = either (λ (y : List ℕ). y ≡ ended s n) (eqb n.counts.lines last_line) (λ e. refl) (λ e. clash (cc))
 
-  pub beats-none : (l : List ℕ) (ls : List (List ℕ)) → eqb n.lines last_line ≡ false → line_said l ≡ none → beats_text s n (l ∷ ls) ≡ error_line (n.lines + 1)
+  pub beats-none : (l : List ℕ) (ls : List (List ℕ)) → eqb n.counts.lines last_line ≡ false → line_said l ≡ None → beats_text s n (l ∷ ls) ≡ error_line (n.counts.lines + 1)
   unfolding beats_text
   beats-none l ls h g =
-      let P : List ℕ → Type 0 = λ y. y ≡ error_line (n.lines + 1) in
-      either P (eqb n.lines last_line) (λ e. clash (cc)) (λ e. by_lent P (line_said l) (λ u. refl) (λ x u. clash (cc)))
+      let P : List ℕ → Type 0 = λ y. y ≡ error_line (n.counts.lines + 1) in
+      either P (eqb n.counts.lines last_line) (λ e. clash (cc)) (λ e. by_lent P (line_said l) (λ u. refl) (λ x u. clash (cc)))
 
-  pub beats-some : (l : List ℕ) (ls : List (List ℕ)) (x : Said) → eqb n.lines last_line ≡ false → line_said l ≡ some x →
+  pub beats-some : (l : List ℕ) (ls : List (List ℕ)) (x : Said) → eqb n.counts.lines last_line ≡ false → line_said l ≡ Some x →
       beats_text s n (l ∷ ls) ≡ said_printed s n x ++ beats_text s (said_counted s n x) ls
   unfolding beats_text
   beats-some l ls x h g =
       let P : List ℕ → Type 0 = λ y. y ≡ said_printed s n x ++ beats_text s (said_counted s n x) ls in
-      either P (eqb n.lines last_line) (λ e. clash (cc)) (λ e. by_lent P (line_said l) (λ u. clash (cc)) (λ y u. let q : y ≡ x = cc in rw q))
+      either P (eqb n.counts.lines last_line) (λ e. clash (cc)) (λ e. by_lent P (line_said l) (λ u. clash (cc)) (λ y u. let q : y ≡ x = cc in rw q))
 
 -- a machine that reads such a line, with what was read of it
 abbrev beating : List ℕ → List ℕ → Place → Totals → HalfLine → Machine
 beating t s p n r = record {
   text = t;
   set = s;
-  session = record { intake = record { phase = BEATS; place = p; half = r }; totals = n };
+  session = record { intake = record { phase = Beats; place = p; half = r }; totals = n };
 }
 
 module _ (t s : List ℕ) (p : Place) (n : Totals) where
@@ -134,9 +137,9 @@ module _ (t s : List ℕ) (p : Place) (n : Totals) where
 
   -- an ill-formed line
   abbrev ill_ended : Fed
-  ill_ended = record { machine = record { text = t; set = s; session = stopped awaiting.session }; output = error_line (n.lines + 1) }
+  ill_ended = record { machine = record { text = t; set = s; session = stopped awaiting.session }; output = error_line (n.counts.lines + 1) }
 
-  end_none : said_end awaiting none ≡ ill_ended
+  end_none : said_end awaiting None ≡ ill_ended
   unfolding said_end
   end_none = refl
 
@@ -151,13 +154,13 @@ module _ (t s : List ℕ) (p : Place) (n : Totals) where
     abbrev one_said : Fed
     one_said = record { machine = beating t s p next no_half_line; output = said_printed s n x }
 
-    said-last-line : eqb next.lines last_line ≡ true → said_end awaiting (some x) ≡ last_said
+    said-last-line : eqb next.counts.lines last_line ≡ true → said_end awaiting (Some x) ≡ last_said
     unfolding said_end said_of
-    said-last-line h = either (λ (y : Fed). y ≡ last_said) (eqb next.lines last_line) (λ e. refl) (λ e. clash (cc))
+    said-last-line h = either (λ (y : Fed). y ≡ last_said) (eqb next.counts.lines last_line) (λ e. refl) (λ e. clash (cc))
 
-    said_more : eqb next.lines last_line ≡ false → said_end awaiting (some x) ≡ one_said
+    said_more : eqb next.counts.lines last_line ≡ false → said_end awaiting (Some x) ≡ one_said
     unfolding said_end said_of
-    said_more h = either (λ (y : Fed). y ≡ one_said) (eqb next.lines last_line) (λ e. clash (cc)) (λ e. refl)
+    said_more h = either (λ (y : Fed). y ≡ one_said) (eqb next.counts.lines last_line) (λ e. clash (cc)) (λ e. refl)
 
   -- a line with its LF, and a last line without
   line_read_lem : (l : List ℕ) → line_end (chunk awaiting l) ≡ said_end awaiting (read_said (without_cr (read_on no_half_line l)))
@@ -170,24 +173,24 @@ module _ (t s : List ℕ) (p : Place) (n : Totals) where
 
   something-read : (b : ℕ) (bs : List ℕ) → finished (chunk awaiting (b ∷ bs)) ≡ last_output (said_end awaiting (read_said (read_on no_half_line (b ∷ bs))))
   unfolding finished chunk bytes_taken bytes_kept arrival_worked
-  something-read b bs = rw (beats-input (record { phase = BEATS; place = p; half = read_on no_half_line (b ∷ bs) }) refl read)
+  something-read b bs = rw (beats-input (record { phase = Beats; place = p; half = read_on no_half_line (b ∷ bs) }) refl read)
     where
       read : is_untouched (read_on no_half_line (b ∷ bs)) ≡ false
       read = decide (is_untouched (read_on no_half_line (b ∷ bs)) ≡ false) (is_untouched (read_on no_half_line (b ∷ bs))) (λ e. let z = (untouched (b ∷ bs)).0 e in clash (cc)) (λ e. e)
 
   -- the last line, without an LF
-  last-said : (l : List ℕ) → eqb n.lines last_line ≡ false → last_output (said_end awaiting (line_said l)) ≡ beats_text s n (l ∷ [])
+  last-said : (l : List ℕ) → eqb n.counts.lines last_line ≡ false → last_output (said_end awaiting (line_said l)) ≡ beats_text s n (l ∷ [])
   unfolding end_after beats_text
   last-said l h =
       let on : Option Said → List ℕ = λ o. last_output (said_end awaiting o) in
       by_option (on (line_said l) ≡ beats_text s n (l ∷ [])) (line_said l)
-      (λ e. ap on e ∙ ap last_output end_none ∙ append-nil (error_line (n.lines + 1)) ∙ sym (beats-none s n l [] h e))
-      (λ x e. decide (on (line_said l) ≡ beats_text s n (l ∷ [])) (eqb (next x).lines last_line)
+      (λ e. ap on e ∙ ap last_output end_none ∙ append-nil (error_line (n.counts.lines + 1)) ∙ sym (beats-none s n l [] h e))
+      (λ x e. decide (on (line_said l) ≡ beats_text s n (l ∷ [])) (eqb (next x).counts.lines last_line)
       (λ g. ap on e ∙ ap last_output (said-last-line x g) ∙ append-nil (said_printed s n x ++ ended s (next x)) ∙ sym (beats-some s n l [] x h e))
       (λ g. ap on e ∙ ap last_output (said_more x g) ∙ sym (beats-some s n l [] x h e)))
 
 module _ (t s : List ℕ) (p : Place) where
-  beats-print : (ls : List (List ℕ)) (n : Totals) → (ls ≡ [] → ⊥) → eqb n.lines last_line ≡ false → prints (awaiting t s p n) ls ≡ beats_text s n (beat_lines ls)
+  beats-print : (ls : List (List ℕ)) (n : Totals) → (ls ≡ [] → ⊥) → eqb n.counts.lines last_line ≡ false → prints (awaiting t s p n) ls ≡ beats_text s n (beat_lines ls)
   unfolding beat_lines
   beats-print [] n g h = absurd (g refl)
   beats-print ([] ∷ []) n g h = prints-last (awaiting t s p n) [] ∙ nothing_read t s p n
@@ -201,8 +204,8 @@ module _ (t s : List ℕ) (p : Place) where
       let on : Option Said → List ℕ = λ o. to (said_end (awaiting t s p n) o) in
       prints-line (awaiting t s p n) l k ls ∙ ap to (line_read_lem t s p n l) ∙ ap on (said-ended l)
       ∙ by_option (on (line_said c) ≡ beats_text s n (c ∷ rest)) (line_said c)
-      (λ e. ap on e ∙ ap to (end_none t s p n) ∙ over-onward _ (error_line (n.lines + 1)) (k ∷ ls) refl ∙ sym (beats-none s n c rest h e))
-      (λ x e. decide (on (line_said c) ≡ beats_text s n (c ∷ rest)) (eqb (next t s p n x).lines last_line)
+      (λ e. ap on e ∙ ap to (end_none t s p n) ∙ over-onward _ (error_line (n.counts.lines + 1)) (k ∷ ls) refl ∙ sym (beats-none s n c rest h e))
+      (λ x e. decide (on (line_said c) ≡ beats_text s n (c ∷ rest)) (eqb (next t s p n x).counts.lines last_line)
       (λ z. ap on e ∙ ap to (said-last-line t s p n x z) ∙ over-onward _ (said_printed s n x ++ ended s (next t s p n x)) (k ∷ ls) refl
       ∙ ap (λ (y : List ℕ). said_printed s n x ++ y) (sym (beats-over s (next t s p n x) rest z)) ∙ sym (beats-some s n c rest x h e))
       (λ z. ap on e ∙ ap to (said_more t s p n x z) ∙ ap (λ (y : List ℕ). said_printed s n x ++ y) (beats-print (k ∷ ls) (next t s p n x) (λ u. clash (cc)) z)
@@ -285,13 +288,13 @@ kept-load v d bs =
 
 -- at the beginning of a line, with n bytes kept
 abbrev at_line : ℕ → Place
-at_line n = record { size = n; start = n; star = 0 }
+at_line n = record { size = n; start = n; star = Empty }
 
 abbrev texting : View → List ℕ → List ℕ → Place → Machine
 texting v t s p = record {
   text = t;
   set = s;
-  session = record { intake = record { phase = TEXT; place = p; half = no_half_line }; totals = no_totals v };
+  session = record { intake = record { phase = Text; place = p; half = no_half_line }; totals = no_totals v };
 }
 
 -- the text before what is left of the input
@@ -344,10 +347,10 @@ module _ (v : View) (t s : List ℕ) (p : Place) where
   unfolding finished input_over arrival_worked
   input-ends = opened-last (take (last_size p) t)
 
-  finished-star : eqb p.star 1 ≡ true → finished (texting v t s p) ≡ loaded_text v (record { text = take p.start t; beats = [] })
+  finished-star : is_alone p.star ≡ true → finished (texting v t s p) ≡ loaded_text v (record { text = take p.start t; beats = [] })
   finished-star h = input-ends ∙ ap (λ (b : Bool). loaded_text v (record { text = take (cond b p.start p.size) t; beats = [] })) h
 
-  finished-text : eqb p.star 1 ≡ false → finished (texting v t s p) ≡ loaded_text v (record { text = take p.size t; beats = [] })
+  finished-text : is_alone p.star ≡ false → finished (texting v t s p) ≡ loaded_text v (record { text = take p.size t; beats = [] })
   finished-text h = input-ends ∙ ap (λ (b : Bool). loaded_text v (record { text = take (cond b p.start p.size) t; beats = [] })) h
 
   -- the line * is over

@@ -1,18 +1,18 @@
 -- Any two results that a session's promise allows are equal: for each public call, its answer and what is lent. Assumes nothing.
-use Rattle.std.specs.Prelude.{◌≡◌, Bool, List, ℕ, eqb, length}
+use Rattle.std.specs.Prelude.{◌≡◌, Bool, List, ℕ, length}
 use Rattle.values.specs.Unique.{unique}
 use Rattle.values.specs.PutAt.{put_at}
 use Rattle.transcript.specs.declared.session.Session.{Session}
 use Rattle.transcript.specs.declared.session.Stepped.{Stepped}
 use Rattle.transcript.specs.declared.view.View.{View}
-use Rattle.transcript.specs.Intake.{OVER}
+use Rattle.transcript.specs.Intake.{is_over}
 use Rattle.transcript.specs.Machine.{begun, finished_text, worked}
 use Rattle.transcript.specs.SessionAnswers.{machine_of, step_answer}
 
 pub begin-unique : (view : View) (x y : Session) → x ≡ begun view → y ≡ begun view → x ≡ y
 begin-unique view x y p q = unique p q
 
-pub over-unique : (session : Session) (x y : Bool) → x ≡ eqb session.intake.phase OVER → y ≡ eqb session.intake.phase OVER → x ≡ y
+pub over-unique : (session : Session) (x y : Bool) → x ≡ is_over session.intake → y ≡ is_over session.intake → x ≡ y
 over-unique session x y p q = unique p q
 
 module _ (session : Session) (text set out : List ℕ) where

@@ -14,12 +14,13 @@ use Rattle.tokens.specs.AnswerLaws.{Ok, is_ok, bind_ok, ok-then}
 use Rattle.working.specs.Operators.{is_yes, from_worked}
 use Rattle.working.specs.Working.{right_value, condition_value, variable_at}
 use Rattle.checking.specs.declared.line.Line.{Line}
-use Rattle.engine.specs.Set.{no_line, rank_in, curve_line}
+use Rattle.engine.specs.Set.{no_line, rank_in, defined_curve}
 use Rattle.engine.specs.ActCount.{is_acted}
-use Rattle.engine.specs.Action.{World, Note, Did, with_vars, from_value_or_alarm, taken_at, assignment_of, curve_assigned, synfct_of, lock_of, command_of, drive_of, action_of}
+use Rattle.engine.specs.Action.{World, Note, Did, with_vars, from_reached, taken_at, assignment_of, curve_assigned, synfct_of, lock_of, command_of, drive_of, action_of}
 use Rattle.engine.specs.Actions.{actions_of}
 use Rattle.engine.specs.Drive.{drive_order}
-use Rattle.engine.specs.Write.{Vars, write_to}
+use Rattle.engine.specs.declared.write.Vars.{Vars}
+use Rattle.engine.specs.Write.{write_to}
 use Rattle.engine.specs.Keyword.{tries, acts}
 use Rattle.engine.specs.Turn.{Entry, worked, Turned, remembered, counted, takes_turn, do_turn, try_turn, turn_of, turns_from}
 
@@ -40,7 +41,7 @@ unfolding synfct_of
 synfct-variables s x p P h =
     let w = token s (p + 4) in
     bind_ok P (from_worked (variable_at s x.vars.r x.vars.cells (p + 9))) _
-    (λ a q. bind_ok P (curve_assigned x.vars (curve_line s (whole (token s (p + 2)))).curve a w (index_at s w (p + 4))) _ (λ v q. h v))
+    (λ a q. bind_ok P (curve_assigned x.vars (defined_curve s (whole (token s (p + 2)))) a w (index_at s w (p + 4))) _ (λ v q. h v))
 
 module _ (s numbers : List ℕ) (cancelled : List Bool) (number : ℕ) where
   -- each lock and release that is written down names a line that is not cancelled, and no action writes the word of the lines that acted
@@ -56,7 +57,7 @@ module _ (s numbers : List ℕ) (cancelled : List Bool) (number : ℕ) where
       (λ e. bind_ok (Fair x) (taken_at s x.vars (p + 5)) _ (λ a q. bind_ok (Fair x) (write_to a.vars (get_or s p 0) (index_at s (get_or s p 0) p) a.value) _ (λ v q. (tt, refl))))
       (λ e. either (Ok (Fair x)) (is_drive (get_or s p 0))
       (λ e. if_not (Ok (Fair x)) (is_axis (get_or s (p + 2) 0)) (λ e. tt)
-      (λ e. bind_ok (Fair x) (from_value_or_alarm (right_value s x.vars.r x.vars.cells (p + 5))) _
+      (λ e. bind_ok (Fair x) (from_reached (right_value s x.vars.r x.vars.cells (p + 5))) _
       (λ a q. bind_ok (Fair x) (drive_order number (get_or s p 0) (index_at s (get_or s p 0) p) a.0) _ (λ o q. (tt, refl)))))
       (λ e. either (Ok (Fair x)) (eqb (get_or s p 0) SYNFCT) (λ e. synfct-variables s x p (Fair x) (λ v. (tt, refl)))
       (λ e. either (Ok (Fair x)) (eqb (get_or s p 0) M) (λ e. (tt, refl))
@@ -111,7 +112,7 @@ module _ (s numbers : List ℕ) (cancelled : List Bool) (automatic : Bool) where
         let m = get_or x.memory k false in
         if_not (Ok (Below (k + 1))) (takes_turn s numbers cancelled automatic l k x) (λ e. next_bit false k x.acted x.acted h (omega arith)) λ e.
         if_not (Ok (Below (k + 1))) (tries l.keyword m) (λ e. done_below x [] (acts l.keyword m false) h) λ e.
-        bind_ok (Below (k + 1)) (from_value_or_alarm (condition_value s x.vars.r x.vars.cells l.condition)) _
+        bind_ok (Below (k + 1)) (from_reached (condition_value s x.vars.r x.vars.cells l.condition)) _
         (λ a q. done_below (remembered x k _) (worked k (is_yes a.0) ∷ []) (acts l.keyword m (is_yes a.0)) h)
 
   -- the turns of n lines from rank k on add no bit beyond theirs

@@ -1,10 +1,11 @@
 -- Laws of actions: those of a line without a fault keep the beat under way sound, end where the check ended, and stop only by an alarm, never by 22. Nothing is assumed.
-use Rattle.std.specs.Prelude.{◌≡◌, refl, Bool, ◌&&◌, List, ℕ, ◌+◌, ◌≤◌, ◌<◌, leb, ltb, ℤ, pos, get_or}
+use Rattle.std.specs.Prelude.{◌≡◌, refl, Bool, ◌&&◌, List, ℕ, ◌+◌, ◌≤◌, ◌<◌, leb, ltb, ℤ, pos, get_or, is_some}
 use Rattle.std.proofs.Common.{◌∙◌, arith}
 use Rattle.std.proofs.Math.Bool.{true, false}
 use Rattle.std.proofs.Math.Dec.{eqb}
 use borrow.Author.Tests.{eqb-true, eqb-false, leb-true, le-leb, ltb-true}
-use Rattle.values.specs.Codes.{outside, not_allowed, unsound}
+use Rattle.values.specs.Codes.{outside, unsound, code_of}
+use Rattle.values.specs.declared.codes.Alarm.TheVariants.{NotAllowed}
 use Rattle.values.specs.Choice.{either, if_not, either_both, both, and-true, chosen}
 use Rattle.values.specs.Value.{in_range, less_than, feed_of}
 use Rattle.values.specs.Curve.{curve_of}
@@ -18,12 +19,14 @@ use Rattle.checking.specs.Fault.{Sight, wanting, sight, fault_for, is_removal, a
 use Rattle.working.specs.Variables.{variable_value}
 use Rattle.working.specs.Operators.{from_worked}
 use Rattle.working.specs.Working.{told, value_over, right_value, condition_value, variable_at}
-use Rattle.engine.specs.Set.{curve_line, rank_in, is_known, is_defined, curves_in, set_table, sound_lines}
-use Rattle.engine.specs.Write.{Vars, change_fifo, write_to}
-use Rattle.engine.specs.Action.{World, Taken, Did, did, from_value_or_alarm, lock_of, taken_at, assignment_of, curve_assigned, synfct_of, drive_of, command_of, action_of}
+use Rattle.engine.specs.Set.{defined_curve, rank_in, is_known, is_defined, curves_in, set_table, sound_lines, lines_of, lines_of}
+use Rattle.engine.specs.Write.{change_fifo, write_to}
+use Rattle.engine.specs.Action.{World, Taken, Did, did, lock_of, taken_at, assignment_of, curve_assigned, synfct_of, drive_of, command_of, action_of, from_reached}
+use Rattle.engine.specs.declared.write.Change.TheVariants.{Remove}
+use Rattle.engine.specs.declared.write.Vars.{Vars}
 use Rattle.engine.specs.Drive.{drive_order}
 use Rattle.soundness.specs.GoodAnswers.{Holds, holds_then}
-use Rattle.soundness.specs.SetSoundLaws.{curve-defined, rank-inside}
+use Rattle.soundness.specs.SetSoundLaws.{rank-inside}
 use Rattle.soundness.specs.CellSoundLaws.{FlagsRight, lock-keeps}
 use Rattle.soundness.specs.WriteSoundLaws.{lower-zero, unless-zero, VarsSound, ChangedSound, remove-keeps, worked-holds, taken-alarm, write_keeps}
 use Rattle.soundness.specs.PassLaws.{between-some}
@@ -59,7 +62,7 @@ runs-lower P n x (ends c) a h = tt
 abbrev ValueFine : (ℤ × ℕ) → Type 0
 ValueFine a = in_range a.0 ≡ true
 
-value-runs : (t : Bool) (x : Read ℤ) (y : Read Sight) → InStep FitsSight StopsSight x y → Runs ValueFine (λ a. a.1) (from_value_or_alarm (told x)) (fault_for t y)
+value-runs : (t : Bool) (x : Read ℤ) (y : Read Sight) → InStep FitsSight StopsSight x y → Runs ValueFine (λ a. a.1) (from_reached (told x)) (fault_for t y)
 value-runs t (read v p) (read a q) h = λ e. (h.1, h.0 (lower-zero (wanting t a) a.fault e).1)
 value-runs t (read v p) (ends k) h = absurd h
 value-runs t (ends c) (read a q) h = λ e. h (lower-zero (wanting t a) a.fault e).1
@@ -74,17 +77,17 @@ abbrev TakenSound : Taken → Type 0
 TakenSound a = (in_range a.value ≡ true) × VarsSound a.vars
 
 module _ (s : List ℕ) where
-  right-runs : (x : Vars) (p : ℕ) → VarsSound x → Runs ValueFine (λ a. a.1) (from_value_or_alarm (right_value s x.r x.cells p)) (fault_for false (sum_at s sight set_size p))
+  right-runs : (x : Vars) (p : ℕ) → VarsSound x → Runs ValueFine (λ a. a.1) (from_reached (right_value s x.r x.cells p)) (fault_for false (sum_at s sight set_size p))
   unfolding right_value
   right-runs x p h =
       value-runs false (sum_at s (value_over x.r x.cells) set_size p) (sum_at s sight set_size p)
       (sum-in-step FitsSight StopsSight s (value_over x.r x.cells) sight (value-steps x.r x.cells h) set_size p)
 
   -- a condition without a fault stops only by an alarm
-  pub condition-runs : (x : Vars) (p : ℕ) → VarsSound x → Clear (fault_for true (expression_at s sight set_size p)) → Holds (λ a. Unit {0}) (from_value_or_alarm (condition_value s x.r x.cells p))
+  pub condition-runs : (x : Vars) (p : ℕ) → VarsSound x → Clear (fault_for true (expression_at s sight set_size p)) → Holds (λ a. Unit {0}) (from_reached (condition_value s x.r x.cells p))
   unfolding condition_value
   condition-runs x p h c =
-      runs-clear (from_value_or_alarm (told (expression_at s (value_over x.r x.cells) set_size p))) (fault_for true (expression_at s sight set_size p))
+      runs-clear (from_reached (told (expression_at s (value_over x.r x.cells) set_size p))) (fault_for true (expression_at s sight set_size p))
       (value-runs true (expression_at s (value_over x.r x.cells) set_size p) (expression_at s sight set_size p)
       (expression-in-step FitsSight StopsSight s (value_over x.r x.cells) sight (value-steps x.r x.cells h) set_size p))
       c
@@ -93,9 +96,9 @@ module _ (s : List ℕ) where
   unfolding taken_at assigned_at is_removal
   taken_runs x p h =
       either_both (Runs TakenSound (λ a. a.next)) (is_removal s p)
-      (λ e f. holds_then ChangedSound (λ (a : Taken). (a.next ≡ p + 4) × TakenSound a) (change_fifo x.r x.cells 1 (token s p) (pos 0)) _
-      (remove-keeps x.r x.cells (token s p) h (both (is_fifo (token s p)) _ e).0 (pos 0)) (λ a d. (refl, (d.1, d.0)))) λ e.
-      runs_map ValueFine (λ a. a.1) TakenSound (λ a. a.next) (from_value_or_alarm (right_value s x.r x.cells p)) _ (fault_for false (sum_at s sight set_size p))
+      (λ e f. holds_then ChangedSound (λ (a : Taken). (a.next ≡ p + 4) × TakenSound a) (change_fifo x.r x.cells Remove (token s p)) _
+      (remove-keeps x.r x.cells (token s p) h (both (is_fifo (token s p)) _ e).0) (λ a d. (refl, (d.1, d.0)))) λ e.
+      runs_map ValueFine (λ a. a.1) TakenSound (λ a. a.next) (from_reached (right_value s x.r x.cells p)) _ (fault_for false (sum_at s sight set_size p))
       (right-runs x p h) (λ a q n r. (n, (r, h)))
 
 -- ---- curves
@@ -121,14 +124,14 @@ synfct-there s p h =
 variable-holds : (x : Vars) (w i : ℕ) → VarsSound x → read_fault w i ≡ 0 → Holds (λ (v : ℤ). in_range v ≡ true) (from_worked (variable_value x.r x.cells w i))
 variable-holds x w i h f =
     worked-holds (λ (v : ℤ). in_range v ≡ true) (variable_value x.r x.cells w i) (variable-ranged x.r x.cells w i h.state.ranged h.ranged)
-    (λ k e. calm-not-22 k (variable-calmed x.r x.cells w i h f k e))
+    (λ k e. calm-not-22 (code_of k) (variable-calmed x.r x.cells w i h f k e))
 
 -- a curve whose parameters are in range, assigned where the check allows it, keeps the variables sound
 curve-keeps : (x : Vars) (c : Curve) (a : ℤ) (w i : ℕ) → VarsSound x → CurveRanged c → write_fault w i ≡ 0 → Holds VarsSound (curve_assigned x c a w i)
 unfolding curve_assigned
 curve-keeps x c a w i h r f =
     holds_then (λ (y : ℤ). in_range y ≡ true) VarsSound (from_worked (curve_of c a)) _
-    (worked-holds (λ (y : ℤ). in_range y ≡ true) (curve_of c a) (curve-in-range c a r.lower r.upper) (λ k e z. let q = curve-alarm c a k e in omega arith))
+    (worked-holds (λ (y : ℤ). in_range y ≡ true) (curve_of c a) (curve-in-range c a r.lower r.upper) (λ k e z. let q = rw (curve-alarm c a k e) at z in omega arith))
     (λ y g. write_keeps x w i y h g f)
 
 -- ---- the beat under way
@@ -145,7 +148,7 @@ drive-any number w axis v =
     either (Holds (λ o. Unit {0})) (eqb w POS) (λ e. tt) λ e.
     if_not (Holds (λ o. Unit {0})) (eqb w FA) (λ e. tt) λ e.
     holds_then (λ u. Unit {0}) (λ o. Unit {0}) (from_worked (feed_of v)) _
-    (worked-holds (λ u. Unit {0}) (feed_of v) (λ u g. tt) (λ k g z. let q = taken-alarm (less_than (pos 0) v) v not_allowed k g in omega arith)) (λ u t. tt)
+    (worked-holds (λ u. Unit {0}) (feed_of v) (λ u g. tt) (λ k g z. let q = rw (← taken-alarm (less_than (pos 0) v) v NotAllowed k g) at z in omega arith)) (λ u t. tt)
 
 -- a drive that has its index names an axis, so its target fits a byte
 drive-axis : (s : List ℕ) (w p : ℕ) → is_indexed s w p ≡ true → is_drive w ≡ true → is_axis (token s (p + 2)) ≡ true
@@ -156,12 +159,12 @@ drive-axis s w p i d =
     let e = (both (eqb (get_or s (p + 3) 0) RIGHT) (is_index w t) (both (eqb (get_or s (p + 1) 0) LEFT) (eqb (get_or s (p + 3) 0) RIGHT && is_index w t) i).1).1 in
     rw (is_index, a) at e
 
-module _ (s : List ℕ) (sound : (sound_lines s).sound ≡ true) (cancelled : List Bool) (number : ℕ) where
+module _ (s : List ℕ) (sound : is_some (sound_lines s) ≡ true) (cancelled : List Bool) (number : ℕ) where
   abbrev Fine : World → Type 0
-  Fine = WorldSound (sound_lines s).count cancelled
+  Fine = WorldSound (lines_of s).count cancelled
 
   abbrev numbers : List ℕ
-  numbers = (sound_lines s).numbers
+  numbers = (lines_of s).numbers
 
   abbrev DidFine : Did → Type 0
   DidFine d = Fine d.world
@@ -193,14 +196,14 @@ module _ (s : List ℕ) (sound : (sound_lines s).sound ≡ true) (cancelled : Li
       let t = synfct-there s p e in
       holds_then (λ (y : ℤ). in_range y ≡ true) (λ (d : Did). (d.next ≡ p + 14) × DidFine d) (from_worked (variable_at s x.vars.r x.vars.cells (p + 9))) _
       (rw (variable-there s x.vars.r x.vars.cells (p + 9) t.0 t.1) (variable-holds x.vars u j h.vars b)) λ y r.
-      holds_then VarsSound (λ (d : Did). (d.next ≡ p + 14) × DidFine d) (curve_assigned x.vars (curve_line s n).curve y w i) _
-      (curve-keeps x.vars (curve_line s n).curve y w i h.vars (definition-ranged s _ (curve-defined s sound n d).0) a) (λ v t. (refl, record { vars = t; flags = h.flags }))
+      holds_then VarsSound (λ (d : Did). (d.next ≡ p + 14) × DidFine d) (curve_assigned x.vars (defined_curve s n) y w i) _
+      (curve-keeps x.vars (defined_curve s n) y w i h.vars (definition-ranged s _) a) (λ v t. (refl, record { vars = t; flags = h.flags }))
 
   drive-runs : (x : World) (w p : ℕ) → Fine x → is_axis (token s (p + 2)) ≡ true → Beside (drive_of s number x w p) (fault_for false (sum_at s sight set_size (p + 5)))
   unfolding drive_of
   drive-runs x w p h axis =
       if_not (λ z. Beside z (fault_for false (sum_at s sight set_size (p + 5)))) (is_axis (token s (p + 2))) (λ e. clash (cc)) λ e.
-      runs_map ValueFine (λ a. a.1) DidFine (λ d. d.next) (from_value_or_alarm (right_value s x.vars.r x.vars.cells (p + 5))) _
+      runs_map ValueFine (λ a. a.1) DidFine (λ d. d.next) (from_reached (right_value s x.vars.r x.vars.cells (p + 5))) _
       (fault_for false (sum_at s sight set_size (p + 5))) (right-runs s x.vars (p + 5) h.vars) λ a q n r.
       holds_then (λ o. Unit {0}) (λ (d : Did). (d.next ≡ q) × DidFine d) (drive_order number w (index_at s w p) a.0) _
       (drive-any number w (index_at s w p) a.0) (λ o u. (n, record { vars = h.vars; flags = h.flags }))
@@ -212,7 +215,7 @@ module _ (s : List ℕ) (sound : (sound_lines s).sound ≡ true) (cancelled : Li
       let r = rank_in numbers n 0 in
       if_not (Holds (λ (d : Did). (d.next ≡ q) × DidFine d)) (ltb r max_lines) (λ e. clash (cc)) λ e.
       either (Holds (λ (d : Did). (d.next ≡ q) × DidFine d)) (get_or cancelled r false) (λ c. (refl, h)) λ c.
-      let f = lock-keeps (sound_lines s).count x.locked cancelled x.memory h.flags r (rank-inside s n l (ltb-true r max_lines e)) b c in
+      let f = lock-keeps (lines_of s).count x.locked cancelled x.memory h.flags r (rank-inside s n l (ltb-true r max_lines e)) b c in
       (refl, record { vars = h.vars; flags = f })
 
   call-number : (w n : ℕ) → eqb w SETAL ≡ false → call_fault w n ≡ 0 → 1 ≤ n

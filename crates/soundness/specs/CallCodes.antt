@@ -1,6 +1,6 @@
 -- WHAT EACH CALL ANSWERS: the codes of a beat and of a host's call, for any set and any state; and a beat that stopped never answers 0. Theorems; nothing is assumed.
 -- (A load's are 0 to 14: `code-last` of loading.)
-use Rattle.std.specs.Prelude.{◌≡◌, ◌≢◌, Bool, true, false, ◌&&◌, List, [], ◌∷◌, ℕ, eqb, ltb, length, get_or}
+use Rattle.std.specs.Prelude.{◌≡◌, ◌≢◌, Bool, true, false, ◌&&◌, List, [], ◌∷◌, ℕ, ltb, length, get_or, Result, Ok, Err, IfErr, is_some}
 use Rattle.std.proofs.Math.Path.{refl}
 use Rattle.std.proofs.Math.Logic.{inl, inr}
 use Rattle.std.proofs.Common.{arith, ltb-true}
@@ -9,11 +9,10 @@ use Rattle.values.specs.Choice.{either, both}
 use Rattle.tokens.specs.Descent.{Answer, good, stop}
 use Rattle.engine.specs.declared.state.State.{State}
 use Rattle.engine.specs.declared.calls.Called.{Called}
-use Rattle.engine.specs.declared.named_line.Found.{Found}
-use Rattle.engine.specs.Set.{rank_in, sound_lines}
+use Rattle.engine.specs.Set.{rank_in, lines_of}
 use Rattle.engine.specs.Sound.{is_sound}
 use Rattle.engine.specs.Turn.{Turned}
-use Rattle.engine.specs.Beat.{buffer_size, are_inputs, Given, samples_in, all_turns, beat_begun, whole_beat, turned_answer, beat_answer}
+use Rattle.engine.specs.Beat.{buffer_size, are_inputs, Given, samples_in, all_turns, beat_begun, whole_beat, turned_answer, beat_answer, kept_in}
 use Rattle.engine.specs.declared.status.Status.{Status}
 use Rattle.engine.specs.Status.{status_of}
 use Rattle.engine.specs.NamedLine.{found_at, found}
@@ -47,12 +46,12 @@ module _ (s : List ℕ) (st : State) (g : Given) where
   unfolding whole_beat
   beat-stops =
       let P : Answer Turned → Type 0 = StopsBy BeatCode in
-      let turns = all_turns s (sound_lines s) st g in
+      let turns = all_turns s (lines_of s) st g in
       either P (is_sound s st)
       (λ e. either P (ltb (length g.buffer) buffer_size) (λ e. inl refl) λ e.
       either P (are_inputs g.lent)
-      (λ e. either P (samples_in st g).good
-      (λ e. stops_then BeatCode turns _ (turn-code turns (turns-by s (sound_lines s).numbers st.cancelled g.automatic (sound_lines s).items (sound_lines s).count 0 (beat_begun st g))) (λ t. tt))
+      (λ e. either P (is_some (samples_in st g))
+      (λ e. stops_then BeatCode turns _ (turn-code turns (turns-by s (lines_of s).numbers st.cancelled g.automatic (lines_of s).items (lines_of s).count 0 (beat_begun st g))) (λ t. tt))
       (λ e. inr (inr (inl refl))))
       (λ e. inr (inl refl)))
       (λ e. inr (inr (inr (inl refl))))
@@ -66,7 +65,7 @@ module _ (s : List ℕ) (st : State) (g : Given) where
   unfolding beat_answer
   beat-code = by_answer (whole_beat s st g) beat-stops
     where
-      by_answer : (x : Answer Turned) → StopsBy BeatCode x → OneOf (turned_answer st (samples_in st g).channels x).code (0 ∷ beat_codes)
+      by_answer : (x : Answer Turned) → StopsBy BeatCode x → OneOf (turned_answer st (kept_in st g) x).code (0 ∷ beat_codes)
       by_answer (good t) h = inl refl
       by_answer (stop c) h = inr h
 
@@ -75,24 +74,27 @@ module _ (s : List ℕ) (st : State) (g : Given) where
   unfolding beat_answer
   ended-well e = by_answer (whole_beat s st g) refl e
     where
-      by_answer : (x : Answer Turned) → whole_beat s st g ≡ x → (turned_answer st (samples_in st g).channels x).code ≡ 0 → (t : Turned) × (whole_beat s st g ≡ good t)
+      by_answer : (x : Answer Turned) → whole_beat s st g ≡ x → (turned_answer st (kept_in st g) x).code ≡ 0 → (t : Turned) × (whole_beat s st g ≡ good t)
       by_answer (good t) p e = (t, p)
       by_answer (stop c) p e = absurd (stopped-not-0 c p e)
 
 -- ---- a host's call
 
-found-code : (s : List ℕ) (st : State) (n : ℕ) → OneOf (found s st n).code (0 ∷ host_codes)
+abbrev RefusedBy : Result ℕ ℕ → Type 0
+RefusedBy f = IfErr f (λ c. OneOf c host_codes)
+
+found-code : (s : List ℕ) (st : State) (n : ℕ) → RefusedBy (found s st n)
 unfolding found found_at
 found-code s st n =
-    let P : Found → Type 0 = λ f. OneOf f.code (0 ∷ host_codes) in
-    let k = rank_in (sound_lines s).numbers n 0 in
-    either P (is_sound s st)
-    (λ e. either P (ltb k (sound_lines s).count) (λ e. either P (get_or st.cancelled k false) (λ e. inr (inr (inl refl))) (λ e. inl refl)) (λ e. inr (inr (inl refl))))
-    (λ e. inr (inl refl))
+    let k = rank_in (lines_of s).numbers n 0 in
+    either RefusedBy (is_sound s st)
+    (λ e. either RefusedBy (ltb k (lines_of s).count) (λ e. either RefusedBy (get_or st.cancelled k false) (λ e. inr (inl refl)) (λ e. tt)) (λ e. inr (inl refl)))
+    (λ e. inl refl)
 
-called-code : (st : State) (f : Found) (change : ℕ → State) → OneOf f.code (0 ∷ host_codes) → OneOf (called st f change).code (0 ∷ host_codes)
+called-code : (st : State) (f : Result ℕ ℕ) (change : ℕ → State) → RefusedBy f → OneOf (called st f change).code (0 ∷ host_codes)
 unfolding called
-called-code st f change h = either (λ (c : Called). OneOf c.code (0 ∷ host_codes)) (eqb f.code 0) (λ e. inl refl) (λ e. h)
+called-code st (Ok k) change h = inl refl
+called-code st (Err c) change h = inr h
 
 module _ (s : List ℕ) (st : State) where
   -- A HOST'S CALL ANSWERS 0, 22 or 40
@@ -117,6 +119,6 @@ module _ (s : List ℕ) (st : State) where
   unfolding control_reset_call
   control-reset-code = either (λ (c : Called). OneOf c.code (0 ∷ unsound ∷ [])) (is_sound s st) (λ e. inl refl) (λ e. inr (inl refl))
 
-  pub status-code : OneOf (status_of s st).code (0 ∷ unsound ∷ [])
+  pub status-code : IfErr (status_of s st) (λ k. k ≡ unsound)
   unfolding status_of
-  status-code = either (λ (x : Status). OneOf x.code (0 ∷ unsound ∷ [])) (is_sound s st) (λ e. inl refl) (λ e. inr (inl refl))
+  status-code = either (λ (x : Result Status ℕ). IfErr x (λ k. k ≡ unsound)) (is_sound s st) (λ e. tt) (λ e. refl)

@@ -1,6 +1,6 @@
 -- Laws of the host's calls lock, unlock, cancel and control reset: each keeps a sound state sound. Nothing is assumed.
-use Rattle.std.specs.Prelude.{◌≡◌, refl, Bool, true, false, ◌⊎◌, List, ◌++◌, ℕ, ◌+◌, ◌-◌, min, ◌≤◌, ◌<◌, eqb, ltb, ℤ, pos, length, get_or, take, drop, replicate}
-use Rattle.std.proofs.Common.{sym, ◌∙◌, inl, inr, arith, length-append, length-take, length-drop, get_or-take, get_or-drop, eqb-true, ltb-true}
+use Rattle.std.specs.Prelude.{◌≡◌, refl, Bool, true, false, ◌⊎◌, List, ◌++◌, ℕ, ◌+◌, ◌-◌, min, ◌≤◌, ◌<◌, ltb, ℤ, pos, length, get_or, take, drop, replicate, Result, Ok, Err, IfOk, IfErr}
+use Rattle.std.proofs.Common.{sym, ◌∙◌, inl, inr, arith, length-append, length-take, length-drop, get_or-take, get_or-drop, ltb-true}
 use Rattle.std.proofs.Math.Decide.{dec_lt}
 use Rattle.std.proofs.Math.ListN.{get_or-append, get_or-eq_default}
 use Rattle.values.specs.Choice.{either, if_not}
@@ -9,9 +9,8 @@ use Rattle.checking.specs.declared.line.Line.{Line}
 use Rattle.values.specs.FifoLaws.{same-each}
 use Rattle.engine.specs.declared.state.State.{State}
 use Rattle.engine.specs.declared.calls.Called.{Called}
-use Rattle.engine.specs.declared.named_line.Found.{Found}
 use Rattle.tokens.specs.Token.{max_lines}
-use Rattle.engine.specs.Set.{rank_in, sound_lines}
+use Rattle.engine.specs.Set.{rank_in, lines_of}
 use Rattle.working.specs.Variables.{marker_at, count_at, state_cells}
 use Rattle.engine.specs.Sound.{is_sound, is_cell, is_flag}
 use Rattle.engine.specs.NamedLine.{found_at, found}
@@ -24,27 +23,25 @@ use Rattle.soundness.specs.CellSoundLaws.{append-behind, CellsRight, FlagsRight,
 -- ---- the line that a call names
 
 -- one that is found is a line of the set that is not cancelled
-abbrev pub Named : ℕ → List Bool → Found → Type 0
-Named count cancelled f = f.code ≡ 0 → (f.rank < count) × (get_or cancelled f.rank false ≡ false)
+abbrev pub Named : ℕ → List Bool → Result ℕ ℕ → Type 0
+Named count cancelled f = IfOk f (λ k. (k < count) × (get_or cancelled k false ≡ false))
 
 -- so is what a call finds
-pub found-named : (s : List ℕ) (st : State) (n : ℕ) → Named (sound_lines s).count st.cancelled (found s st n)
+pub found-named : (s : List ℕ) (st : State) (n : ℕ) → Named (lines_of s).count st.cancelled (found s st n)
 unfolding found found_at
 found-named s st n =
-    let count = (sound_lines s).count in
-    let k = rank_in (sound_lines s).numbers n 0 in
-    if_not (Named count st.cancelled) (is_sound s st) (λ p e. absurd (omega arith)) λ p.
-    if_not (Named count st.cancelled) (ltb k count) (λ q e. absurd (omega arith)) λ q.
-    either (Named count st.cancelled) (get_or st.cancelled k false) (λ r e. absurd (omega arith)) (λ r e. (ltb-true k count q, r))
+    let count = (lines_of s).count in
+    let k = rank_in (lines_of s).numbers n 0 in
+    if_not (Named count st.cancelled) (is_sound s st) (λ p. tt) λ p.
+    if_not (Named count st.cancelled) (ltb k count) (λ q. tt) λ q.
+    either (Named count st.cancelled) (get_or st.cancelled k false) (λ r. tt) (λ r. (ltb-true k count q, r))
 
 -- a call keeps a sound state sound where its change does, for such a line
-called-keeps : (s : List ℕ) (st : State) (f : Found) (change : ℕ → State) → is_sound s st ≡ true → Named (sound_lines s).count st.cancelled f →
-    ((k : ℕ) → k < (sound_lines s).count → get_or st.cancelled k false ≡ false → is_sound s (change k) ≡ true) → is_sound s (called st f change).state ≡ true
+called-keeps : (s : List ℕ) (st : State) (f : Result ℕ ℕ) (change : ℕ → State) → is_sound s st ≡ true → Named (lines_of s).count st.cancelled f →
+    ((k : ℕ) → k < (lines_of s).count → get_or st.cancelled k false ≡ false → is_sound s (change k) ≡ true) → is_sound s (called st f change).state ≡ true
 unfolding called
-called-keeps s st f change h n keeps =
-    either (λ (c : Called). is_sound s c.state ≡ true) (eqb f.code 0)
-    (λ p. let m = n (eqb-true f.code 0 p) in keeps f.rank m.0 m.1)
-    (λ p. h)
+called-keeps s st (Ok k) change h n keeps = keeps k n.0 n.1
+called-keeps s st (Err c) change h n keeps = h
 
 locked-keeps : (s : List ℕ) (st : State) (n : ℕ) (b : Bool) → is_sound s st ≡ true → is_sound s (locked_call s st n b).state ≡ true
 unfolding locked_call
@@ -52,7 +49,7 @@ locked-keeps s st n b h =
     let e = state-right s st h in
     called-keeps s st (found s st n) (λ k. with_locked st k b) h (found-named s st n) λ k l c.
     right-state s (with_locked st k b) (set-sound s st h)
-    (record { cells = e.cells; channels = e.channels; flags = lock-keeps (sound_lines s).count st.locked st.cancelled st.memory e.flags k l b c; acts = e.acts })
+    (record { cells = e.cells; channels = e.channels; flags = lock-keeps (lines_of s).count st.locked st.cancelled st.memory e.flags k l b c; acts = e.acts })
 
 -- lock keeps a sound state sound
 pub lock_call-keeps : (s : List ℕ) (st : State) (n : ℕ) → is_sound s st ≡ true → is_sound s (lock_call s st n).state ≡ true
@@ -71,7 +68,7 @@ cancel_call-keeps s st n h =
     let e = state-right s st h in
     called-keeps s st (found s st n) (λ k. with_cancelled st k) h (found-named s st n) λ k l c.
     right-state s (with_cancelled st k) (set-sound s st h)
-    (record { cells = e.cells; channels = e.channels; flags = cancel-keeps (sound_lines s).count st.locked st.cancelled st.memory e.flags k l; acts = e.acts })
+    (record { cells = e.cells; channels = e.channels; flags = cancel-keeps (lines_of s).count st.locked st.cancelled st.memory e.flags k l; acts = e.acts })
 
 -- ---- control reset
 
@@ -146,8 +143,8 @@ control_reset_call-keeps s st h =
     (record {
       cells = cells-swapped st.r st.cells (zeroed st.cells) e.cells (zeroed-right st.cells e.cells.right) (zeroed-count st.cells);
       channels = e.channels;
-      flags = reset-flags (sound_lines s).count (sound_lines s).items st.locked st.cancelled st.memory e.flags;
-      acts = reset-keeps-counts (sound_lines s).count st.acts e.acts _ max_lines;
+      flags = reset-flags (lines_of s).count (lines_of s).items st.locked st.cancelled st.memory e.flags;
+      acts = reset-keeps-counts (lines_of s).count st.acts e.acts _ max_lines;
     })
 
 -- ---- what else each leaves, and what it answers
@@ -158,20 +155,18 @@ pub record Answers (st : State) (c : Called) : Type 0 where
   pub cells : c.state.cells ≡ st.cells
   pub code : Not22 c.code
 
-found-code : (s : List ℕ) (st : State) (n : ℕ) → is_sound s st ≡ true → Not22 (found s st n).code
+found-code : (s : List ℕ) (st : State) (n : ℕ) → is_sound s st ≡ true → IfErr (found s st n) Not22
 unfolding found found_at
 found-code s st n h =
-    let k = rank_in (sound_lines s).numbers n 0 in
-    if_not (λ (f : Found). Not22 f.code) (is_sound s st) (λ p. clash (cc)) λ p.
-    if_not (λ (f : Found). Not22 f.code) (ltb k (sound_lines s).count) (λ q e. omega arith) λ q.
-    either (λ (f : Found). Not22 f.code) (get_or st.cancelled k false) (λ r e. omega arith) (λ r e. omega arith)
+    let k = rank_in (lines_of s).numbers n 0 in
+    if_not (λ (f : Result ℕ ℕ). IfErr f Not22) (is_sound s st) (λ p. clash (cc)) λ p.
+    if_not (λ (f : Result ℕ ℕ). IfErr f Not22) (ltb k (lines_of s).count) (λ q e. omega arith) λ q.
+    either (λ (f : Result ℕ ℕ). IfErr f Not22) (get_or st.cancelled k false) (λ r e. omega arith) (λ r. tt)
 
-called-answers : (st : State) (f : Found) (change : ℕ → State) → Not22 f.code → ((k : ℕ) → ((change k).r ≡ st.r) × ((change k).cells ≡ st.cells)) → Answers st (called st f change)
+called-answers : (st : State) (f : Result ℕ ℕ) (change : ℕ → State) → IfErr f Not22 → ((k : ℕ) → ((change k).r ≡ st.r) × ((change k).cells ≡ st.cells)) → Answers st (called st f change)
 unfolding called
-called-answers st f change n same =
-    either (Answers st) (eqb f.code 0)
-    (λ p. record { r = (same f.rank).0; cells = (same f.rank).1; code = λ e. omega arith })
-    (λ p. record { r = refl; cells = refl; code = n })
+called-answers st (Ok k) change n same = record { r = (same k).0; cells = (same k).1; code = λ e. omega arith }
+called-answers st (Err c) change n same = record { r = refl; cells = refl; code = n }
 
 -- so of lock
 pub lock_call-answers : (s : List ℕ) (st : State) (n : ℕ) → is_sound s st ≡ true → Answers st (lock_call s st n)

@@ -1,5 +1,5 @@
 -- Laws of sound states, place by place: the computed tests of Sound say it of every cell, every FIFO and every line; and which changes keep it. Nothing is assumed.
-use Rattle.std.specs.Prelude.{◌≡◌, refl, Bool, true, false, cond, not, ◌&&◌, List, [], ◌∷◌, ◌++◌, ℕ, zero, suc, ◌+◌, ◌-◌, ◌≤◌, ◌<◌, ltb, ℤ, pos, length, get_or, set, take, drop, replicate}
+use Rattle.std.specs.Prelude.{◌≡◌, refl, Bool, true, false, cond, not, ◌&&◌, List, [], ◌∷◌, ◌++◌, ℕ, zero, suc, ◌+◌, ◌-◌, ◌≤◌, ◌<◌, ltb, ℤ, pos, length, get_or, set, take, drop, replicate, is_some}
 use Rattle.std.proofs.Common.{sym, ap, ◌∙◌, arith, length-append, length-take, length-drop, length-take-le, drop_at, drop-set-lt, get_or-take, get_or-drop, get_or-append-add, get_or-set_same, get_or-set_other, lt-ltb, le-ltb, le-leb, leb-true}
 use Rattle.std.proofs.Math.Decide.{ℕ_discrete, dec_lt}
 use Rattle.std.proofs.Math.ListN.{get_or-append, get_or-eq_default}
@@ -15,7 +15,7 @@ use Rattle.values.specs.Numbers.{clash}
 use Rattle.tokens.specs.Token.{max_lines}
 use Rattle.working.specs.Variables.{fifos, run_at, marker_at, param_at, timer_at, count_at, state_cells, run, as_count, count_in}
 use Rattle.engine.specs.declared.state.State.{State}
-use Rattle.engine.specs.Set.{sound_lines}
+use Rattle.engine.specs.Set.{sound_lines, lines_of}
 use Rattle.couplers.specs.Channel.{channel_count, fresh_channels, is_channel, are_channels}
 use Rattle.engine.specs.State.{power_on}
 use Rattle.engine.specs.ActCount.{is_act_count, are_act_counts}
@@ -264,19 +264,19 @@ right-sound count st h =
     (and-true h.channels (and-true (each-flags count st.locked st.cancelled st.memory h.flags) (each_counts count st.acts h.acts)))))
 
 -- a set and a state are sound: the set is
-pub set-sound : (s : List ℕ) (st : State) → is_sound s st ≡ true → (sound_lines s).sound ≡ true
+pub set-sound : (s : List ℕ) (st : State) → is_sound s st ≡ true → is_some (sound_lines s) ≡ true
 unfolding is_sound
-set-sound s st h = (both (sound_lines s).sound _ h).0
+set-sound s st h = (both (is_some (sound_lines s)) _ h).0
 
 -- the state is, for its lines
-pub state-right : (s : List ℕ) (st : State) → is_sound s st ≡ true → StateRight (sound_lines s).count st
+pub state-right : (s : List ℕ) (st : State) → is_sound s st ≡ true → StateRight (lines_of s).count st
 unfolding is_sound
-state-right s st h = sound-right (sound_lines s).count st (both (sound_lines s).sound _ h).1
+state-right s st h = sound-right (lines_of s).count st (both (is_some (sound_lines s)) _ h).1
 
 -- and both make the test true
-pub right-state : (s : List ℕ) (st : State) → (sound_lines s).sound ≡ true → StateRight (sound_lines s).count st → is_sound s st ≡ true
+pub right-state : (s : List ℕ) (st : State) → is_some (sound_lines s) ≡ true → StateRight (lines_of s).count st → is_sound s st ≡ true
 unfolding is_sound
-right-state s st e h = and-true e (right-sound (sound_lines s).count st h)
+right-state s st e h = and-true e (right-sound (lines_of s).count st h)
 
 -- ---- power-on
 
@@ -331,9 +331,9 @@ power-on-sound n =
     (each_counts n (replicate max_lines 0) (λ k l. rw (same-each {A = ℕ} max_lines k 0) (count_none n k)))
 
 -- so it is sound for every sound set
-pub power-on : (s : List ℕ) → (sound_lines s).sound ≡ true → is_sound s power_on ≡ true
+pub power-on : (s : List ℕ) → is_some (sound_lines s) ≡ true → is_sound s power_on ≡ true
 unfolding is_sound
-power-on s e = and-true e (power-on-sound (sound_lines s).count)
+power-on s e = and-true e (power-on-sound (lines_of s).count)
 
 -- ---- what keeps it: the flags
 

@@ -1,11 +1,11 @@
--- Laws of definitions: a line FCTDEF without a fault has its parameters in range and its lower limit not above the upper one. Nothing is assumed.
-use Rattle.std.specs.Prelude.{◌≡◌, Bool, true, false, cond, ◌&&◌, List, ℕ, ◌+◌, pos, drop}
-use Rattle.std.proofs.Math.Path.{refl}
-use Rattle.std.proofs.Common.{arith}
+-- Laws of definitions: the curve of a line FCTDEF has its parameters in range and its lower limit not above the upper one. Nothing is assumed.
+use Rattle.std.specs.Prelude.{Result, Ok, Err, ◌≡◌, Bool, true, false, cond, ◌&&◌, List, ℕ, ◌+◌, pos, drop}
+use Rattle.std.proofs.Math.Path.{refl, ap}
+use Rattle.std.proofs.Common.{arith, ◌∙◌}
 use Rattle.std.proofs.Math.Dec.{eqb}
-use borrow.Author.Tests.{eqb-true, eqb-false}
-use Rattle.values.specs.Codes.{wrong_curve}
-use Rattle.values.specs.Choice.{either, if_not}
+use borrow.Author.Tests.{eqb-true}
+use Rattle.values.specs.Codes.{too_deep, not_in_grammar, wrong_curve}
+use Rattle.values.specs.Choice.{either, if_not, choice}
 use Rattle.values.specs.Size.{signed_number}
 use Rattle.values.specs.Value.{in_range, less_than}
 use Rattle.values.specs.ValueLaws.{range-abs, abs-range}
@@ -16,7 +16,8 @@ use Rattle.tokens.specs.Descent.{token}
 use Rattle.tokens.specs.SingleFault.{lower, number_fault, opens_too_many}
 use Rattle.checking.specs.declared.definition.Definition.{Definition}
 use Rattle.checking.specs.declared.definition.Part.{Part}
-use Rattle.checking.specs.CurveDefinition.{faulty_definition, limits_fault, judged_curve, number_place, parameter_at, part_at, part_behind, curve_from, ended_by, defined_by, is_defining, definition_at}
+use Rattle.checking.specs.CurveDefinition.{if_read, limits_fault, judged_curve, number_place, parameter_at, part_at, part_behind, curve_from, ended_by, defined_by, is_defining, definition_at}
+use Rattle.engine.specs.Set.{curve_in_line}
 use Rattle.soundness.specs.WriteSoundLaws.{lower-zero}
 use Rattle.soundness.specs.WorkSoundLaws.{number_fits_lem}
 
@@ -45,63 +46,70 @@ limits-ordered c e = by-test (less_than c.upper c.lower) e
     by-test false f = refl
 
 module _ (s : List ℕ) where
-  -- what was read up to here, and the parameter before it, had no fault
+  -- what was read up to here had no fault, and the parameter behind it has none
   record PartClear (b : Part) : Type 0 where
-    some : b.next ≡ 0 → ⊥
     clear : b.fault ≡ 0
     ranged : in_range (parameter_at s b.next) ≡ true
 
-  abbrev Sure : Part → Part → Type 0
-  Sure b d = (d.next ≡ 0 → ⊥) → d.fault ≡ 0 → PartClear b
-
-  part-clear : (b : Part) (t : ℕ) → Sure b (part_behind s b t)
+  part-clear : (b : Part) (t : ℕ) (d : Part) → part_behind s b t ≡ Ok d → d.fault ≡ 0 → PartClear b
   unfolding part_behind part_at parameter_at
-  part-clear b t =
+  part-clear b t d h f =
       let n = number_place s b.next in
-      either (Sure b) (eqb b.next 0) (λ e m. absurd (m refl)) λ e.
-      if_not (Sure b) (is_number (token s n) && eqb (token s (n + 1)) t) (λ i m. absurd (m refl)) λ i m f.
-      let (c, r) = lower-zero b.fault (number_fault (number_carried (token s n))) f in
-      record {
-        some = eqb-false b.next 0 e;
-        clear = c;
-        ranged = signed_range (eqb (token s b.next) MINUS) (thousandths (number_carried (token s n))) (number_fits_lem (number_carried (token s n)) r);
-      }
+      choice _ (is_number (token s n) && eqb (token s (n + 1)) t) _ _ _ h
+      (λ i e.
+      let same : record { fault = lower b.fault (number_fault (number_carried (token s n))); next = n + 2 } ≡ d = cc in
+      let (c, r) = lower-zero b.fault (number_fault (number_carried (token s n))) (ap (λ (y : Part). y.fault) same ∙ f) in
+      record { clear = c; ranged = signed_range (eqb (token s b.next) MINUS) (thousandths (number_carried (token s n))) (number_fits_lem (number_carried (token s n)) r) })
+      (λ i e. absurd (cc))
 
-  -- a definition without a fault
-  abbrev Right : Definition → Type 0
-  Right d = d.fault ≡ 0 → CurveRanged d.curve
+  -- a definition without a fault; what has one defines the curve that is 0 throughout
+  abbrev Right : Result Definition ℕ → Type 0
+  Right r = CurveRanged (curve_in_line r)
 
-  none_right : (k : ℕ) → Right (faulty_definition k)
+  none_right : (k : ℕ) → Right (Err k)
   unfolding in_range less_than
-  none_right k e = record { lower = refl; upper = refl; a0 = refl; a1 = refl; a2 = refl; a3 = refl; ordered = refl }
+  none_right k = record { lower = refl; upper = refl; a0 = refl; a1 = refl; a2 = refl; a3 = refl; ordered = refl }
+
+  right-behind : (b : Part) (t : ℕ) (f : Part → Result Definition ℕ) → ((x : Part) → part_behind s b t ≡ Ok x → Right (f x)) → Right (if_read (part_behind s b t) f)
+  unfolding if_read
+  right-behind b t f h = go (part_behind s b t) refl
+    where
+      go : (r : Result Part ℕ) → part_behind s b t ≡ r → Right (if_read r f)
+      go (Ok x) e = h x e
+      go (Err k) e = none_right k
 
   -- the curve c, where what was read up to d, and its limits, have no fault only if it is right
-  ended-right : (n : ℕ) (c : Curve) (d : Part) → ((d.next ≡ 0 → ⊥) → d.fault ≡ 0 → limits_fault c ≡ 0 → CurveRanged c) → Right (ended_by s n c d)
+  ended-right : (n : ℕ) (c : Curve) (d : Part) → (d.fault ≡ 0 → limits_fault c ≡ 0 → CurveRanged c) → Right (ended_by s n c d)
   unfolding ended_by judged_curve
   ended-right n c d h =
       let f = lower d.fault (limits_fault c) in
-      either Right (eqb d.next 0) (λ e. none_right _) λ e.
-      if_not Right (eqb (token s d.next) END) (λ i. none_right _) λ i.
-      if_not Right (eqb f 0) (λ z. none_right _) λ z _.
+      if_not Right (eqb (token s d.next) END) (λ i. none_right not_in_grammar) λ i.
+      if_not Right (eqb f 0) (λ z. none_right f) λ z.
       let (x, y) = lower-zero d.fault (limits_fault c) (eqb-true f 0 z) in
-      h (eqb-false d.next 0 e) x y
+      h x y
 
   -- from the last parameter back to the first
   defined-right : (n : ℕ) (h : Part) → Right (defined_by s n h)
   unfolding defined_by curve_from
   defined-right n h =
-      ended-right n _ _ λ e f g.
-      let a3 = part-clear _ CLOSE e f in
-      let a2 = part-clear _ COMMA a3.some a3.clear in
-      let a1 = part-clear _ COMMA a2.some a2.clear in
-      let a0 = part-clear _ COMMA a1.some a1.clear in
-      let u = part-clear _ COMMA a0.some a0.clear in
-      let l = part-clear _ COMMA u.some u.clear in
-      record { lower = l.ranged; upper = u.ranged; a0 = a0.ranged; a1 = a1.ranged; a2 = a2.ranged; a3 = a3.ranged; ordered = limits-ordered _ g }
+      right-behind h COMMA _ λ l k1.
+      right-behind l COMMA _ λ u k2.
+      right-behind u COMMA _ λ a k3.
+      right-behind a COMMA _ λ b k4.
+      right-behind b COMMA _ λ c k5.
+      right-behind c CLOSE _ λ d k6.
+      ended-right n _ d λ f g.
+      let x6 = part-clear c CLOSE d k6 f in
+      let x5 = part-clear b COMMA c k5 x6.clear in
+      let x4 = part-clear a COMMA b k4 x5.clear in
+      let x3 = part-clear u COMMA a k3 x4.clear in
+      let x2 = part-clear l COMMA u k2 x3.clear in
+      let x1 = part-clear h COMMA l k1 x2.clear in
+      record { lower = x1.ranged; upper = x2.ranged; a0 = x3.ranged; a1 = x4.ranged; a2 = x5.ranged; a3 = x6.ranged; ordered = limits-ordered _ g }
 
-  -- every definition without a fault
+  -- every curve that the check tells
   pub definition-ranged : (p : ℕ) → Right (definition_at s p)
   unfolding definition_at
   definition-ranged p =
-      either Right (opens_too_many (drop p s) 0) (λ e. none_right _) λ e.
-      either Right (is_defining s p) (λ i. defined-right (whole (token s (p + 2))) _) (λ i. none_right _)
+      either Right (opens_too_many (drop p s) 0) (λ e. none_right too_deep) λ e.
+      either Right (is_defining s p) (λ i. defined-right (whole (token s (p + 2))) _) (λ i. none_right not_in_grammar)

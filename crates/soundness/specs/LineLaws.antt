@@ -1,6 +1,7 @@
 -- Laws of lines: what a line without a fault has, and that all its actions keep the beat under way sound and stop only by an alarm. Nothing is assumed.
-use Rattle.std.specs.Prelude.{◌≡◌, Bool, ◌&&◌, eqb, leb, length, get_or, drop}
+use Rattle.std.specs.Prelude.{Result, Ok, Err, ◌≡◌, Bool, ◌&&◌, eqb, leb, length, get_or, drop, is_some}
 use Rattle.std.proofs.Math.Path.{refl}
+use Rattle.std.proofs.Common.{subst}
 use Rattle.std.proofs.Math.Bool.{true, false}
 use mathlib.Core.List.{List, [], ◌++◌}
 use Prim.Native.Nat.{ℕ, zero, suc, ◌+◌, ◌≤◌, ◌<◌}
@@ -12,9 +13,9 @@ use Rattle.values.specs.Numbers.{clash}
 use Rattle.tokens.specs.Token.{END, EQUALS, DO, ID, IDS, WHEN, EVERY, is_number, is_keyword, is_id, is_whole, set_size, max_actions}
 use Rattle.tokens.specs.Descent.{token, good, ◌>>=◌, Read, read, ends, then, expression_at}
 use Rattle.tokens.specs.SingleFault.{lower, opens_too_many}
-use Rattle.checking.specs.Fault.{sight, fault_for, count_fault, moves_fault, action_at, moves_at, actions_at, faulty_line, line_parts, body_at, rest_at, line_at}
+use Rattle.checking.specs.Fault.{sight, fault_for, count_fault, moves_fault, action_at, moves_at, actions_at, line_parts, body_at, rest_at, line_at}
 use Rattle.checking.specs.declared.line.Line.{Line}
-use Rattle.engine.specs.Set.{names_known, set_table, sound_lines}
+use Rattle.engine.specs.Set.{names_known, set_table, sound_lines, lines_of}
 use Rattle.engine.specs.Action.{World, Did, action_of}
 use Rattle.engine.specs.Actions.{actions_of}
 use Rattle.soundness.specs.GoodAnswers.{Holds, holds_then}
@@ -60,35 +61,35 @@ module _ (s : List ℕ) (kw k : ℕ) where
 -- ---- and as they are done
 
 -- in a line that begins at `start` and names only lines and curves of the set
-module _ (s : List ℕ) (sound : (sound_lines s).sound ≡ true) (size : length s ≤ set_size) (cancelled : List Bool) (number kw start : ℕ)
-    (names : names_known s (set_table s (sound_lines s).numbers) set_size start ≡ true) where
+module _ (s : List ℕ) (sound : is_some (sound_lines s) ≡ true) (size : length s ≤ set_size) (cancelled : List Bool) (number kw start : ℕ)
+    (names : names_known s (set_table s (lines_of s).numbers) set_size start ≡ true) where
   abbrev DidFine : Did → Type 0
-  DidFine d = WorldSound (sound_lines s).count cancelled d.world
+  DidFine d = WorldSound (lines_of s).count cancelled d.world
 
   -- actions that the check found without a fault keep the beat under way sound
-  pub actions-keep : (j m n : ℕ) (z : List ℕ) (f : ℕ) (x : World) (p : ℕ) → j + n ≡ max_actions → WorldSound (sound_lines s).count cancelled x → Passed s start p → Clear (actions_at s kw set_size m n z f p) →
-      Holds DidFine (actions_of s (sound_lines s).numbers cancelled number j x p)
+  pub actions-keep : (j m n : ℕ) (z : List ℕ) (f : ℕ) (x : World) (p : ℕ) → j + n ≡ max_actions → WorldSound (lines_of s).count cancelled x → Passed s start p → Clear (actions_at s kw set_size m n z f p) →
+      Holds DidFine (actions_of s (lines_of s).numbers cancelled number j x p)
   unfolding actions_of actions_at
   actions-keep zero m n z f x p t h k c = absurd (omega (arith, (first-clear s kw set_size m n z f p c).1))
   actions-keep (suc j) zero n z f x p t h k c = absurd c
   actions-keep (suc j) (suc m) n z f x p t h k c =
-      by-action (action_at s kw set_size p) (action-runs s sound cancelled number kw x p h (names-known s (set_table s (sound_lines s).numbers) start p size names k)) (action-past s kw set_size p) c
+      by-action (action_at s kw set_size p) (action-runs s sound cancelled number kw x p h (names-known s (set_table s (lines_of s).numbers) start p size names k)) (action-past s kw set_size p) c
       (λ g x q. actions-keep j m (n + 1) (z ++ moves_at s p) (lower f g) x q (omega arith))
     where
-      by-action : (y : Read ℕ) → Runs DidFine (λ d. d.next) (action_of s (sound_lines s).numbers cancelled number x p) y → Past s p y → Clear (then y (λ g q. after_action s kw set_size m n (z ++ moves_at s p) f g q)) →
-          ((g : ℕ) (x : World) (q : ℕ) → WorldSound (sound_lines s).count cancelled x → Passed s start q → Clear (actions_at s kw set_size m (n + 1) (z ++ moves_at s p) (lower f g) q) →
-          Holds DidFine (actions_of s (sound_lines s).numbers cancelled number j x q)) →
-          Holds DidFine (action_of s (sound_lines s).numbers cancelled number x p >>= λ d.
+      by-action : (y : Read ℕ) → Runs DidFine (λ d. d.next) (action_of s (lines_of s).numbers cancelled number x p) y → Past s p y → Clear (then y (λ g q. after_action s kw set_size m n (z ++ moves_at s p) f g q)) →
+          ((g : ℕ) (x : World) (q : ℕ) → WorldSound (lines_of s).count cancelled x → Passed s start q → Clear (actions_at s kw set_size m (n + 1) (z ++ moves_at s p) (lower f g) q) →
+          Holds DidFine (actions_of s (lines_of s).numbers cancelled number j x q)) →
+          Holds DidFine (action_of s (lines_of s).numbers cancelled number x p >>= λ d.
           elim (eqb (get_or s d.next 0) END) [
             | true ↦ good d
-            | false ↦ actions_of s (sound_lines s).numbers cancelled number j d.world d.next >>= λ e. good (record { world = e.world; next = e.next; notes = d.notes ++ e.notes })
+            | false ↦ actions_of s (lines_of s).numbers cancelled number j d.world d.next >>= λ e. good (record { world = e.world; next = e.next; notes = d.notes ++ e.notes })
           ])
       by-action (read g q) runs past c rest =
           let y = after-clear s kw set_size m n (z ++ moves_at s p) f g q (first-clear s kw set_size m (n + 1) (z ++ moves_at s p) (lower f g) q) c in
-          holds_then (λ (d : Did). (d.next ≡ q) × DidFine d) DidFine (action_of s (sound_lines s).numbers cancelled number x p) _ (runs (lower-zero f g y.0).1) λ d t.
+          holds_then (λ (d : Did). (d.next ≡ q) × DidFine d) DidFine (action_of s (lines_of s).numbers cancelled number x p) _ (runs (lower-zero f g y.0).1) λ d t.
           either (Holds DidFine) (eqb (get_or s d.next 0) END) (λ e. t.1) λ e.
           let next = clear_next (eqb (get_or s q 0) END) (read (lower (lower f g) (lower (count_fault (n + 1)) (moves_fault (z ++ moves_at s p)))) q) (actions_at s kw set_size m (n + 1) (z ++ moves_at s p) (lower f g) q) (rw t.0 at e) c in
-          holds_then DidFine DidFine (actions_of s (sound_lines s).numbers cancelled number j d.world d.next) _
+          holds_then DidFine DidFine (actions_of s (lines_of s).numbers cancelled number j d.world d.next) _
           (rest g d.world d.next t.1 (rw t.0 (passed_on s start p q k past)) (rw t.0 next)) (λ e u. u)
       by-action (ends e) runs past c rest = absurd c
 
@@ -101,17 +102,15 @@ pub record LineClear (s : List ℕ) (p : ℕ) (l : Line) : Type 0 where
   pub condition : is_keyword l.keyword ≡ true → Clear (fault_for true (expression_at s sight set_size l.condition))
 
 module _ (s : List ℕ) (p : ℕ) where
-  abbrev Sure : Line → Type 0
-  Sure l = l.fault ≡ 0 → 1 ≤ l.number → LineClear s p l
-
-  faulty-clear : (k : ℕ) → Sure (faulty_line k)
-  faulty-clear k e l = absurd (omega arith)
+  abbrev Sure : Result Line ℕ → Type 0
+  Sure (Ok l) = 1 ≤ l.number → LineClear s p l
+  Sure (Err k) = Unit {0}
 
   module _ (kw cp f q : ℕ) (passed : Passed s p q) (clear : f ≡ 0 → is_keyword kw ≡ true → Clear (fault_for true (expression_at s sight set_size cp))) where
     parts-clear : (x : Read ℕ) → eqb (get_or s q 0) DO ≡ true → actions_at s kw set_size set_size 0 [] f (q + 1) ≡ x → Sure (line_parts s p kw cp (q + 1) x)
     unfolding line_parts
     parts-clear (read g e) d z =
-        if_not Sure (eqb g 0) (λ y. faulty-clear g) λ y u l.
+        if_not Sure (eqb g 0) (λ y. tt) λ y l.
         let c : Clear (actions_at s kw set_size set_size 0 [] f (q + 1)) = rw z (eqb-true g 0 y) in
         let b = first-clear s kw set_size set_size 0 [] f (q + 1) c in
         record {
@@ -119,11 +118,11 @@ module _ (s : List ℕ) (p : ℕ) where
           passed = passed-next s p q (q + 1) passed refl (equal-some (get_or s q 0) DO (omega arith) d);
           condition = clear b.0;
         }
-    parts-clear (ends k) d z = faulty-clear k
+    parts-clear (ends k) d z = tt
 
     body-clear : Sure (body_at s p kw cp f q)
     unfolding body_at
-    body-clear = either Sure (eqb (get_or s q 0) DO) (λ e. parts-clear (actions_at s kw set_size set_size 0 [] f (q + 1)) e refl) (λ e. faulty-clear _)
+    body-clear = either Sure (eqb (get_or s q 0) DO) (λ e. parts-clear (actions_at s kw set_size set_size 0 [] f (q + 1)) e refl) (λ e. tt)
 
   rest-clear : (f : ℕ) → Passed s p (p + 3) → Sure (rest_at s p f)
   unfolding rest_at
@@ -133,18 +132,21 @@ module _ (s : List ℕ) (p : ℕ) where
       (fault_for true (expression_at s sight set_size (p + 4))) refl (fault_past s (p + 4) true (expression_at s sight set_size (p + 4)) (expression_at-past s sight set_size (p + 4)))
     where
       by_condition : Passed s p (p + 4) → (y : Read ℕ) → fault_for true (expression_at s sight set_size (p + 4)) ≡ y → Past s (p + 4) y →
-          Sure (elim y [ read g q ↦ body_at s p (get_or s (p + 3) 0) (p + 4) (lower f g) q | ends k ↦ faulty_line k ])
+          Sure (elim y [ read g q ↦ body_at s p (get_or s (p + 3) 0) (p + 4) (lower f g) q | ends k ↦ Err k ])
       by_condition k (read g q) z past = body-clear (get_or s (p + 3) 0) (p + 4) (lower f g) q (passed_on s p (p + 4) q k past) (λ y e. rw z (lower-zero f g y).1)
-      by_condition k (ends c) z past = faulty-clear c
+      by_condition k (ends c) z past = tt
 
   -- every line with no fault and a number
-  pub line_clear : Sure (line_at s p)
+  sure : Sure (line_at s p)
   unfolding line_at
-  line_clear =
-      either Sure (opens_too_many (drop p s) 0) (λ e. faulty-clear _) λ e.
-      if_not Sure (is_id (get_or s p 0) && (eqb (get_or s (p + 1) 0) EQUALS && is_whole (get_or s (p + 2) 0))) (λ i. faulty-clear _) λ i.
+  sure =
+      either Sure (opens_too_many (drop p s) 0) (λ e. tt) λ e.
+      if_not Sure (is_id (get_or s p 0) && (eqb (get_or s (p + 1) 0) EQUALS && is_whole (get_or s (p + 2) 0))) (λ i. tt) λ i.
       let j = (both (is_id (get_or s p 0)) _ i).1 in
       let a = passed-next s p p (p + 1) (passed_none s p) refl (between-some ID IDS (get_or s p 0) (omega arith) (both (is_id (get_or s p 0)) _ i).0) in
       let b = passed-next s p (p + 1) (p + 2) a (omega arith) (equal-some (get_or s (p + 1) 0) EQUALS (omega arith) (both (eqb (get_or s (p + 1) 0) EQUALS) _ j).0) in
       let n = (both (is_number (get_or s (p + 2) 0)) _ (both (eqb (get_or s (p + 1) 0) EQUALS) _ j).1).0 in
       rest-clear _ (passed-next s p (p + 2) (p + 3) b (omega arith) (number-some (get_or s (p + 2) 0) n))
+
+  pub line_clear : (l : Line) → line_at s p ≡ Ok l → 1 ≤ l.number → LineClear s p l
+  line_clear l e = subst Sure e sure

@@ -1,5 +1,5 @@
 -- PROGRAM END IS THE HOST'S CANCEL OF EACH ID LINE STILL LIVE, by rising number, and touches nothing else; it keeps a sound state sound. Theorems; nothing is assumed.
-use Rattle.std.specs.Prelude.{◌≡◌, ◌||◌, set}
+use Rattle.std.specs.Prelude.{◌≡◌, ◌||◌, set, Result, Ok}
 use Rattle.std.proofs.Math.Path.{refl, sym, ap}
 use Rattle.std.proofs.Common.{◌∙◌, length-set, get_or-set_same, lt-ltb}
 use Rattle.std.proofs.Math.Bool.{Bool, true, false, cond}
@@ -14,8 +14,7 @@ use Rattle.values.specs.Numbers.{clash}
 use Rattle.checking.specs.declared.line.Line.{Line}
 use Rattle.engine.specs.declared.state.State.{State}
 use Rattle.engine.specs.declared.calls.Called.{Called}
-use Rattle.engine.specs.declared.named_line.Found.{Found}
-use Rattle.engine.specs.Set.{no_line, sound_lines}
+use Rattle.engine.specs.Set.{no_line, lines_of}
 use Rattle.engine.specs.Sound.{is_sound}
 use Rattle.engine.specs.NamedLine.{found_at, found}
 use Rattle.engine.specs.Calls.{with_cancelled, called, cancel_call, ended_line, program_ended, program_end_call}
@@ -114,35 +113,35 @@ ended-keeps ls st n = record {
 
 module _ (s : List ℕ) (st : State) where
   -- PROGRAM END TOUCHES NOTHING BUT THE FLAGS OF ID LINES
-  pub program-end-keeps : SameButIds (sound_lines s).items (program_end_call s st).state st
+  pub program-end-keeps : SameButIds (lines_of s).items (program_end_call s st).state st
   unfolding program_end_call
   program-end-keeps =
-      either (λ (c : Called). SameButIds (sound_lines s).items c.state st) (is_sound s st) (λ e. ended-keeps (sound_lines s).items st (sound_lines s).count)
+      either (λ (c : Called). SameButIds (lines_of s).items c.state st) (is_sound s st) (λ e. ended-keeps (lines_of s).items st (lines_of s).count)
       (λ e. record { r = refl; cells = refl; runs = refl; channels = refl; acts = refl; locked = λ k h. refl; cancelled = λ k h. refl; memory = λ k h. refl })
 
   -- AFTER IT EVERY ID LINE IS CANCELLED
-  pub program-end-cancels : (program_end_call s st).code ≡ 0 → (k : ℕ) → k < (sound_lines s).count → k < length st.cancelled → (get_or (sound_lines s).items k no_line).ids ≡ false → get_or (program_end_call s st).state.cancelled k false ≡ true
+  pub program-end-cancels : (program_end_call s st).code ≡ 0 → (k : ℕ) → k < (lines_of s).count → k < length st.cancelled → (get_or (lines_of s).items k no_line).ids ≡ false → get_or (program_end_call s st).state.cancelled k false ≡ true
   unfolding program_end_call
   program-end-cancels =
-      either (λ (c : Called). c.code ≡ 0 → (k : ℕ) → k < (sound_lines s).count → k < length st.cancelled → (get_or (sound_lines s).items k no_line).ids ≡ false → get_or c.state.cancelled k false ≡ true) (is_sound s st)
-      (λ e z k. ended-cancelled (sound_lines s).items st (sound_lines s).count k) (λ e z. absurd (omega arith))
+      either (λ (c : Called). c.code ≡ 0 → (k : ℕ) → k < (lines_of s).count → k < length st.cancelled → (get_or (lines_of s).items k no_line).ids ≡ false → get_or c.state.cancelled k false ≡ true) (is_sound s st)
+      (λ e z k. ended-cancelled (lines_of s).items st (lines_of s).count k) (λ e z. absurd (omega arith))
 
 -- ---- a sound state
 
 module _ (s : List ℕ) (st : State) (h : is_sound s st ≡ true) where
   abbrev items : List Line
-  items = (sound_lines s).items
+  items = (lines_of s).items
 
   abbrev passed_to : ℕ → State
   passed_to n = program_ended items st n
 
-  cancelled-sound : (x : State) (k : ℕ) → is_sound s x ≡ true → k < (sound_lines s).count → is_sound s (with_cancelled x k) ≡ true
+  cancelled-sound : (x : State) (k : ℕ) → is_sound s x ≡ true → k < (lines_of s).count → is_sound s (with_cancelled x k) ≡ true
   cancelled-sound x k e l =
       let r = state-right s x e in
       right-state s (with_cancelled x k) (set-sound s x e)
-      (record { cells = r.cells; channels = r.channels; flags = cancel-keeps (sound_lines s).count x.locked x.cancelled x.memory r.flags k l; acts = r.acts })
+      (record { cells = r.cells; channels = r.channels; flags = cancel-keeps (lines_of s).count x.locked x.cancelled x.memory r.flags k l; acts = r.acts })
 
-  ended-sound : (n : ℕ) → n ≤ (sound_lines s).count → is_sound s (passed_to n) ≡ true
+  ended-sound : (n : ℕ) → n ≤ (lines_of s).count → is_sound s (passed_to n) ≡ true
   unfolding program_ended
   ended-sound zero l = h
   ended-sound (suc n) l =
@@ -150,19 +149,19 @@ module _ (s : List ℕ) (st : State) (h : is_sound s st ≡ true) where
       ended_by_lem (λ (y : State). is_sound s y ≡ true) (get_or items n no_line) (passed_to n) n (λ e. q) (λ e. cancelled-sound (passed_to n) n q (omega arith))
 
   -- the host's cancel of a live line of the set, by its number
-  own-cancel : (x : State) (k : ℕ) → is_sound s x ≡ true → k < (sound_lines s).count → get_or x.cancelled k false ≡ false → (cancel_call s x (get_or items k no_line).number).state ≡ with_cancelled x k
+  own-cancel : (x : State) (k : ℕ) → is_sound s x ≡ true → k < (lines_of s).count → get_or x.cancelled k false ≡ false → (cancel_call s x (get_or items k no_line).number).state ≡ with_cancelled x k
   unfolding cancel_call called found found_at
   own-cancel x k e l c =
-      let f : found s x (get_or items k no_line).number ≡ record { code = 0; rank = k } =
-      chosen _ _ _ e ∙ ap (found_at (sound_lines s).count x.cancelled) (rank-own s k l) ∙ (chosen _ _ _ (lt-ltb k (sound_lines s).count l) ∙ refused _ _ _ c) in
-      ap (λ (y : Found). (called x y (λ j. with_cancelled x j)).state) f
+      let f : found s x (get_or items k no_line).number ≡ Ok k =
+      chosen _ _ _ e ∙ ap (found_at (lines_of s).count x.cancelled) (rank-own s k l) ∙ (chosen _ _ _ (lt-ltb k (lines_of s).count l) ∙ refused _ _ _ c) in
+      ap (λ (y : Result ℕ ℕ). (called x y (λ j. with_cancelled x j)).state) f
 
   cancels-append : (x : State) (ms ns : List ℕ) → cancelled_all s x (ms ++ ns) ≡ cancelled_all s (cancelled_all s x ms) ns
   unfolding cancelled_all
   cancels-append x [] ns = refl
   cancels-append x (m ∷ ms) ns = cancels-append (cancel_call s x m).state ms ns
 
-  ended-cancels : (n : ℕ) → n ≤ (sound_lines s).count → passed_to n ≡ cancelled_all s st (numbers_at items (live_ids items st.cancelled n))
+  ended-cancels : (n : ℕ) → n ≤ (lines_of s).count → passed_to n ≡ cancelled_all s st (numbers_at items (live_ids items st.cancelled n))
   unfolding program_ended ended_line live_ids cancelled_all
   ended-cancels zero l = refl
   ended-cancels (suc n) l =
@@ -187,18 +186,18 @@ module _ (s : List ℕ) (st : State) (h : is_sound s st ≡ true) where
       go false false e q = sym (own-cancel (passed_to n) n (ended-sound n (omega arith)) (omega arith) (live_then line _ e))
 
   -- PROGRAM END IS THE HOST'S CANCEL OF EACH ID LINE STILL LIVE, one after the other, by rising number
-  pub program-end-is-cancels : (program_end_call s st).state ≡ cancelled_all s st (numbers_at items (live_ids items st.cancelled (sound_lines s).count))
+  pub program-end-is-cancels : (program_end_call s st).state ≡ cancelled_all s st (numbers_at items (live_ids items st.cancelled (lines_of s).count))
   unfolding program_end_call
-  program-end-is-cancels = ap (λ (c : Called). c.state) (chosen _ _ _ h) ∙ ended-cancels (sound_lines s).count (omega arith)
+  program-end-is-cancels = ap (λ (c : Called). c.state) (chosen _ _ _ h) ∙ ended-cancels (lines_of s).count (omega arith)
 
   -- and keeps a sound state sound
   pub program_end_call-keeps : is_sound s (program_end_call s st).state ≡ true
   unfolding program_end_call
-  program_end_call-keeps = either (λ (c : Called). is_sound s c.state ≡ true) (is_sound s st) (λ e. ended-sound (sound_lines s).count (omega arith)) (λ e. h)
+  program_end_call-keeps = either (λ (c : Called). is_sound s c.state ≡ true) (is_sound s st) (λ e. ended-sound (lines_of s).count (omega arith)) (λ e. h)
 
   pub program_end_call-answers : Answers st (program_end_call s st)
   unfolding program_end_call
   program_end_call-answers =
       either (Answers st) (is_sound s st)
-      (λ e. let k = ended-keeps items st (sound_lines s).count in record { r = k.r; cells = k.cells; code = λ z. omega arith })
+      (λ e. let k = ended-keeps items st (lines_of s).count in record { r = k.r; cells = k.cells; code = λ z. omega arith })
       (λ e. clash (cc))

@@ -1,6 +1,6 @@
 -- Every call keeps a sound state sound, and none answers 22: the turns of a beat, the beat, and any calls one after another from power-on. Nothing is assumed.
 -- A set has at most `set_size` places, a state `r_count` of R and `state_cells` cells, as their types in the program say; that is all that is asked of lengths.
-use Rattle.std.specs.Prelude.{◌≡◌, Bool, cond, not, ◌||◌, eqb, ltb, ℤ, pos, length}
+use Rattle.std.specs.Prelude.{◌≡◌, Bool, cond, not, ◌||◌, eqb, ltb, ℤ, pos, length, is_some, Result}
 use Rattle.std.proofs.Math.Path.{refl}
 use Rattle.std.proofs.Common.{sym, ap, ◌∙◌, arith, length-append, length-drop, length-set, drop_at}
 use Rattle.std.proofs.Math.Bool.{true, false}
@@ -17,25 +17,25 @@ use Rattle.values.specs.FifoLaws.{PlacesRanged, zero-in-range, InRange}
 use Rattle.values.specs.Numbers.{clash}
 use Rattle.tokens.specs.Token.{WHEN, WHENEVER, FROM, EVERY, is_keyword, set_size, max_actions, max_lines}
 use Rattle.tokens.specs.Descent.{Answer, good, stop}
-use Rattle.couplers.specs.Channel.{channel_count}
+use Rattle.couplers.specs.Channel.{channel_count, values_given}
 use Rattle.couplers.specs.ChannelLaws.{samples-in-range, samples-length, samples-sound}
 use Rattle.working.specs.Operators.{is_yes}
 use Rattle.working.specs.Working.{condition_value}
 use Rattle.couplers.specs.declared.channel.Channel.{Channel}
 use Rattle.engine.specs.declared.state.State.{State}
 use Rattle.engine.specs.declared.calls.Called.{Called}
-use Rattle.engine.specs.Set.{start_of, line_of, sound_lines}
+use Rattle.checking.specs.declared.line.Line.{Line}
+use Rattle.engine.specs.Set.{start_of, no_line, sound_lines, lines_of}
 use Rattle.working.specs.Variables.{timer_count, r_count, timer_at, state_cells, bit_count, position_count, input_count}
 use Rattle.engine.specs.State.{power_on}
 use Rattle.engine.specs.Cells.{input_cell, input_cells, beat_cells}
 use Rattle.engine.specs.Timers.{grown_cells}
 use Rattle.engine.specs.Sound.{is_sound}
-use Rattle.engine.specs.Action.{World, Did, from_value_or_alarm}
+use Rattle.engine.specs.Action.{World, Did, from_reached}
 use Rattle.engine.specs.Actions.{actions_of}
 use Rattle.engine.specs.Turn.{Entry, Turned, remembered, counted, takes_turn, do_turn, try_turn, turn_of, turns_from}
 use Rattle.engine.specs.Keyword.{tries, remembers}
-use Rattle.engine.specs.Beat.{buffer_size, are_inputs, Given, samples_in, beat_begun, beat_ended, all_turns, whole_beat, turned_answer, beat_answer}
-use Rattle.engine.specs.declared.named_line.Found.{Found}
+use Rattle.engine.specs.Beat.{buffer_size, are_inputs, Given, samples_in, beat_begun, beat_ended, all_turns, whole_beat, turned_answer, beat_answer, kept_in}
 use Rattle.engine.specs.NamedLine.{found}
 use Rattle.engine.specs.Calls.{called, locked_call, lock_call, unlock_call, cancel_call, program_end_call, control_reset_call}
 use Rattle.engine.specs.InputLaws.{length-inputs, inputs-length}
@@ -69,52 +69,54 @@ tries-keyword kw m = by_word (eqb kw WHEN) (eqb kw FROM) (eqb kw WHENEVER) (eqb 
     by_word false false false true p q r t h = known EVERY refl t
     by_word false false false false p q r t h = clash (cc)
 
-module _ (s : List ℕ) (sound : (sound_lines s).sound ≡ true) (size : length s ≤ set_size) (cancelled : List Bool) (automatic : Bool) where
+module _ (s : List ℕ) (sound : is_some (sound_lines s) ≡ true) (size : length s ≤ set_size) (cancelled : List Bool) (automatic : Bool) where
   abbrev Fine : World → Type 0
-  Fine = WorldSound (sound_lines s).count cancelled
+  Fine = WorldSound (lines_of s).count cancelled
 
   abbrev TurnFine : Turned → Type 0
   TurnFine t = Fine t.world
 
   abbrev numbers : List ℕ
-  numbers = (sound_lines s).numbers
+  numbers = (lines_of s).numbers
 
   -- the turn of a line of the set
-  module _ (k : ℕ) (inside : k < (sound_lines s).count) where
-    clear : LineClear s (start_of s k) (line_of s k)
-    clear = let l = (lines-lined s).listed in line_clear s (start_of s k) (l.faultless k inside) (l.positive k inside)
+  module _ (k : ℕ) (inside : k < (lines_of s).count) where
+    abbrev line : Line
+    line = get_or (lines_of s).items k no_line
 
-    done-fine : (x : World) (es : List Entry) (b : Bool) → Fine x → Holds TurnFine (do_turn s numbers cancelled automatic (line_of s k) k x es b)
+    clear : LineClear s (start_of s k) line
+    clear = let l = (lines-lined s).listed in line_clear s (start_of s k) line (l.item k inside) (l.positive k inside)
+
+    done-fine : (x : World) (es : List Entry) (b : Bool) → Fine x → Holds TurnFine (do_turn s numbers cancelled automatic line k x es b)
     unfolding do_turn
     done-fine x es false h = h
     done-fine x es true h =
-        holds_then (λ (d : Did). Fine d.world) TurnFine (actions_of s numbers cancelled (line_of s k).number max_actions (counted x k) (line_of s k).actions) _
-        (actions-keep s sound size cancelled (line_of s k).number (line_of s k).keyword (start_of s k) (lines-known s sound k inside)
-        max_actions set_size 0 [] 0 (counted x k) (line_of s k).actions refl (record { vars = h.vars; flags = h.flags }) clear.passed clear.actions)
+        holds_then (λ (d : Did). Fine d.world) TurnFine (actions_of s numbers cancelled line.number max_actions (counted x k) line.actions) _
+        (actions-keep s sound size cancelled line.number line.keyword (start_of s k) (lines-known s sound k inside)
+        max_actions set_size 0 [] 0 (counted x k) line.actions refl (record { vars = h.vars; flags = h.flags }) clear.passed clear.actions)
         (λ d e. e)
 
-    turn-fine : (x : World) → Fine x → Holds TurnFine (turn_of s numbers cancelled automatic (line_of s k) k x)
+    turn-fine : (x : World) → Fine x → Holds TurnFine (turn_of s numbers cancelled automatic line k x)
     unfolding turn_of try_turn takes_turn
     turn-fine x h =
-        let l = line_of s k in
+        let l = line in
         let m = get_or x.memory k false in
         if_not (Holds TurnFine) (takes_turn s numbers cancelled automatic l k x) (λ e. h) λ e.
         if_not (Holds TurnFine) (tries l.keyword m) (λ t. done-fine x [] _ h) λ t.
-        holds_then (λ a. Unit {0}) TurnFine (from_value_or_alarm (condition_value s x.vars.r x.vars.cells l.condition)) _
+        holds_then (λ a. Unit {0}) TurnFine (from_reached (condition_value s x.vars.r x.vars.cells l.condition)) _
         (condition-runs s x.vars l.condition h.vars (clear.condition (tries-keyword l.keyword m t))) λ a u.
         let c = not-true (get_or cancelled k false) (both (not (get_or cancelled k false)) _ e).0 in
         done-fine (remembered x k (remembers l.keyword m (is_yes a.0))) _ _
-        (record { vars = h.vars; flags = memory-keeps (sound_lines s).count x.locked cancelled x.memory h.flags k inside _ c })
+        (record { vars = h.vars; flags = memory-keeps (lines_of s).count x.locked cancelled x.memory h.flags k inside _ c })
 
   -- the turns of m lines from rank k on
-  pub turns-fine : (m k : ℕ) (x : World) → k + m ≤ (sound_lines s).count → Fine x → Holds TurnFine (turns_from s numbers cancelled automatic (sound_lines s).items m k x)
+  pub turns-fine : (m k : ℕ) (x : World) → k + m ≤ (lines_of s).count → Fine x → Holds TurnFine (turns_from s numbers cancelled automatic (lines_of s).items m k x)
   unfolding turns_from
   turns-fine zero k x l h = h
   turns-fine (suc m) k x l h =
-      rw ((lines-lined s).listed.item k (omega arith))
-      (holds_then TurnFine TurnFine (turn_of s numbers cancelled automatic (line_of s k) k x) _ (turn-fine k (omega arith) x h) λ t e.
-      holds_then TurnFine TurnFine (turns_from s numbers cancelled automatic (sound_lines s).items m (k + 1) t.world) _
-      (turns-fine m (k + 1) t.world (omega arith) e) (λ u f. f))
+      holds_then TurnFine TurnFine (turn_of s numbers cancelled automatic (get_or (lines_of s).items k no_line) k x) _ (turn-fine k (omega arith) x h) λ t e.
+      holds_then TurnFine TurnFine (turns_from s numbers cancelled automatic (lines_of s).items m (k + 1) t.world) _
+      (turns-fine m (k + 1) t.world (omega arith) e) (λ u f. f)
 
 -- ---- the beat as it begins
 
@@ -183,29 +185,29 @@ pub record Whole (s : List ℕ) (st : State) : Type 0 where
   pub sized : length st.cells ≡ state_cells
 
 -- a beat that goes well leaves one, and it stops by no 22
-beat-holds : (s : List ℕ) (st : State) (g : Given) → length s ≤ set_size → Whole s st → Holds (λ t. Whole s (beat_ended st (samples_in st g).channels t.world)) (whole_beat s st g)
+beat-holds : (s : List ℕ) (st : State) (g : Given) → length s ≤ set_size → Whole s st → Holds (λ t. Whole s (beat_ended st (kept_in st g) t.world)) (whole_beat s st g)
 unfolding whole_beat beat_begun beat_ended
 beat-holds s st g l h =
     let y = h.sound in
     if_not P (is_sound s st) (λ e. clash (cc)) λ e.
     either P (ltb (length g.buffer) buffer_size) (λ b z. omega arith) λ b.
     if_not P (are_inputs g.lent) (λ a z. omega arith) λ a.
-    if_not P (samples_in st g).good (λ c z. omega arith) λ c.
+    if_not P (is_some (samples_in st g)) (λ c z. omega arith) λ c.
     let vars =
-    begun-cells st.r st.cells g.word (samples_in st g).values g.lent st.runs h.long h.sized (samples-length st.channels g.readings) (samples-in-range st.channels g.readings) a (state-right s st e).cells in
-    let count = (sound_lines s).count in
-    holds_then (λ (t : Turned). WorldSound count st.cancelled t.world × (t.world.acted < 2 ^ (0 + count))) (λ t. Whole s (beat_ended st (samples_in st g).channels t.world))
-    (all_turns s (sound_lines s) st g) _
-    (holds-ok _ _ (all_turns s (sound_lines s) st g) (turns-fine s (set-sound s st e) l st.cancelled g.automatic (sound_lines s).count 0 (beat_begun st g) (omega arith) (record { vars = vars; flags = (state-right s st e).flags }))
-    (turns-below s (sound_lines s).numbers st.cancelled g.automatic (sound_lines s).items count 0 (beat_begun st g) (omega arith))) λ t (f, below).
+    begun-cells st.r st.cells g.word (values_given (samples_in st g)) g.lent st.runs h.long h.sized (samples-length st.channels g.readings) (samples-in-range st.channels g.readings) a (state-right s st e).cells in
+    let count = (lines_of s).count in
+    holds_then (λ (t : Turned). WorldSound count st.cancelled t.world × (t.world.acted < 2 ^ (0 + count))) (λ t. Whole s (beat_ended st (kept_in st g) t.world))
+    (all_turns s (lines_of s) st g) _
+    (holds-ok _ _ (all_turns s (lines_of s) st g) (turns-fine s (set-sound s st e) l st.cancelled g.automatic (lines_of s).count 0 (beat_begun st g) (omega arith) (record { vars = vars; flags = (state-right s st e).flags }))
+    (turns-below s (lines_of s).numbers st.cancelled g.automatic (lines_of s).items count 0 (beat_begun st g) (omega arith))) λ t (f, below).
     record {
-      sound = right-state s (beat_ended st (samples_in st g).channels t.world) (set-sound s st e) (record { cells = f.vars.state; channels = samples-sound st.channels g.readings (state-right s st e).channels; flags = f.flags; acts = counted-keeps count st.acts (state-right s st e).acts t.world.acted (λ k l. none_from t.world.acted (0 + count) k below (omega arith)) max_lines });
+      sound = right-state s (beat_ended st (kept_in st g) t.world) (set-sound s st e) (record { cells = f.vars.state; channels = samples-sound st.channels g.readings (state-right s st e).channels; flags = f.flags; acts = counted-keeps count st.acts (state-right s st e).acts t.world.acted (λ k l. none_from t.world.acted (0 + count) k below (omega arith)) max_lines });
       long = f.vars.long;
       sized = omega (arith, length-drop input_count t.world.vars.cells, f.vars.sized);
     }
   where
     P : Answer Turned → Type 0
-    P = Holds (λ t. Whole s (beat_ended st (samples_in st g).channels t.world))
+    P = Holds (λ t. Whole s (beat_ended st (kept_in st g) t.world))
 
 answered-whole : (s : List ℕ) (st : State) (kept : List Channel) (x : Answer Turned) → Whole s st → Holds (λ t. Whole s (beat_ended st kept t.world)) x → Whole s (turned_answer st kept x).state × Not22 (turned_answer st kept x).code
 answered-whole s st kept (good t) h e = (e, λ z. omega arith)
@@ -214,7 +216,7 @@ answered-whole s st kept (stop k) h e = (h, e)
 -- a beat leaves a sound state of its size, whatever it answers, and that is not 22
 pub beat-answers : (s : List ℕ) (st : State) (g : Given) → length s ≤ set_size → Whole s st → Whole s (beat_answer s st g).state × Not22 (beat_answer s st g).code
 unfolding beat_answer
-beat-answers s st g l h = answered-whole s st (samples_in st g).channels (whole_beat s st g) h (beat-holds s st g l h)
+beat-answers s st g l h = answered-whole s st (kept_in st g) (whole_beat s st g) h (beat-holds s st g l h)
 
 -- ---- call after call
 
@@ -237,7 +239,7 @@ sound-stays-sound s st c l lr lc h = (call-keeps s st c l (record { sound = h; l
 -- a state that is not sound stays as it is
 call-refused : (s : List ℕ) (st : State) (n : ℕ) (change : ℕ → State) → is_sound s st ≡ false → (called st (found s st n) change).state ≡ st
 unfolding called found
-call-refused s st n change e = ap (λ (f : Found). (called st f change).state) (refused (is_sound s st) _ _ e)
+call-refused s st n change e = ap (λ (f : Result ℕ ℕ). (called st f change).state) (refused (is_sound s st) _ _ e)
 
 unsound-stays : (s : List ℕ) (st : State) (c : Call) → is_sound s st ≡ false → state_after s st c ≡ st
 unfolding beat_answer whole_beat lock_call unlock_call locked_call cancel_call program_end_call control_reset_call
@@ -246,7 +248,7 @@ unsound-stays s st (do_unlock n) e = call-refused s st n _ e
 unsound-stays s st (do_cancel n) e = call-refused s st n _ e
 unsound-stays s st do_program_end e = ap (λ (x : Called). x.state) (refused (is_sound s st) _ _ e)
 unsound-stays s st do_control_reset e = ap (λ (x : Called). x.state) (refused (is_sound s st) _ _ e)
-unsound-stays s st (do_beat g) e = ap (λ (x : Answer Turned). (turned_answer st (samples_in st g).channels x).state) (refused (is_sound s st) _ _ e)
+unsound-stays s st (do_beat g) e = ap (λ (x : Answer Turned). (turned_answer st (kept_in st g) x).state) (refused (is_sound s st) _ _ e)
 
 -- A STATE STAYS AS SOUND AS IT IS, and of its size, whatever is called
 pub as-sound : (s : List ℕ) (st : State) (c : Call) → length s ≤ set_size → length st.r ≡ r_count → length st.cells ≡ state_cells →
@@ -271,14 +273,14 @@ calls-keep s st [] l h = h
 calls-keep s st (c ∷ cs) l h = calls-keep s (state_after s st c) cs l (call-keeps s st c l h)
 
 -- power-on is a sound state of its size
-pub power-on-whole : (s : List ℕ) → (sound_lines s).sound ≡ true → Whole s power_on
+pub power-on-whole : (s : List ℕ) → is_some (sound_lines s) ≡ true → Whole s power_on
 unfolding power_on
 power-on-whole s e = record { sound = power-on s e; long = refl; sized = refl }
 
 -- from power-on with a sound set, every state is sound
-pub always-sound : (s : List ℕ) (cs : List Call) → length s ≤ set_size → (sound_lines s).sound ≡ true → is_sound s (after_all s power_on cs) ≡ true
+pub always-sound : (s : List ℕ) (cs : List Call) → length s ≤ set_size → is_some (sound_lines s) ≡ true → is_sound s (after_all s power_on cs) ≡ true
 always-sound s cs l e = (calls-keep s power_on cs l (power-on-whole s e)).sound
 
 -- and 22 never arises
-pub never-22 : (s : List ℕ) (cs : List Call) (c : Call) → length s ≤ set_size → (sound_lines s).sound ≡ true → Not22 (code_after s (after_all s power_on cs) c)
+pub never-22 : (s : List ℕ) (cs : List Call) (c : Call) → length s ≤ set_size → is_some (sound_lines s) ≡ true → Not22 (code_after s (after_all s power_on cs) c)
 never-22 s cs c l e = call-not22 s (after_all s power_on cs) c l (calls-keep s power_on cs l (power-on-whole s e))

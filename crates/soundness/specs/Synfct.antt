@@ -1,23 +1,23 @@
 -- The parts of SYNFCT(n,target,variable) at a place, and what an action leaves: the words of the theorem that SYNFCT assigns (SynfctAssigns). Definitions only.
-use Rattle.std.specs.Prelude.{◌≡◌, List, [], ◌∷◌, ℕ, suc, ◌+◌, ◌*◌, ℤ, pos, negsuc}
-use Rattle.values.specs.declared.arithmetic.Worked.{Worked}
+use Rattle.std.specs.Prelude.{◌≡◌, List, [], ◌∷◌, ℕ, suc, ◌+◌, ◌*◌, ℤ, pos, negsuc, Result}
+use Rattle.values.specs.declared.codes.Alarm.{Alarm}
 use Rattle.values.specs.declared.curve.Curve.{Curve}
 use Rattle.tokens.specs.Token.{LEFT, RIGHT, EQUALS, MINUS, NUMBER, whole}
 use Rattle.tokens.specs.Descent.{token, Answer, good, ◌>>=◌, index_at}
 use Rattle.working.specs.Working.{variable_at}
-use Rattle.engine.specs.Set.{curve_line}
+use Rattle.engine.specs.Set.{defined_curve}
 use Rattle.engine.specs.Write.{write_to}
 use Rattle.engine.specs.Action.{World, Note, Did, with_vars, taken_at}
 
 -- ---- SYNFCT at p
 
 -- what the variable reads
-abbrev pub variable_read : List ℕ → World → ℕ → Worked
+abbrev pub variable_read : List ℕ → World → ℕ → Result ℤ Alarm
 variable_read s x p = variable_at s x.vars.r x.vars.cells (p + 9)
 
 -- the curve that n names
 abbrev pub curve_used : List ℕ → ℕ → Curve
-curve_used s p = (curve_line s (whole (token s (p + 2)))).curve
+curve_used s p = defined_curve s (whole (token s (p + 2)))
 
 -- the target's word and its index
 abbrev pub target_word : List ℕ → ℕ → ℕ

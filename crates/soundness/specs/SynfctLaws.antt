@@ -1,5 +1,5 @@
 -- Laws of what SYNFCT and assignments leave: a write, an assignment of a number as it is written, and which action begins with which word. Nothing is assumed.
-use Rattle.std.specs.Prelude.{◌≡◌, refl, Bool, List, [], ℕ, suc, ◌+◌, ◌-◌, ◌*◌, ℤ, pos, negsuc}
+use Rattle.std.specs.Prelude.{◌≡◌, refl, Bool, List, [], ℕ, suc, ◌+◌, ◌-◌, ◌*◌, ℤ, pos, negsuc, Result, Ok}
 use Rattle.std.proofs.Math.Path.{ap}
 use Rattle.std.proofs.Common.{◌∙◌, ne_eqb, le-leb}
 use Rattle.std.proofs.Math.Bool.{true, false}
@@ -14,9 +14,10 @@ use Rattle.tokens.specs.Descent.{token, Answer, good, stop, ◌>>=◌, Read, rea
 use Rattle.checking.specs.Fault.{is_removal}
 use Rattle.working.specs.Operators.{from_worked}
 use Rattle.working.specs.Working.{told, value_over, right_value}
-use Rattle.working.specs.declared.walk.ValueOrAlarm.{ValueOrAlarm}
-use Rattle.engine.specs.Write.{Vars}
-use Rattle.engine.specs.Action.{World, did, with_vars, from_value_or_alarm, taken_at, assignment_of, synfct_of, action_of}
+use Rattle.values.specs.declared.codes.Alarm.{Alarm}
+use Rattle.working.specs.declared.walk.Reached.{Reached}
+use Rattle.engine.specs.declared.write.Vars.{Vars}
+use Rattle.engine.specs.Action.{World, did, with_vars, from_reached, taken_at, assignment_of, synfct_of, action_of}
 use Rattle.soundness.specs.PassLaws.{between-some}
 use Rattle.soundness.specs.Synfct.{left, assignment_tokens, Assigns}
 
@@ -45,7 +46,7 @@ module _ (s : List ℕ) (r c : List ℤ) where
   one-sum f k p q v h e = rw (one_product f k p q v h e) (none_more is_term (read_product s 𝓥 f (suc k)) k v q (rw e))
 
   -- a right side of one operand, at the line's end
-  one-operand : (p q : ℕ) (v : ℤ) → read_operand s 𝓥 set_size p ≡ read v q → token s q ≡ END → right_value s r c p ≡ record { good = true; value = v; next = q }
+  one-operand : (p q : ℕ) (v : ℤ) → read_operand s 𝓥 set_size p ≡ read v q → token s q ≡ END → right_value s r c p ≡ Ok (record { value = v; next = q })
   unfolding right_value sum_at
   one-operand p q v h e = ap told (one-sum (read_operand s 𝓥 set_size) (set_size - 1) p q v h e)
 
@@ -70,12 +71,12 @@ module _ (s : List ℕ) (r c : List ℤ) where
       ∙ ap (λ (y : Read ℤ). then y (λ z i. up_to (from_worked (negation_of z)) i)) (one_number k (p + 1) (suc n) e) ∙ rw (q, valued-value (negsuc n) h)
 
 -- a right side that is no removal
-taken-one : (s : List ℕ) (x : Vars) (p q : ℕ) (v : ℤ) → is_fifo (token s p) ≡ false → right_value s x.r x.cells p ≡ record { good = true; value = v; next = q } →
+taken-one : (s : List ℕ) (x : Vars) (p q : ℕ) (v : ℤ) → is_fifo (token s p) ≡ false → right_value s x.r x.cells p ≡ Ok (record { value = v; next = q }) →
     taken_at s x p ≡ good (record { value = v; vars = x; next = q })
 unfolding taken_at is_removal
 taken-one s x p q v f h =
     let e : is_removal s p ≡ false = rw f in
-    refused _ _ _ e ∙ ap (λ (g : ValueOrAlarm). from_value_or_alarm g >>= λ a. good (record { value = a.0; vars = x; next = a.1 })) h
+    refused _ _ _ e ∙ ap (λ (g : Result Reached Alarm). from_reached g >>= λ a. good (record { value = a.0; vars = x; next = a.1 })) h
 
 -- the tokens of an assignment of a number assign it
 pub number-assigns : (x : World) (w t : ℕ) (y : ℤ) → in_range y ≡ true → Assigns (assignment_tokens w t y) x 0 w (index_of w t) y

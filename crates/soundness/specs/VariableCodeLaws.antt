@@ -1,25 +1,25 @@
 -- Laws of the codes that stop the reading of a variable, a write, a curve and SYNFCT, of any set and any state: 22, 30, 32, 33 or 34. Nothing is assumed.
-use Rattle.std.specs.Prelude.{refl, ◌||◌, List, ℕ, ◌+◌, eqb, ℤ, pos, length}
-use Rattle.values.specs.Codes.{unsound, out_of_range, fifo_empty, fifo_full, not_allowed}
+use Rattle.std.specs.Prelude.{refl, ◌||◌, List, ℕ, ◌+◌, eqb, ℤ, pos, length, Result, Ok, Err}
+use Rattle.values.specs.Codes.{unsound, out_of_range, fifo_empty, fifo_full, not_allowed, code_of}
 use Rattle.values.specs.Choice.{either, either-cond}
 use Rattle.values.specs.Value.{unit, in_range, equal_to, valued, marker_of, output_of}
 use Rattle.values.specs.Curve.{curve_of}
 use Rattle.values.specs.CurveLaws.{Only30, curve-alarm}
 use Rattle.values.specs.declared.curve.Curve.{Curve}
-use Rattle.values.specs.Fifo.{places, fits, as_fifo_value, append_answer, remove_answer, empty_answer, sum_first, oldest_of, newest_of, total_of, count_of}
-use Rattle.values.specs.declared.arithmetic.Worked.{Worked}
-use Rattle.values.specs.declared.arithmetic.Worked.TheVariants as W
-use Rattle.values.specs.declared.fifo.FifoValue.{FifoValue}
+use Rattle.values.specs.Fifo.{places, fits, append_answer, remove_answer, empty_answer, sum_first, oldest_of, newest_of, total_of, count_of}
+use Rattle.values.specs.declared.codes.Alarm.{Alarm}
 use Rattle.values.specs.declared.fifo.Moved.{Moved}
-use Rattle.values.specs.declared.fifo.Moved.TheVariants as M
 use Rattle.tokens.specs.Token.{MARKER, PARAM, OUT, TIMER, R, is_variable, is_fifo, whole}
 use Rattle.tokens.specs.Descent.{token, Answer, good, stop, ◌>>=◌, is_indexed, index_at}
 use Rattle.tokens.specs.Index.{is_inside}
 use Rattle.working.specs.Operators.{from_worked}
-use Rattle.working.specs.Variables.{fifo_of, run, beat_count, from_fifo_value, fifo_value, fifo_at, variable_value}
+use Rattle.working.specs.Variables.{fifo_of, run, beat_count, fifo_value, fifo_at, variable_value}
 use Rattle.working.specs.Working.{variable_at}
-use Rattle.engine.specs.Set.{curve_line}
-use Rattle.engine.specs.Write.{Vars, Celled, moved, change_answer, change_fifo, write_fifo, write_cell, write_inside, write_to}
+use Rattle.engine.specs.Set.{defined_curve}
+use Rattle.engine.specs.Write.{Celled, moved, change_answer, change_fifo, write_fifo, write_cell, write_inside, write_to}
+use Rattle.engine.specs.declared.write.Change.{Change}
+use Rattle.engine.specs.declared.write.Change.TheVariants.{Append, Remove, Empty}
+use Rattle.engine.specs.declared.write.Vars.{Vars}
 use Rattle.engine.specs.Action.{World, curve_assigned, synfct_of}
 
 -- ---- what stops, stops by such a code
@@ -43,39 +43,27 @@ pub record Such (P : ℕ → Type 0) : Type 0 where
 module _ (P : ℕ → Type 0) (such : Such P) where
   -- ---- a variable
 
-  -- what was worked, in each way that the code holds it
-  abbrev pub WorkedBy : Worked → Type 0
-  WorkedBy (W.Value v) = Unit {0}
-  WorkedBy (W.Alarm c) = P c
+  -- what was worked, or moved
+  abbrev pub WorkedBy : {A : Type 0} → Result A Alarm → Type 0
+  WorkedBy (Ok x) = Unit {0}
+  WorkedBy (Err a) = P (code_of a)
 
-  abbrev FifoBy : FifoValue → Type 0
-  FifoBy x = WorkedBy (from_fifo_value x)
-
-  abbrev MovedBy : Moved → Type 0
-  MovedBy (M.Done v n) = Unit {0}
-  MovedBy (M.Alarm c) = P c
-  MovedBy M.Unfit = Unit {0}
-
-  pub from-worked : (x : Worked) → WorkedBy x → StopsBy P (from_worked x)
-  from-worked (W.Value v) h = tt
-  from-worked (W.Alarm c) h = h
+  pub from-worked : (x : Result ℤ Alarm) → WorkedBy x → StopsBy P (from_worked x)
+  from-worked (Ok v) h = tt
+  from-worked (Err a) h = h
 
   pub valued_by : (z : ℤ) → WorkedBy (valued z)
   unfolding valued
   valued_by z = either-cond WorkedBy (in_range z) _ _ tt such.is-30
 
-  asked_by : (x : Worked) → WorkedBy x → FifoBy (as_fifo_value x)
-  asked_by (W.Value v) h = tt
-  asked_by (W.Alarm c) h = h
-
   fifo-by : (xs : List ℤ) (n i : ℕ) → WorkedBy (fifo_value xs n i)
   unfolding fifo_value oldest_of newest_of total_of count_of
   fifo-by xs n i =
       let f = fits (length xs) n in
-      either WorkedBy (eqb i 1) (λ e. either-cond FifoBy f _ _ (either-cond FifoBy (eqb n 0) _ _ such.is_32 tt) such.is-22) λ e.
-      either WorkedBy (eqb i 2) (λ e. either-cond FifoBy f _ _ (either-cond FifoBy (eqb n 0) _ _ such.is_32 tt) such.is-22) λ e.
-      either WorkedBy (eqb i 3) (λ e. either-cond FifoBy f _ _ (asked_by (valued (sum_first xs n)) (valued_by (sum_first xs n))) such.is-22) λ e.
-      either WorkedBy (eqb i 4) (λ e. either-cond FifoBy f _ _ tt such.is-22) (λ e. such.is-22)
+      either WorkedBy (eqb i 1) (λ e. either-cond WorkedBy f _ _ (either-cond WorkedBy (eqb n 0) _ _ such.is_32 tt) such.is-22) λ e.
+      either WorkedBy (eqb i 2) (λ e. either-cond WorkedBy f _ _ (either-cond WorkedBy (eqb n 0) _ _ such.is_32 tt) such.is-22) λ e.
+      either WorkedBy (eqb i 3) (λ e. either-cond WorkedBy f _ _ (valued_by (sum_first xs n)) such.is-22) λ e.
+      either WorkedBy (eqb i 4) (λ e. either-cond WorkedBy f _ _ tt such.is-22) (λ e. such.is-22)
 
   pub variable-by : (r c : List ℤ) (w i : ℕ) → WorkedBy (variable_value r c w i)
   unfolding variable_value fifo_at
@@ -90,22 +78,19 @@ module _ (P : ℕ → Type 0) (such : Such P) where
 
   -- ---- a write
 
-  change-by : (op : ℕ) (xs : List ℤ) (n : ℕ) (v : ℤ) → MovedBy (change_answer op xs n v)
+  change-by : (op : Change) (xs : List ℤ) (n : ℕ) → WorkedBy (change_answer op xs n)
   unfolding change_answer append_answer remove_answer empty_answer
-  change-by op xs n v =
-      let f = fits (length xs) n in
-      either-cond MovedBy (eqb op 0) _ _ (either-cond MovedBy f _ _ (either-cond MovedBy (eqb n places) _ _ such.is-33 tt) tt)
-      (either-cond MovedBy (eqb op 1) _ _ (either-cond MovedBy f _ _ (either-cond MovedBy (eqb n 0) _ _ such.is_32 tt) tt)
-      (either-cond MovedBy f _ _ (either-cond MovedBy (equal_to v (pos 0)) _ _ tt such.is-34) tt))
+  change-by (Append v) xs n = either-cond WorkedBy (fits (length xs) n) _ _ (either-cond WorkedBy (eqb n places) _ _ such.is-33 tt) such.is-22
+  change-by Remove xs n = either-cond WorkedBy (fits (length xs) n) _ _ (either-cond WorkedBy (eqb n 0) _ _ such.is_32 tt) such.is-22
+  change-by (Empty v) xs n = either-cond WorkedBy (fits (length xs) n) _ _ (either-cond WorkedBy (equal_to v (pos 0)) _ _ tt such.is-34) such.is-22
 
-  moved_by : (r c : List ℤ) (k : ℕ) (xs : List ℤ) (m : Moved) → MovedBy m → StopsBy P (moved r c k xs m)
-  moved_by r c k xs (M.Done v n) h = tt
-  moved_by r c k xs (M.Alarm a) h = h
-  moved_by r c k xs M.Unfit h = such.is-22
+  moved_by : (r c : List ℤ) (k : ℕ) (xs : List ℤ) (m : Result Moved Alarm) → WorkedBy m → StopsBy P (moved r c k xs m)
+  moved_by r c k xs (Ok m) h = tt
+  moved_by r c k xs (Err a) h = h
 
-  pub fifo-change-by : (r c : List ℤ) (op w : ℕ) (v : ℤ) → StopsBy P (change_fifo r c op w v)
+  pub fifo-change-by : (r c : List ℤ) (op : Change) (w : ℕ) → StopsBy P (change_fifo r c op w)
   unfolding change_fifo
-  fifo-change-by r c op w v = moved_by r c (fifo_of w) _ (change_answer op (run r (fifo_of w)) (beat_count c (fifo_of w)) v) (change-by op (run r (fifo_of w)) (beat_count c (fifo_of w)) v)
+  fifo-change-by r c op w = moved_by r c (fifo_of w) _ (change_answer op (run r (fifo_of w)) (beat_count c (fifo_of w))) (change-by op (run r (fifo_of w)) (beat_count c (fifo_of w)))
 
   pub write-by : (x : Vars) (w i : ℕ) (v : ℤ) → StopsBy P (write_to x w i v)
   unfolding write_to write_inside write_fifo write_cell marker_of output_of
@@ -115,8 +100,8 @@ module _ (P : ℕ → Type 0) (such : Such P) where
       either Q (is_inside w i)
       (λ e. either Q (eqb w R) (λ e. tt) λ e.
       either Q (is_fifo w)
-      (λ e. either Q (eqb i 0) (λ e. stops_then P (change_fifo x.r x.cells 0 w v) _ (fifo-change-by x.r x.cells 0 w v) (λ a. tt)) λ e.
-      either Q (eqb i 4) (λ e. stops_then P (change_fifo x.r x.cells 2 w v) _ (fifo-change-by x.r x.cells 2 w v) (λ a. tt)) (λ e. such.is-22)) λ e.
+      (λ e. either Q (eqb i 0) (λ e. stops_then P (change_fifo x.r x.cells (Append v) w) _ (fifo-change-by x.r x.cells (Append v) w) (λ a. tt)) λ e.
+      either Q (eqb i 4) (λ e. stops_then P (change_fifo x.r x.cells (Empty v) w) _ (fifo-change-by x.r x.cells (Empty v) w) (λ a. tt)) (λ e. such.is-22)) λ e.
       stops_then P (write_cell x.cells x.runs w i v) _
       (either C (eqb w MARKER) (λ e. stops_then P (from_worked (marker_of v)) _ (from-worked (marker_of v) (either-cond WorkedBy (in_range v) _ _ tt such.is-30)) (λ u. tt)) λ e. either C (eqb w PARAM) (λ e. tt) λ e.
       either C (eqb w OUT) (λ e. stops_then P (from_worked (output_of v)) _ (from-worked (output_of v) (either-cond WorkedBy (equal_to v (pos 0) || equal_to v (pos unit)) _ _ tt such.is-34)) (λ u. tt)) λ e.
@@ -126,9 +111,9 @@ module _ (P : ℕ → Type 0) (such : Such P) where
   -- ---- a curve
 
   -- what has no alarm but 30
-  only-30-by : (x : Worked) → Only30 x → WorkedBy x
-  only-30-by (W.Value v) h = tt
-  only-30-by (W.Alarm c) h = rw (h c refl) such.is-30
+  only-30-by : (x : Result ℤ Alarm) → Only30 x → WorkedBy x
+  only-30-by (Ok v) h = tt
+  only-30-by (Err c) h = rw (h c refl) such.is-30
 
   curve-by : (x : Vars) (c : Curve) (a : ℤ) (w i : ℕ) → StopsBy P (curve_assigned x c a w i)
   unfolding curve_assigned
@@ -140,6 +125,6 @@ module _ (P : ℕ → Type 0) (such : Such P) where
       let w = token s (p + 4) in
       let i = index_at s w (p + 4) in
       let v = variable_at s x.vars.r x.vars.cells (p + 9) in
-      let c = (curve_line s (whole (token s (p + 2)))).curve in
+      let c = (defined_curve s (whole (token s (p + 2)))) in
       stops_then P (from_worked v) _ (from-worked v (variable-at-by s x.vars.r x.vars.cells (p + 9))) λ a.
       stops_then P (curve_assigned x.vars c a w i) _ (curve-by x.vars c a w i) (λ y. tt)

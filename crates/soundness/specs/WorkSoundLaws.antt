@@ -1,27 +1,25 @@
 -- Laws of working an expression beside its check: where the check finds no fault, the value is in range, and the working stops only by an alarm, never by 22. Nothing is assumed.
-use Rattle.std.specs.Prelude.{◌≡◌, refl, Bool, true, false, not, ◌&&◌, List, ℕ, ◌<◌, ◌≤◌, eqb, leb, ℤ, pos, nat_abs, length, get_or}
-use Rattle.std.proofs.Common.{arith, leb-true, le-ltb}
+use Rattle.std.specs.Prelude.{◌≡◌, refl, Bool, true, false, not, ◌&&◌, List, ℕ, ◌≤◌, eqb, leb, ℤ, pos, nat_abs, length, get_or, Result, Ok, Err}
+use Rattle.std.proofs.Common.{arith, leb-true}
 use Rattle.std.proofs.lemmas.Bool.{eqb-false, not-true}
-use Rattle.values.specs.Codes.{outside, read_only, out_of_range, zero_divisor, fifo_empty}
+use Rattle.values.specs.Codes.{outside, read_only, code_of, alarm_with}
+use Rattle.values.specs.CodeLaws.{alarm-back}
 use Rattle.values.specs.Choice.{either, if_not, either-cond}
-use Rattle.values.specs.Value.{top, in_range, less_than, valued, sum_of, difference_of, product_of, quotient_of, negation_of}
+use Rattle.values.specs.Value.{top, in_range, valued, sum_of, difference_of, product_of, quotient_of, negation_of}
 use Rattle.values.specs.ValueLaws.{Ranged, abs-range, sum-in-range, difference-in-range, product-in-range, quotient-in-range, negation-in-range}
-use Rattle.values.specs.Fifo.{places, sum_first, as_fifo_value, oldest_of, newest_of, total_of, count_of}
-use Rattle.values.specs.FifoLaws.{fits-holds, PlacesRanged, FifoValueRanged, oldest-in-range, newest-in-range, total-in-range, count-in-range}
+use Rattle.values.specs.Fifo.{places, sum_first, oldest_of, newest_of, total_of, count_of}
+use Rattle.values.specs.FifoLaws.{fits-holds, PlacesRanged, oldest-in-range, newest-in-range, total-in-range, count-in-range}
 use Rattle.values.specs.Numbers.{clash}
-use Rattle.values.specs.declared.arithmetic.Worked.{Worked}
-use Rattle.values.specs.declared.arithmetic.Worked.TheVariants as W
-use Rattle.values.specs.declared.fifo.FifoValue.{FifoValue}
-use Rattle.values.specs.declared.fifo.FifoValue.TheVariants as S
+use Rattle.values.specs.declared.codes.Alarm.{Alarm}
+use Rattle.values.specs.declared.codes.Alarm.TheVariants.{OutOfRange, ZeroDivisor, FifoEmpty}
 use Rattle.tokens.specs.Token.{MINUS, PLUS, TIMES, OVER, R, is_logic, is_fifo, thousandths}
 use Rattle.tokens.specs.Descent.{Answer, good}
 use Rattle.tokens.specs.Index.{is_inside}
-use Rattle.working.specs.Variables.{cell_of, fifo_of, run, beat_count, from_fifo_value, fifo_value, fifo_at, variable_value}
+use Rattle.working.specs.Variables.{cell_of, fifo_of, run, beat_count, fifo_value, fifo_at, variable_value}
 use Rattle.tokens.specs.SingleFault.{lower, unless, number_fault, read_fault}
 use Rattle.checking.specs.Fault.{wanting, Sight, join_sights, sight}
 use Rattle.working.specs.Operators.{from_worked, yes_no, is_yes, join_truths, join_values}
 use Rattle.working.specs.Working.{value_over}
-use Rattle.engine.specs.Action.{alarm_of}
 use Rattle.tokens.specs.IndexLaws.{last-inside, last-fifo}
 use Rattle.soundness.specs.GoodAnswers.{Not22}
 use Rattle.soundness.specs.CellSoundLaws.{run-ranged}
@@ -30,24 +28,19 @@ use Rattle.soundness.specs.InStepLaws.{Agree, Steps}
 
 -- ---- what the variables read is in range
 
-same-ranged : (z : ℤ) → in_range z ≡ true → Ranged (W.Value z)
+same-ranged : (z : ℤ) → in_range z ≡ true → Ranged (Ok z)
 same-ranged z h v e = let q : z ≡ v = cc in rw (← q) h
 
-alarm-ranged : (k : ℕ) → Ranged (W.Alarm k)
+alarm-ranged : (k : Alarm) → Ranged (Err k)
 alarm-ranged k v e = clash (cc)
-
-asked-ranged : (x : FifoValue) → FifoValueRanged x → Ranged (from_fifo_value x)
-asked-ranged (S.Value z) h = same-ranged z (h z refl)
-asked-ranged (S.Alarm k) h = alarm-ranged k
-asked-ranged S.Unfit h = alarm-ranged _
 
 fifo-ranged : (xs : List ℤ) (n i : ℕ) → PlacesRanged xs → Ranged (fifo_value xs n i)
 unfolding fifo_value
 fifo-ranged xs n i h =
-    either Ranged (eqb i 1) (λ e. asked-ranged (oldest_of xs n) (oldest-in-range xs n h)) λ e.
-    either Ranged (eqb i 2) (λ e. asked-ranged (newest_of xs n) (newest-in-range xs n h)) λ e.
-    either Ranged (eqb i 3) (λ e. asked-ranged (total_of xs n) (total-in-range xs n)) λ e.
-    either Ranged (eqb i 4) (λ e. asked-ranged (count_of xs n) (count-in-range xs n)) (λ e. alarm-ranged _)
+    either Ranged (eqb i 1) (λ e. oldest-in-range xs n h) λ e.
+    either Ranged (eqb i 2) (λ e. newest-in-range xs n h) λ e.
+    either Ranged (eqb i 3) (λ e. total-in-range xs n) λ e.
+    either Ranged (eqb i 4) (λ e. count-in-range xs n) (λ e. alarm-ranged _)
 
 -- over R and cells that are in range
 pub variable-ranged : (r c : List ℤ) (w i : ℕ) → PlacesRanged r → PlacesRanged c → Ranged (variable_value r c w i)
@@ -61,51 +54,42 @@ variable-ranged r c w i h k =
 
 -- a code that is told as another than 22
 abbrev pub Calm : ℕ → Type 0
-Calm k = Not22 (alarm_of (pos k))
+Calm k = Not22 (code_of (alarm_with k))
 
-calm_code : (k : ℕ) → 0 < k → k ≤ 255 → Not22 k → Calm k
-unfolding alarm_of less_than
-calm_code k p l h = rw (le-ltb k 1 p, le-ltb 255 k l) h
+calm_code : (a : Alarm) → Not22 (code_of a) → Calm (code_of a)
+calm_code a h = rw (alarm-back a) h
 
 -- so it is another itself
 pub calm-not-22 : (k : ℕ) → Calm k → Not22 k
-unfolding alarm_of less_than
 calm-not-22 k c e = let d = rw e at c in d refl
 
 -- the alarm of what was worked, if it is one
-abbrev pub Calmed : Worked → Type 0
-Calmed x = (k : ℕ) → x ≡ W.Alarm k → Calm k
+abbrev pub Calmed : Result ℤ Alarm → Type 0
+Calmed x = (k : Alarm) → x ≡ Err k → Calm (code_of k)
 
-value-calmed : (v : ℤ) → Calmed (W.Value v)
+value-calmed : (v : ℤ) → Calmed (Ok v)
 value-calmed v k e = clash (cc)
 
-alarm-calmed : (a : ℕ) → 0 < a → a ≤ 255 → Not22 a → Calmed (W.Alarm a)
-alarm-calmed a p l h k e = let q : a ≡ k = cc in rw (← q) (calm_code a p l h)
+alarm-calmed : (a : Alarm) → Not22 (code_of a) → Calmed (Err a)
+alarm-calmed a h k e = let q : a ≡ k = cc in rw (← q) (calm_code a h)
 
 valued-calmed : (z : ℤ) → Calmed (valued z)
 unfolding valued
-valued-calmed z = either-cond Calmed (in_range z) _ _ (value-calmed z) (alarm-calmed out_of_range (omega arith) (omega arith) (λ e. omega arith))
+valued-calmed z = either-cond Calmed (in_range z) _ _ (value-calmed z) (alarm-calmed OutOfRange (λ e. omega arith))
 
 quotient-calmed : (a b : ℤ) → Calmed (quotient_of a b)
 unfolding quotient_of
-quotient-calmed a b = either-cond Calmed (eqb (nat_abs b) 0) _ _ (alarm-calmed zero_divisor (omega arith) (omega arith) (λ e. omega arith)) (valued-calmed _)
-
-seen-calmed : (x : Worked) → Calmed x → Calmed (from_fifo_value (as_fifo_value x))
-seen-calmed (W.Value v) h = value-calmed v
-seen-calmed (W.Alarm k) h = h
-
-abbrev SeenCalmed : FifoValue → Type 0
-SeenCalmed x = Calmed (from_fifo_value x)
+quotient-calmed a b = either-cond Calmed (eqb (nat_abs b) 0) _ _ (alarm-calmed ZeroDivisor (λ e. omega arith)) (valued-calmed _)
 
 -- a FIFO of sixteen places with a count, read at [1] to [4]
 fifo-calmed : (xs : List ℤ) (n i : ℕ) → length xs ≡ places → n ≤ places → eqb i 0 ≡ false → i ≤ 4 → Calmed (fifo_value xs n i)
 unfolding fifo_value oldest_of newest_of total_of count_of
 fifo-calmed xs n i s l z m =
     let f = fits-holds xs n s l in
-    let empty = alarm-calmed fifo_empty (omega arith) (omega arith) (λ e. omega arith) in
-    either Calmed (eqb i 1) (λ e. rw f (either-cond SeenCalmed (eqb n 0) _ _ empty (value-calmed _))) λ e1.
-    either Calmed (eqb i 2) (λ e. rw f (either-cond SeenCalmed (eqb n 0) _ _ empty (value-calmed _))) λ e2.
-    either Calmed (eqb i 3) (λ e. rw f (seen-calmed (valued (sum_first xs n)) (valued-calmed (sum_first xs n)))) λ e3.
+    let empty = alarm-calmed FifoEmpty (λ e. omega arith) in
+    either Calmed (eqb i 1) (λ e. rw f (either-cond Calmed (eqb n 0) _ _ empty (value-calmed _))) λ e1.
+    either Calmed (eqb i 2) (λ e. rw f (either-cond Calmed (eqb n 0) _ _ empty (value-calmed _))) λ e2.
+    either Calmed (eqb i 3) (λ e. rw f (valued-calmed (sum_first xs n))) λ e3.
     either Calmed (eqb i 4) (λ e. rw f (value-calmed _)) λ e4.
     absurd (omega (arith, eqb-false i 0 z, eqb-false i 1 e1, eqb-false i 2 e2, eqb-false i 3 e3, eqb-false i 4 e4))
 
@@ -134,9 +118,9 @@ StopsSight k a = a.fault ≡ 0 → Calm k
 abbrev Beside : Answer ℤ → Answer Sight → Type 0
 Beside = Agree FitsSight StopsSight
 
-worked_beside : (x : Worked) (a : Sight) → Ranged x → (a.fault ≡ 0 → Calmed x) → Beside (from_worked x) (good a)
-worked_beside (W.Value v) a h g = λ e. h v refl
-worked_beside (W.Alarm k) a h g = λ e. g e k refl
+worked_beside : (x : Result ℤ Alarm) (a : Sight) → Ranged x → (a.fault ≡ 0 → Calmed x) → Beside (from_worked x) (good a)
+worked_beside (Ok v) a h g = λ e. h v refl
+worked_beside (Err k) a h g = λ e. g e k refl
 
 truth-ranged : (b : Bool) → in_range (yes_no b) ≡ true
 truth-ranged true = abs-range (pos 1) (omega arith)

@@ -1,32 +1,33 @@
 -- Laws of the writes of a beat: the variables of a beat under way are sound, and each write of a value in range that the check allows keeps them so. Nothing is assumed.
-use Rattle.std.specs.Prelude.{◌≡◌, refl, Bool, true, false, cond, ◌||◌, ◌⊎◌, List, ℕ, ◌+◌, ◌-◌, min, ◌≤◌, ◌<◌, eqb, leb, ℤ, pos, length, set, drop}
+use Rattle.std.specs.Prelude.{◌≡◌, refl, Bool, true, false, cond, ◌||◌, ◌⊎◌, List, ℕ, ◌+◌, ◌-◌, min, ◌≤◌, ◌<◌, eqb, leb, ℤ, pos, length, set, drop, Result, Ok, Err}
 use Rattle.std.proofs.Math.Path.{sym, ap}
 use Rattle.std.proofs.Common.{◌∙◌, inl, inr, length-drop, length-set, length-take-le, get_or-drop}
 use native.Mathlib.Omega.{arith}
 use Rattle.std.proofs.Math.ListN.{get_or}
 use Rattle.std.proofs.lemmas.List.{drop-set-add}
 use borrow.Author.Tests.{eqb-true, eqb-false, leb-true, ltb-true}
-use Rattle.values.specs.Codes.{outside, read_only, not_allowed}
+use Rattle.values.specs.Codes.{outside, read_only, code_of}
 use Rattle.values.specs.Choice.{either, if_not, either-cond, both}
 use Rattle.values.specs.Value.{unit, in_range, equal_to, nearest_units, marker_of, output_of}
 use Rattle.values.specs.ValueLaws.{abs-range, output-either, output-same}
 use Rattle.values.specs.MarkerLaws.{marker-in-range, marker-ranged, marker-whole}
 use Rattle.values.specs.Time.{timer}
 use Rattle.values.specs.TimeLaws.{written_keeps}
-use Rattle.values.specs.Fifo.{places, Unused, count_after, fits, append_answer, appended, remove_answer, removed, empty_answer, emptied}
-use Rattle.values.specs.FifoLaws.{fits-holds, PlacesRanged, append-length, append-count, append-unused, append-ranged, remove-length, remove-count, remove-unused, remove-ranged, removed-in-range, empty-length, empty-count, empty-unused, empty-ranged, set-each, zero-in-range}
+use Rattle.values.specs.Fifo.{places, Unused, change_of, count_after, fits, append_answer, appended, remove_answer, removed, empty_answer, emptied}
+use Rattle.values.specs.FifoLaws.{fits-holds, PlacesRanged, append-length, append-count, append-unused, append-ranged, remove-length, remove-count, remove-unused, remove-ranged, change-value, removed-in-range, empty-length, empty-count, empty-unused, empty-ranged, set-each, zero-in-range}
 use Rattle.values.specs.Numbers.{clash}
-use Rattle.values.specs.declared.arithmetic.Worked.{Worked}
-use Rattle.values.specs.declared.arithmetic.Worked.TheVariants as W
+use Rattle.values.specs.declared.codes.Alarm.{Alarm}
+use Rattle.values.specs.declared.codes.Alarm.TheVariants.{NotAllowed, Unsound}
 use Rattle.values.specs.declared.fifo.Moved.{Moved}
-use Rattle.values.specs.declared.fifo.Moved.TheVariants as M
 use Rattle.tokens.specs.Token.{OUT, MARKER, PARAM, R, TIMER, FIFO1, is_fifo}
 use Rattle.tokens.specs.Index.{first_index, last_index, is_inside}
 use Rattle.working.specs.Variables.{fifos, run_at, r_count, marker_at, param_at, timer_at, count_at, state_cells, input_count, cell_count, cell_of, fifo_of, run, as_count, count_in, beat_count}
 use Rattle.tokens.specs.SingleFault.{lower, unless, is_writable, write_fault}
 use Rattle.working.specs.Operators.{from_worked}
 use Rattle.engine.specs.Sound.{is_cell, is_output}
-use Rattle.engine.specs.Write.{Vars, Changed, Celled, with_run, moved, write_timer, change_answer, changed, change_fifo, write_fifo, put_cell, write_cell, write_inside, write_to}
+use Rattle.engine.specs.declared.write.Change.TheVariants.{Append, Remove, Empty}
+use Rattle.engine.specs.declared.write.Vars.{Vars}
+use Rattle.engine.specs.Write.{Changed, Celled, with_run, moved, write_timer, change_answer, changed, change_fifo, write_fifo, put_cell, write_cell, write_inside, write_to}
 use Rattle.tokens.specs.IndexLaws.{last-inside}
 use Rattle.soundness.specs.GoodAnswers.{Not22, Holds, holds_then}
 use Rattle.soundness.specs.CellSoundLaws.{cell-ranged, timer-cell, count-cell, right-output, right-marker, right-parameter, right-timer, CellsSound, run-ranged, replaced-length, r-keeps, cell-keeps, fifo-keeps}
@@ -82,30 +83,29 @@ module _ (r c : List ℤ) (h : BeatSound r c) where
 -- ---- FIFOs
 
 -- an answer that is no refusal with 22
-abbrev CalmMove : Moved → Type 0
-CalmMove (M.Done v n) = Unit {0}
-CalmMove (M.Alarm k) = Not22 k
-CalmMove M.Unfit = ⊥
+abbrev CalmMove : Result Moved Alarm → Type 0
+CalmMove (Ok m) = Unit {0}
+CalmMove (Err a) = Not22 (code_of a)
 
 -- a change of a FIFO with the count n that gave `answer` and left the places ys
-record Changes (n : ℕ) (ys : List ℤ) (answer : Moved) : Type 0 where
+record Changes (n : ℕ) (ys : List ℤ) (answer : Result Moved Alarm) : Type 0 where
   long : length ys ≡ places
   ranged : PlacesRanged ys
   unused : Unused ys (count_after answer n)
   few : count_after answer n ≤ places
-  done : (v : ℤ) (k : ℕ) → answer ≡ M.Done v k → in_range v ≡ true
+  done : (v : ℤ) (k : ℕ) → answer ≡ change_of v k → in_range v ≡ true
   calm : CalmMove answer
 
-fit-done : (b : Bool) (m : Moved) (v : ℤ) (k : ℕ) → cond b m M.Unfit ≡ M.Done v k → m ≡ M.Done v k
+fit-done : (b : Bool) (m : Result Moved Alarm) (v : ℤ) (k : ℕ) → cond b m (Err Unsound) ≡ change_of v k → m ≡ change_of v k
 fit-done true m v k e = e
 fit-done false m v k e = clash (cc)
 
-done-value : (b : Bool) (a : ℕ) (u v : ℤ) (j k : ℕ) → cond b (M.Alarm a) (M.Done u j) ≡ M.Done v k → u ≡ v
+done-value : (b : Bool) (a : Alarm) (u v : ℤ) (j k : ℕ) → cond b (Err a) (change_of u j) ≡ change_of v k → u ≡ v
 done-value true a u v j k e = clash (cc)
-done-value false a u v j k e = cc
+done-value false a u v j k e = change-value e
 
-done-zero : (b : Bool) (a : ℕ) (u v : ℤ) (j k : ℕ) → cond b (M.Done u j) (M.Alarm a) ≡ M.Done v k → u ≡ v
-done-zero true a u v j k e = cc
+done-zero : (b : Bool) (a : Alarm) (u v : ℤ) (j k : ℕ) → cond b (change_of u j) (Err a) ≡ change_of v k → u ≡ v
+done-zero true a u v j k e = change-value e
 done-zero false a u v j k e = clash (cc)
 
 module _ (xs : List ℤ) (n : ℕ) (s : length xs ≡ places) (p : PlacesRanged xs) (u : Unused xs n) (l : n ≤ places) where
@@ -170,8 +170,9 @@ module _ (r c : List ℤ) (w : ℕ) (h : BeatSound r c) (f : is_fifo w ≡ true)
   pub count-few : beat_count c (fifo_of w) ≤ places
   count-few = rw count_same (count-cell (count_at + fifo_of w) _ (omega arith) (h.state.right (count_at + fifo_of w)))
 
-  moved_keeps : (ys : List ℤ) (answer : Moved) → Changes (beat_count c (fifo_of w)) ys answer → Holds ChangedSound (moved r c (fifo_of w) ys answer)
-  moved_keeps ys (M.Done v n) e =
+  moved_keeps : (ys : List ℤ) (answer : Result Moved Alarm) → Changes (beat_count c (fifo_of w)) ys answer → Holds ChangedSound (moved r c (fifo_of w) ys answer)
+  moved_keeps ys (Ok m) e =
+      let n = m.count in
       let q : input_count + count_at + fifo_of w ≡ input_count + (count_at + fifo_of w) = omega arith in
       let lc : length (drop input_count c) ≡ state_cells = omega (arith, length-drop input_count c, h.sized) in
       let kept : BeatSound (with_run r (fifo_of w) ys) (set c (input_count + count_at + fifo_of w) (pos n)) =
@@ -182,22 +183,21 @@ module _ (r c : List ℤ) (w : ℕ) (h : BeatSound r c) (f : is_fifo w ≡ true)
         state = rw (q, drop-set-add input_count c (count_at + fifo_of w) (pos n))
             (fifo-keeps r (drop input_count c) (fifo_of w) ys n fifo-rank lc run_inside e.long e.few e.unused h.state e.ranged);
       } in
-      (kept, e.done v n refl)
-  moved_keeps ys (M.Alarm k) e = e.calm
-  moved_keeps ys M.Unfit e = absurd e.calm
+      (kept, e.done m.value m.count refl)
+  moved_keeps ys (Err a) e = e.calm
 
   -- a value in range is appended
-  pub append-keeps : (v : ℤ) → in_range v ≡ true → Holds ChangedSound (change_fifo r c 0 w v)
+  pub append-keeps : (v : ℤ) → in_range v ≡ true → Holds ChangedSound (change_fifo r c (Append v) w)
   unfolding change_fifo change_answer changed
   append-keeps v e = moved_keeps _ _ (append-changes (run r (fifo_of w)) (beat_count c (fifo_of w)) run_length (run-ranged r (fifo_of w) h.state.ranged) run-unused count-few v e)
 
   -- the oldest is removed
-  pub remove-keeps : (v : ℤ) → Holds ChangedSound (change_fifo r c 1 w v)
+  pub remove-keeps : Holds ChangedSound (change_fifo r c Remove w)
   unfolding change_fifo change_answer changed
-  remove-keeps v = moved_keeps _ _ (remove-changes (run r (fifo_of w)) (beat_count c (fifo_of w)) run_length (run-ranged r (fifo_of w) h.state.ranged) run-unused count-few)
+  remove-keeps = moved_keeps _ _ (remove-changes (run r (fifo_of w)) (beat_count c (fifo_of w)) run_length (run-ranged r (fifo_of w) h.state.ranged) run-unused count-few)
 
   -- all is removed
-  pub empty-keeps : (v : ℤ) → Holds ChangedSound (change_fifo r c 2 w v)
+  pub empty-keeps : (v : ℤ) → Holds ChangedSound (change_fifo r c (Empty v) w)
   unfolding change_fifo change_answer changed
   empty-keeps v = moved_keeps _ _ (empty-changes (run r (fifo_of w)) (beat_count c (fifo_of w)) run_length (run-ranged r (fifo_of w) h.state.ranged) run-unused count-few v)
 
@@ -210,9 +210,9 @@ fifo-write-keeps : (x : Vars) (w i : ℕ) (v : ℤ) → VarsSound x → is_fifo 
 unfolding write_fifo
 fifo-write-keeps x w i v h f m e =
     either (Holds VarsSound) (eqb i 0)
-    (λ p. holds_then ChangedSound VarsSound (change_fifo x.r x.cells 0 w v) _ (append-keeps x.r x.cells w h f v e) (λ a d. d.0)) λ p.
+    (λ p. holds_then ChangedSound VarsSound (change_fifo x.r x.cells (Append v) w) _ (append-keeps x.r x.cells w h f v e) (λ a d. d.0)) λ p.
     either (Holds VarsSound) (eqb i 4)
-    (λ q. holds_then ChangedSound VarsSound (change_fifo x.r x.cells 2 w v) _ (empty-keeps x.r x.cells w h f v) (λ a d. d.0)) λ q.
+    (λ q. holds_then ChangedSound VarsSound (change_fifo x.r x.cells (Empty v) w) _ (empty-keeps x.r x.cells w h f v) (λ a d. d.0)) λ q.
     let z = rw (p, q) at (fifo-writable w i f m) in
     clash (cc)
 
@@ -224,18 +224,18 @@ unfolding is_inside
 inside-low w i h = leb-true (first_index w) i (both (leb (first_index w) i) (leb i (last_index w)) h).0
 
 -- what working gave: what is true of its value, and its alarm is not 22
-pub worked-holds : (P : ℤ → Type 0) (w : Worked) → ((u : ℤ) → w ≡ W.Value u → P u) → ((k : ℕ) → w ≡ W.Alarm k → Not22 k) → Holds P (from_worked w)
-worked-holds P (W.Value u) h g = h u refl
-worked-holds P (W.Alarm k) h g = g k refl
+pub worked-holds : (P : ℤ → Type 0) (w : Result ℤ Alarm) → ((u : ℤ) → w ≡ Ok u → P u) → ((a : Alarm) → w ≡ Err a → Not22 (code_of a)) → Holds P (from_worked w)
+worked-holds P (Ok u) h g = h u refl
+worked-holds P (Err k) h g = g k refl
 
 -- the alarm of what takes only some values
-pub taken-alarm : (b : Bool) (v : ℤ) (a k : ℕ) → cond b (W.Value v) (W.Alarm a) ≡ W.Alarm k → a ≡ k
+pub taken-alarm : (b : Bool) (v : ℤ) (a k : Alarm) → cond b (Ok v) (Err a) ≡ Err k → a ≡ k
 taken-alarm true v a k e = clash (cc)
 taken-alarm false v a k e = cc
 
-output-alarm : (v : ℤ) (k : ℕ) → output_of v ≡ W.Alarm k → Not22 k
+output-alarm : (v : ℤ) (a : Alarm) → output_of v ≡ Err a → Not22 (code_of a)
 unfolding output_of
-output-alarm v k e z = let q = taken-alarm (equal_to v (pos 0) || equal_to v (pos unit)) v not_allowed k e in omega arith
+output-alarm v a e z = let q = taken-alarm (equal_to v (pos 0) || equal_to v (pos unit)) v NotAllowed a e in let y = rw (← q) at z in omega arith
 
 output-right : (v : ℤ) → (v ≡ pos 0) ⊎ (v ≡ pos unit) → is_output v ≡ true
 unfolding output_of equal_to
@@ -266,7 +266,7 @@ module _ (r c : List ℤ) (runs : List Bool) (h : BeatSound r c) (i : ℕ) (v : 
   output-keeps : first_index OUT ≤ i → i ≤ last_index OUT → Holds (CellSound r) (put_cell c runs (cell_of OUT i) (output_of v))
   unfolding cell_of
   output-keeps l m =
-      holds_then (λ u. (output_of v ≡ W.Value u)) (CellSound r) (from_worked (output_of v)) _ (worked-holds _ (output_of v) (λ u g. g) (output-alarm v)) λ u g.
+      holds_then (λ u. (output_of v ≡ Ok u)) (CellSound r) (from_worked (output_of v)) _ (worked-holds _ (output_of v) (λ u g. g) (output-alarm v)) λ u g.
       beat-cell r c h _ (i - 1) u (omega arith) (omega arith) (right-output (i - 1) u (omega arith) (rw (output-same v u g) e) (output-right u (output-either v u g)))
 
   timer-keeps : i ≤ last_index TIMER → CellSound r (write_timer c runs (cell_of TIMER i) i v)

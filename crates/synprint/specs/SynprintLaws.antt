@@ -1,5 +1,5 @@
 -- Laws of what synprint prints: of its size, and that it depends on the first bytes of the input alone. Assumes nothing.
-use Rattle.std.specs.Prelude.{◌≡◌, Bool, true, false, ◌⊎◌, eqb, leb, get_or, take, drop}
+use Rattle.std.specs.Prelude.{◌≡◌, Result, Ok, is_some, Bool, true, false, ◌⊎◌, eqb, leb, get_or, take, drop}
 use Rattle.std.proofs.Math.Path.{refl, ap}
 use Rattle.std.proofs.Common.{sym, ◌∙◌, inl, inr, arith, add-one, length-append, length-take, length-drop, take_all, take-take, length-take-le, eqb-true, leb-true, leb-false}
 use mathlib.Core.List.{List, [], ◌∷◌, ◌++◌}
@@ -23,9 +23,8 @@ use Rattle.transcript.specs.Input.{is_star, input_of}
 use Rattle.transcript.specs.StarLaws.{text-none, text-more, text-star, text-last, text-empty}
 use Rattle.transcript.specs.Output.{load_line}
 use Rattle.transcript.specs.OutputLaws.{load-room}
-use Rattle.print.specs.declared.set_print.Printed.{Printed}
 use Rattle.print.specs.PrintText.{print_text, print_answer, print_buffer}
-use Rattle.print.specs.PrintAnswerLaws.{answers-printed}
+use Rattle.print.specs.PrintAnswerLaws.{Answers, answers-printed}
 use Rattle.loading.specs.LoadAnswers.{code-1, code-line}
 use Rattle.loading.specs.LoadedSound.{load-lines-sound}
 use Rattle.round_trip.specs.PrintFits.{print-fits}
@@ -233,6 +232,17 @@ text-within t = let e = ap (λ (l : List ℕ). length l) (text-is t) in let m = 
 abbrev pub Said : List ℕ → List ℕ → List ℕ → ℕ → Type 0
 Said t out exit x = ((x ≡ length (synprint t)) × (x ≤ length exit)) × (exit ≡ put_at out 0 (synprint t))
 
+-- the set that a text loads prints into such a buffer: it is never refused
+module _ (out : List ℕ) (room : length out ≡ text_size) (t : List ℕ) {s : List ℕ} (e : s ≡ load_set t) where
+  print-done : Answers s out (Ok (length (print_text s))) (put_at out 0 (print_text s))
+  print-done =
+      let sound : is_some (sound_lines s) ≡ true = rw e (load-lines-sound t) in
+      let fits : length (print_text s) ≤ length out = rw e (let r = print-fits t in omega arith) in
+      answers-printed s out sound (omega arith) (length (print_text s)) (put_at out 0 (print_text s)) refl fits refl
+
+  pub never-refused : {p : Result ℕ ℕ} → p ≡ print_answer s out → p ≡ Ok (length (print_text s))
+  never-refused f = f ∙ sym print-done.0
+
 module _ (t out exit : List ℕ) (x : ℕ) (room : length out ≡ text_size) where
   said-as : (y : List ℕ) → loaded_print (input_of t).text ≡ y → x ≡ length y → exit ≡ put_at out 0 y → Said t out exit x
   unfolding synprint
@@ -247,10 +257,10 @@ module _ (t out exit : List ℕ) (x : ℕ) (room : length out ≡ text_size) whe
   said-refusal {code} {line} e f n l p =
       said-as (load_line code line) (printed-refusal (input_of t).text (λ z. n (e ∙ z)) ∙ rw (e, f)) l p
 
-  -- a print, which is never refused
-  pub said-print : (s : List ℕ) {p : Printed} → s ≡ load_set (input_of t).text → (load_answer (input_of t).text).code ≡ 0 → p ≡ print_answer s out → exit ≡ print_buffer s out → x ≡ p.size → Said t out exit x
+  -- a print
+  pub said-print : (s : List ℕ) {p : Result ℕ ℕ} → s ≡ load_set (input_of t).text → (load_answer (input_of t).text).code ≡ 0 → p ≡ print_answer s out → exit ≡ print_buffer s out → p ≡ Ok x → Said t out exit x
   said-print s {p} e c f g h =
-      let sound : (sound_lines s).sound ≡ true = rw e (load-lines-sound (input_of t).text) in
-      let fits : length (print_text s) ≤ length out = rw e (let r = print-fits (input_of t).text in omega arith) in
-      let (a, b) = answers-printed s out sound (omega arith) (length (print_text s)) (put_at out 0 (print_text s)) refl fits refl in
-      said-as (print_text s) (printed-set (input_of t).text c ∙ ap print_text (sym e)) (h ∙ ap (λ (y : Printed). y.size) (f ∙ sym a)) (g ∙ sym b)
+      let k = never-refused out room (input_of t).text e f in
+      let b = (print-done out room (input_of t).text e).1 in
+      let n : x ≡ length (print_text s) = cc in
+      said-as (print_text s) (printed-set (input_of t).text c ∙ ap print_text (sym e)) n (g ∙ sym b)

@@ -3,26 +3,20 @@
 // Where reading or writing fails it says so on standard error and stops.
 #![tactic(auto)]
 
-ghost use Rattle.std.specs.Prelude.{◌≡◌, ◌≤◌, length};
+ghost use Rattle.std.specs.Prelude.{◌≡◌, ◌≤◌, length, IfOk};
 ghost use Rattle.values.specs.PutAt.{put_at};
 ghost use Rattle.synprint.specs.Synprint.{synprint};
 
 use engine::empty_set;
 use print::print;
 use reader::load;
+use std::io;
 use std::io::Read;
 use tokens::token::TEXT_SIZE;
 use transcript::{put_refusal, set_text_size};
 
 // The bytes of input that are read: a text of 4,097 bytes is refused whatever it holds, and the line * behind one of 4,096 takes three more.
 const INPUT: usize = TEXT_SIZE + 4;
-
-// How many bytes of input came, and whether reading failed.
-#[derive(Drop)]
-struct Came {
-    size: usize,
-    failed: bool,
-}
 
 // What the input prints, at the start of a buffer; the answer is how many bytes it is.
 fn answer(input: &[u8], out: &mut [u8; TEXT_SIZE]) -> usize
@@ -32,61 +26,35 @@ fn answer(input: &[u8], out: &mut [u8; TEXT_SIZE]) -> usize
     let size = set_text_size(input);
     let mut set = empty_set();
     let l = load(&input[..size], &mut set);
-    let code = l.code;
-    if code != 0 {
-        return put_refusal(out, code, l.line);
+    if l.code != 0 {
+        return put_refusal(out, l.code, l.line);
     }
-    let p = print(&set, out);
-    p.size
+    // What a text loads is never refused.
+    print(&set, out).unwrap()
 }
 
-// Reads once into a part of a buffer.
-fn read_part(source: &mut impl Read, part: &mut [u8]) -> Came
-    ensures { result.size ≤ length part.old }
+// Reads until the input is over, or enough of it has come: how many bytes that is.
+fn read_input(source: &mut impl Read, input: &mut [u8]) -> io::Result<usize>
+    ensures { IfOk result (λ size. size ≤ length input.old) }
 {
-    match source.read(part) {
-        Ok(n) => Came {
-            size: n,
-            failed: false,
-        },
-        Err(_) => Came {
-            size: 0,
-            failed: true,
-        },
-    }
-}
-
-// Reads until the input is over, or enough of it has come.
-fn read_input(source: &mut impl Read, input: &mut [u8]) -> Came
-    ensures { result.size ≤ length input.old }
-{
-    let mut size: usize = 0;
+    let mut size = 0;
     while size < input.len() {
-        let c = read_part(source, &mut input[size..]);
-        let n = c.size;
+        let n = source.read(&mut input[size..])?;
         if n == 0 {
-            return Came {
-                size: size,
-                failed: c.failed,
-            };
+            break;
         }
         size += n;
     }
-    Came {
-        size: size,
-        failed: false,
-    }
+    Ok(size)
 }
 
 // Where not even standard error can be written, nothing is said.
 fn main(rt: HostRuntime) {
     let mut input = [0u8; INPUT];
-    let came = read_input(&mut rt.stdin(), &mut input);
-    if came.failed {
+    let Ok(size) = read_input(&mut rt.stdin(), &mut input) else {
         let _ = eprintln!(rt; "synprint: standard input cannot be read");
         return;
-    }
-    let size = came.size;
+    };
     let mut out = [0u8; TEXT_SIZE];
     let n = answer(&input[..size], &mut out);
     if rt.write_all(&out[..n]).is_err() {

@@ -1,6 +1,9 @@
 -- Laws of runs of bytes of one kind. Assumes nothing.
-use Rattle.std.specs.Prelude.{◌≡◌, Bool, true, false, List, [], ◌∷◌, ℕ, suc, ◌+◌, ◌≤◌, ◌<◌, length, drop, get_or}
-use Rattle.std.proofs.Common.{arith, add-one, length-drop, drop_of_length-le, drop-cons}
+use Rattle.std.specs.Prelude.{◌≡◌, refl, Bool, true, false, not, Option, unwrap_or, List, [], ◌∷◌, ℕ, suc, ◌+◌, ◌≤◌, length, drop, position, nat_lt}
+use Rattle.std.specs.List.{position_or_len}
+use Rattle.std.proofs.lemmas.List.Recursion.{is_position_or_len}
+use borrow.Author.Tests.{ltb-false}
+use Rattle.std.proofs.Common.{arith, length-drop}
 use Rattle.values.specs.Choice.{decide}
 use Rattle.text.specs.Byte.{run}
 
@@ -21,17 +24,19 @@ run-within p (b ∷ bs) =
     let i = run-within p bs in
     decide _ (p b) (λ e. rw (run_on p b bs e) (omega arith)) (λ e. rw (run-off p b bs e) (omega arith))
 
--- a run from a place on: a byte that is not of the kind, one that is, the end
-module _ (p : ℕ → Bool) (t : List ℕ) (k : ℕ) where
-  pub run-stops : k < length t → p (get_or t k 0) ≡ false → k + run p (drop k t) ≡ k
-  run-stops h e = rw (drop-cons t k 0 h, run-off p (get_or t k 0) (drop (suc k) t) e) (omega arith)
-
-  pub run-goes : k < length t → p (get_or t k 0) ≡ true → k + run p (drop k t) ≡ k + 1 + run p (drop (k + 1) t)
-  run-goes h e = rw (drop-cons t k 0 h, run_on p (get_or t k 0) (drop (suc k) t) e, add-one k) (omega arith)
-
-  pub run_ends : length t ≤ k → k + run p (drop k t) ≡ k
+-- the first byte that is not of the kind ends the run; without one all bytes are of it
+module _ (p : ℕ → Bool) where
+  run_before : (t : List ℕ) → run p t ≡ position_or_len (λ b. not (p b)) t
   unfolding run
-  run_ends h = rw (drop_of_length-le t h) (omega arith)
+  run_before = is_position_or_len (run p) (λ b. not (p b)) refl (λ b bs. decide _ (p b) (λ e. rw (run_on p b bs e, e) (omega arith)) (λ e. rw (run-off p b bs e, e)))
+
+  module _ (t : List ℕ) where
+    pub run_first : (o : Option ℕ) → o ≡ position (λ b. not (p b)) t → unwrap_or o (length t) ≡ run p t
+    run_first o h =
+        let w = run-within p t in
+        decide _ (nat_lt (run p t) (length t))
+        (λ e. rw (h, ← run_before t, e))
+        (λ e. let g = ltb-false _ _ e in rw (h, ← run_before t, e) (omega arith))
 
 -- where it ends is not beyond the end
 pub run_fits : (p : ℕ → Bool) (t : List ℕ) (k : ℕ) → k ≤ length t → k + run p (drop k t) ≤ length t

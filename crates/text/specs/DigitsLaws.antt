@@ -1,8 +1,8 @@
 -- A number in digits: its digits from the last on, how many they are, and the last put first. Assumes nothing.
 use Rattle.std.specs.Prelude.{◌≡◌, refl, ltb, length, set}
-use Rattle.std.proofs.Common.{sym, ap, ◌∙◌, length-append}
+use Rattle.std.proofs.Common.{sym, ap, ◌∙◌, length-append, pow-suc}
 use mathlib.Core.List.{List, [], ◌∷◌, ◌++◌}
-use Prim.Native.Nat.{ℕ, zero, suc, ◌+◌, ◌-◌, ◌*◌, ◌/◌, ◌%◌, ◌≤◌, ◌<◌}
+use Prim.Native.Nat.{ℕ, zero, suc, ◌+◌, ◌-◌, ◌*◌, ◌/◌, ◌%◌, ◌^◌, ◌≤◌, ◌<◌}
 use native.Mathlib.Omega.{arith}
 use borrow.Author.Tests.{lt-ltb, le-ltb, ltb-true, ltb-false}
 use Rattle.std.proofs.lemmas.List.{set_comm}
@@ -34,10 +34,6 @@ unfolding digits_up
 no-digits k n e = rw e
 
 module _ (n : ℕ) where
-  pub signed_low : n < 2147483648 → signed_text n ≡ decimal n
-  unfolding signed_text
-  signed_low h = simp (signed_text, lt-ltb n 2147483648 h)
-
   pub signed_high : 2147483648 ≤ n → n ≤ 4294967295 → signed_text n ≡ 45 ∷ decimal (4294967295 - n + 1)
   unfolding signed_text
   signed_high h g = let e : 4294967296 - n ≡ 4294967295 - n + 1 = omega arith in simp (signed_text, le-ltb n 2147483648 h, e)
@@ -68,15 +64,11 @@ module _ (k n : ℕ) (h : 0 < k) (g : 10 ≤ n) where
   more-count : length (digits_up k n) ≡ length (digits_up (k - 1) (n / 10)) + 1
   more-count = ap length (more-digits k n h g) ∙ length-append (digits_up (k - 1) (n / 10)) ((48 + n % 10) ∷ [])
 
--- 10 to the power j
-abbrev pub tens : ℕ → ℕ
-tens zero = 1
-tens (suc j) = 10 * tens j
-
 -- a number below 10 to the power j + 1, and not below that to the power j
-pub count-is : (j k n : ℕ) → j < k → tens j ≤ n → n < 10 * tens j → length (digits_up k n) ≡ suc j
+pub count-is : (j k n : ℕ) → j < k → 10 ^ j ≤ n → n < 10 * 10 ^ j → length (digits_up k n) ≡ j + 1
 count-is zero k n h g f = ap length (one-digit k n (omega arith) (omega arith))
 count-is (suc j) k n h g f =
+    let p = pow-suc 10 j in
     let e = count-is j (k - 1) (n / 10) (omega arith) (omega arith) (omega arith) in
     let c = more-count k n (omega arith) (omega arith) in
     omega arith

@@ -1,21 +1,27 @@
 -- The first token of some bytes, longest first: a word, a number or a sign (document 01, "Lines of text"). Definitions only.
-use Rattle.std.specs.Prelude.{true, false, List, [], ◌∷◌, ℕ, zero, suc, ◌+◌, eqb, get_or, take, drop}
+use Rattle.std.specs.Prelude.{true, false, Option, None, Some, List, [], ◌∷◌, ℕ, zero, suc, ◌+◌, eqb, get_or, take, drop}
 use Rattle.text.specs.declared.scan.First.{First}
 use Rattle.text.specs.Byte.{POINT, is_digit, is_letter, starts_word, is_word_byte, run}
 use Rattle.text.specs.Word.{pairs, singles, token_in, word_token}
 use Rattle.text.specs.Number.{number_token}
 
 -- the token t of n bytes; 0 is no token
-abbrev pub found : ℕ → ℕ → First
-found zero n = record { token = 0; size = 0 }
-found (suc t) n = record { token = suc t; size = n }
+abbrev pub found : ℕ → ℕ → Option First
+found zero n = None
+found (suc t) n = Some (record { token = suc t; size = n })
 
-abbrev pub no_token : First
-no_token = record { token = 0; size = 0 }
+-- a first token and how many bytes it takes; 0 for none
+abbrev pub token_of : Option First → ℕ
+token_of None = 0
+token_of (Some f) = f.token
+
+abbrev pub size_of : Option First → ℕ
+size_of None = 0
+size_of (Some f) = f.size
 
 -- ---- a word: a letter or $, then letters, digits, _
 
-unfoldable pub word_first : List ℕ → First
+unfoldable pub word_first : List ℕ → Option First
 word_first t = let n = 1 + run is_word_byte (drop 1 t) in found (word_token (take n t)) n
 
 -- ---- a number: digits, or digits, point, digits, not directly followed by a letter
@@ -30,20 +36,20 @@ with_point zero = 0
 with_point (suc n) = suc (suc n)
 
 -- n digits before the point, m behind it
-unfoldable pub number_with : List ℕ → ℕ → ℕ → First
+unfoldable pub number_with : List ℕ → ℕ → ℕ → Option First
 number_with t n m =
     elim (is_letter (get_or t (n + with_point m) 0)) [
-      | true ↦ no_token
+      | true ↦ None
       | false ↦ found (number_token (take n t) (take m (drop (n + 1) t))) (n + with_point m)
     ]
 
-unfoldable pub number_first : List ℕ → First
+unfoldable pub number_first : List ℕ → Option First
 number_first t = let n = run is_digit t in number_with t n (behind_point (drop n t))
 
 -- ---- a sign
 
 -- one of two bytes, else of one
-unfoldable pub sign_first : List ℕ → First
+unfoldable pub sign_first : List ℕ → Option First
 sign_first t =
     elim (token_in pairs (take 2 t)) [
       | zero ↦ found (token_in singles (take 1 t)) 1
@@ -52,8 +58,8 @@ sign_first t =
 
 -- ---- which of them
 
-unfoldable pub first_token : List ℕ → First
-first_token [] = no_token
+unfoldable pub first_token : List ℕ → Option First
+first_token [] = None
 first_token (b ∷ bs) =
     elim (starts_word b) [
       | true ↦ word_first (b ∷ bs)

@@ -9,7 +9,6 @@ pub mod Lines
 pub mod LinesLaws
 pub mod Word
 pub mod WordLaws
-pub mod SoughtLaws
 pub mod First
 pub mod Tokens
 pub mod FirstLaws

@@ -1,12 +1,13 @@
 -- Laws of the lines of a text: its first line and the text behind it, the room that the bodies take, where a line ends, only spaces. Assumes nothing.
-use Rattle.std.specs.Prelude.{◌≡◌, refl, Bool, true, false, List, [], ◌∷◌, ℕ, zero, suc, ◌+◌, ◌-◌, ◌≤◌, ◌<◌, eqb, ltb, length, take, drop, get_or}
-use Rattle.std.proofs.Common.{sym, ap, ◌∙◌, length-take, length-drop, drop_of_length-le, take-take, take_all, length-take-le, drop-cons}
+use Rattle.std.specs.Prelude.{◌≡◌, refl, Bool, true, false, ◌&&◌, List, [], ◌∷◌, ℕ, zero, suc, ◌+◌, ◌-◌, ◌≤◌, ◌<◌, eqb, ltb, length, take, drop, get_or}
+use Rattle.std.proofs.Common.{sym, ap, ◌∙◌, length-take, length-drop, drop_of_length-le, take-take, take_all, length-take-le}
+use Rattle.std.specs.List.{list_all}
 use native.Mathlib.Omega.{arith}
 use Rattle.std.proofs.Math.Numerals.{add-one}
 use borrow.Author.Tests.{ltb-true, ltb-false, lt-ltb, le-ltb, eq-eqb, ne_eqb}
 use Rattle.values.specs.Choice.{decide, either}
 use Rattle.values.specs.Numbers.{clash}
-use Rattle.text.specs.Byte.{LF, CR, SPACE, in_line, in_body, run}
+use Rattle.text.specs.Byte.{LF, CR, is_space, in_line, in_body, run}
 use Rattle.text.specs.ByteLaws.{run_on, run-off, run-within}
 use Rattle.text.specs.Lines.{before, split, text_lines, without_return, without_comment, bodies, first_body, bounds_at, is_blank}
 
@@ -182,26 +183,21 @@ unfolding without_comment
 comment-length l = length-take-le (run in_body l) l (run-within in_body l)
 
 -- a line with a CR at its end, and without
-pub return-none : (l : List ℕ) → length l ≡ 0 → 0 ≡ length (without_return l)
-unfolding without_return
-return-none [] h = refl
-return-none (b ∷ bs) h = absurd (omega arith)
-
-pub return-cut : (l : List ℕ) (k : ℕ) → length l ≡ suc k → get_or l k 0 ≡ CR → k ≡ length (without_return l)
+pub return-cut : (l : List ℕ) (k : ℕ) → length l ≡ suc k → get_or l k 0 ≡ CR → take k l ≡ without_return l
 unfolding without_return
 return-cut [] k h e = absurd (omega arith)
 return-cut (b ∷ []) zero h e = rw (without_return, eq-eqb b CR e)
 return-cut (b ∷ []) (suc k) h e = absurd (omega arith)
 return-cut (b ∷ c ∷ bs) zero h e = absurd (omega arith)
-return-cut (b ∷ c ∷ bs) (suc k) h e = ap suc (return-cut (c ∷ bs) k (omega arith) e)
+return-cut (b ∷ c ∷ bs) (suc k) h e = ap {B = List ℕ} (λ l. b ∷ l) (return-cut (c ∷ bs) k (omega arith) e)
 
-pub return_kept : (l : List ℕ) (k : ℕ) → length l ≡ suc k → (get_or l k 0 ≡ CR → ⊥) → suc k ≡ length (without_return l)
+pub return_kept : (l : List ℕ) (k : ℕ) → length l ≡ suc k → (get_or l k 0 ≡ CR → ⊥) → l ≡ without_return l
 unfolding without_return
 return_kept [] k h e = absurd (omega arith)
 return_kept (b ∷ []) zero h e = rw (without_return, ne_eqb b CR e)
 return_kept (b ∷ []) (suc k) h e = absurd (omega arith)
 return_kept (b ∷ c ∷ bs) zero h e = absurd (omega arith)
-return_kept (b ∷ c ∷ bs) (suc k) h e = ap suc (return_kept (c ∷ bs) k (omega arith) e)
+return_kept (b ∷ c ∷ bs) (suc k) h e = ap {B = List ℕ} (λ l. b ∷ l) (return_kept (c ∷ bs) k (omega arith) e)
 
 pub return-within : (l : List ℕ) → length (without_return l) ≤ length l
 return-within l = part-within (without_return l) l (part-of-return l)
@@ -223,58 +219,40 @@ module _ (t : List ℕ) (at : ℕ) where
     unfolding bounds_at
     bounds b g = rw (h, g)
 
-    pub bounds-last : at < length t → e ≡ length t → (b : ℕ) → b ≡ 0 + run in_body (drop 0 line) → record { end = e; body = at + b } ≡ bounds_at at (drop at t)
-    bounds-last l g b w =
-        let u = drop at t in
-        let d = length-drop at t in
-        let n : length u ≤ run in_line u = omega arith in
-        let a = line-is ∙ take_all (run in_line u) u n in
-        let s = comment-length u in
-        let q = ap (λ (x : List ℕ). run in_body x) a in
-        bounds b (omega arith ∙ ap length (sym (first-last u n)))
+    -- with what is kept of the line
+    module _ (kept : List ℕ) (b : ℕ) (w : b ≡ 0 + run in_body (drop 0 kept)) where
+      pub bounds-last : at < length t → e ≡ length t → kept ≡ line → record { end = e; body = at + b } ≡ bounds_at at (drop at t)
+      bounds-last l g k =
+          let u = drop at t in
+          let d = length-drop at t in
+          let n : length u ≤ run in_line u = omega arith in
+          let a = k ∙ line-is ∙ take_all (run in_line u) u n in
+          let s = comment-length u in
+          let q = ap (λ (x : List ℕ). run in_body x) a in
+          bounds b (omega arith ∙ ap length (sym (first-last u n)))
 
-    pub bounds-more : at < length t → (e ≡ length t → ⊥) → (n : ℕ) → n ≡ length (without_return line) → (b : ℕ) → b ≡ 0 + run in_body (drop 0 (take n line)) → record { end = e; body = at + b } ≡ bounds_at at (drop at t)
-    bounds-more l g n k b w =
-        let u = drop at t in
-        let d = length-drop at t in
-        let r = run-within in_line u in
-        let m : run in_line u < length u = omega arith in
-        let a : take n line ≡ without_return (take (run in_line u) u) = rw (k, line-is) (part-of-return (take (run in_line u) u)) in
-        let s = comment-length (without_return (take (run in_line u) u)) in
-        let q = ap (λ (x : List ℕ). run in_body x) a in
-        bounds b (omega arith ∙ ap length (sym (first_more u m)))
+      pub bounds-more : at < length t → (e ≡ length t → ⊥) → kept ≡ without_return line → record { end = e; body = at + b } ≡ bounds_at at (drop at t)
+      bounds-more l g k =
+          let u = drop at t in
+          let d = length-drop at t in
+          let r = run-within in_line u in
+          let m : run in_line u < length u = omega arith in
+          let a : kept ≡ without_return (take (run in_line u) u) = k ∙ ap without_return line-is in
+          let s = comment-length (without_return (take (run in_line u) u)) in
+          let q = ap (λ (x : List ℕ). run in_body x) a in
+          bounds b (omega arith ∙ ap length (sym (first_more u m)))
 
--- nor beyond the end of the text
-take_within : (n : ℕ) (l : List ℕ) → length (take n l) ≤ length l
-take_within n l = let e = length-take n l in omega arith
+      -- nor beyond the end of the text
+      pub kept-fits : at < length t → length kept ≤ length line → at + b ≤ length t
+      kept-fits l k =
+          let d = length-drop at t in
+          let n = length-take (e - at) (drop at t) in
+          let r = run-within in_body kept in
+          omega arith
 
-module _ (t : List ℕ) (at : ℕ) (h : at < length t) where
-  pub body-fits : (n b : ℕ) → b ≡ 0 + run in_body (drop 0 (take n (drop at t))) → at + b ≤ length t
-  body-fits n b e =
-      let d = length-drop at t in
-      let l = take_within n (drop at t) in
-      let r = run-within in_body (take n (drop at t)) in
-      omega arith
+-- ---- only spaces
 
-  pub kept-fits : (m n b : ℕ) → b ≡ 0 + run in_body (drop 0 (take m (take n (drop at t)))) → at + b ≤ length t
-  kept-fits m n b e =
-      let d = length-drop at t in
-      let l = take_within n (drop at t) in
-      let k = take_within m (take n (drop at t)) in
-      let r = run-within in_body (take m (take n (drop at t))) in
-      omega arith
-
--- ---- only spaces, from a place on
-
-module _ (l : List ℕ) (k : ℕ) where
-  pub blank-stops : k < length l → (get_or l k 0 ≡ SPACE → ⊥) → is_blank (drop k l) ≡ false
-  unfolding is_blank
-  blank-stops h e = rw (drop-cons l k 0 h, is_blank, ne_eqb (get_or l k 0) SPACE e)
-
-  pub blank-goes : k < length l → get_or l k 0 ≡ SPACE → is_blank (drop k l) ≡ is_blank (drop (k + 1) l)
-  unfolding is_blank
-  blank-goes h e = rw (drop-cons l k 0 h, add-one k, is_blank, eq-eqb (get_or l k 0) SPACE e)
-
-  pub blank-ends : length l ≤ k → is_blank (drop k l) ≡ true
-  unfolding is_blank
-  blank-ends h = rw (drop_of_length-le l h)
+pub blank_all : (l : List ℕ) → is_blank l ≡ list_all is_space l
+unfolding is_blank
+blank_all [] = refl
+blank_all (b ∷ bs) = ap (λ (x : Bool). is_space b && x) (blank_all bs)

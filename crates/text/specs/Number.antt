@@ -1,5 +1,5 @@
 -- The token of a number: digits, or digits, point, digits (document 01, "Lines of text"). Definitions only.
-use Rattle.std.specs.Prelude.{Bool, true, false, ◌&&◌, List, [], ◌∷◌, ℕ, ◌+◌, ◌-◌, ◌*◌, ◌^◌, leb, length}
+use Rattle.std.specs.Prelude.{Bool, true, false, ◌&&◌, Option, None, Some, List, [], ◌∷◌, ℕ, ◌+◌, ◌-◌, ◌*◌, ◌^◌, leb, length}
 use Rattle.values.specs.Value.{unit, top}
 use Rattle.tokens.specs.Token.{NUMBER}
 
@@ -19,6 +19,10 @@ is_fit before behind = leb (length before) 7 && (leb (length behind) 3 && leb (w
 -- what stands for any other number: 1,000,001, outside every range
 abbrev pub too_large : ℕ
 too_large = top + unit
+
+-- the thousandths of a number in the range
+abbrev pub thousandths : List ℕ → List ℕ → Option ℕ
+thousandths before behind = elim (is_fit before behind) [ true ↦ Some (written before behind) | false ↦ None ]
 
 -- one more for a written point
 abbrev pub point_mark : List ℕ → ℕ

@@ -1,5 +1,5 @@
 -- The tokens of a line's bytes; spaces separate them (document 01, "Lines of text"). Definitions only.
-use Rattle.std.specs.Prelude.{Bool, true, false, List, [], ◌∷◌, ℕ, zero, suc, length, drop}
+use Rattle.std.specs.Prelude.{Bool, true, false, None, Some, List, [], ◌∷◌, ℕ, zero, suc, length, drop}
 use Rattle.text.specs.Byte.{is_space}
 use Rattle.text.specs.First.{first_token}
 
@@ -22,9 +22,9 @@ tokens_from (suc n) (b ∷ bs) =
     elim (is_space b) [
       | true ↦ tokens_from n bs
       | false ↦
-          elim (first_token (b ∷ bs)).size [
-            | zero ↦ ending false
-            | suc k ↦ with_token (first_token (b ∷ bs)).token (tokens_from n (drop k bs))
+          elim (first_token (b ∷ bs)) [
+            | None ↦ ending false
+            | Some f ↦ with_token f.token (tokens_from n (drop f.size (b ∷ bs)))
           ]
     ]
 

@@ -1,13 +1,13 @@
--- Laws of names in a table: it is read both ways, and what a computed test says of every row it says of what is read; and of bytes compared place by place. Assumes nothing.
-use Rattle.std.specs.Prelude.{◌≡◌, Bool, true, false, ◌&&◌, ◌||◌, List, [], ◌∷◌, ◌++◌, ◌↔◌, ℕ, zero, suc, ◌+◌, ◌≤◌, ◌<◌, eqb, length, drop, get_or}
+-- Laws of names in a table: it is read both ways, and what a computed test says of every row it says of what is read; and of bytes compared. Assumes nothing.
+use Rattle.std.specs.Prelude.{◌≡◌, Bool, true, false, not, ◌&&◌, ◌||◌, Option, Some, MatchOption, List, [], ◌∷◌, ◌++◌, ◌↔◌, ℕ, zero, suc, eqb, length, get_or, drop}
 use Rattle.std.proofs.Math.Path.{refl}
-use Rattle.std.proofs.Common.{sym, ap, ◌∙◌, add-one, drop_of_length-le, drop-cons, eqb-true, eq-eqb, ne_eqb}
+use Rattle.std.proofs.Common.{sym, ap, ◌∙◌, arith, eqb-true, eq-eqb}
 use Rattle.std.proofs.Math.Bool.{and-false}
 use Rattle.std.proofs.lemmas.Bool.{false≢true}
 use Rattle.values.specs.Choice.{decide, both, contrary}
-use Rattle.text.specs.Word.{Words, pairs, singles, words, names, same_bytes, token_in, name_in, word_token}
+use Rattle.text.specs.Word.{Words, pairs, singles, words, names, same_bytes, token_in, name_in, word_token, some_token}
 
--- ---- bytes, place by place
+-- ---- bytes
 
 -- of different lengths
 pub same-lengths : (a b : List ℕ) → (length a ≡ length b → ⊥) → same_bytes a b ≡ false
@@ -15,16 +15,6 @@ same-lengths [] [] h = absurd (h refl)
 same-lengths [] (y ∷ b) h = refl
 same-lengths (x ∷ a) [] h = refl
 same-lengths (x ∷ a) (y ∷ b) h = rw (same-lengths a b (λ e. h (ap suc e))) (and-false (eqb x y))
-
-module _ (a b : List ℕ) (k : ℕ) (h : k < length a) (g : k < length b) where
-  pub same-stops : (get_or a k 0 ≡ get_or b k 0 → ⊥) → same_bytes (drop k a) (drop k b) ≡ false
-  same-stops e = rw (drop-cons a k 0 h, drop-cons b k 0 g, ne_eqb (get_or a k 0) (get_or b k 0) e)
-
-  pub same-goes : get_or a k 0 ≡ get_or b k 0 → same_bytes (drop k a) (drop k b) ≡ same_bytes (drop (k + 1) a) (drop (k + 1) b)
-  same-goes e = rw (drop-cons a k 0 h, drop-cons b k 0 g, eq-eqb (get_or a k 0) (get_or b k 0) e, add-one k)
-
-pub same_ends : (a b : List ℕ) (k : ℕ) → length a ≤ k → length b ≤ k → same_bytes (drop k a) (drop k b) ≡ true
-same_ends a b k h g = rw (drop_of_length-le a h, drop_of_length-le b g)
 
 -- the same bytes are the same list
 pub same-is : (a b : List ℕ) → same_bytes a b ≡ true → a ≡ b
@@ -158,3 +148,23 @@ module _ (word : List ℕ) where
   pub word-in-table : (word_token word ≡ 0 → ⊥) → token_in names word ≡ word_token word
   unfolding word_token
   word-in-table h = in_rest (pairs ++ singles) words word refl h
+
+-- every token of a table is one
+abbrev pub are_tokens : Words → Bool
+are_tokens ws = rows (λ v t. not (eqb t 0)) ws
+
+in-second : (us ws : Words) (word : List ℕ) → are_tokens us ≡ true → token_in us word ≡ 0 → token_in (us ++ ws) word ≡ token_in ws word
+in-second [] ws word h z = refl
+in-second (u ∷ us) ws word h z =
+    let (a, b) = both (not (eqb u.1 0)) (are_tokens us) h in
+    decide _ (same_bytes word u.0)
+    (λ s. absurd (false≢true (rw (eq-eqb u.1 0 (rw (token_in, s) at z)) at a)))
+    (λ s. rw (token_in, s) (in-second us ws word b (rw (token_in, s) at z)))
+
+-- what one part finds, else the other, the two together find
+pub joined : (us ws : Words) (word : List ℕ) → are_tokens us ≡ true → (r o : Option ℕ) → r ≡ some_token (token_in us word) → MatchOption r (o ≡ some_token (token_in ws word)) (λ t. o ≡ Some t) → o ≡ some_token (token_in (us ++ ws) word)
+joined us ws word real r o e h = go (token_in us word) refl
+  where
+    go : (t : ℕ) → token_in us word ≡ t → o ≡ some_token (token_in (us ++ ws) word)
+    go zero z = rw (in-second us ws word real z) (rw (e, z) at h)
+    go (suc t) z = rw (in-first us ws word (λ y. absurd (omega arith)), z) (rw (e, z) at h)

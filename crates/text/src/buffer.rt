@@ -1,5 +1,5 @@
 // Bytes written at a place of a lent buffer; what would lie past its end is left off.
-ghost use Rattle.std.specs.Prelude.{◌≡◌, ◌+◌, set};
+ghost use Rattle.std.specs.Prelude.{◌≡◌, set};
 ghost use Rattle.values.specs.PutAt.{put_at};
 
 pub fn put(out: &mut [u8], at: usize, b: u8)
@@ -14,14 +14,7 @@ pub fn put(out: &mut [u8], at: usize, b: u8)
 pub fn put_bytes(out: &mut [u8], at: usize, s: &[u8])
     ensures { out.new ≡ put_at out.old at s.now }
 {
-    let mut p = at;
-    let mut i: usize = 0;
-    while i < s.len() {
-        if out.len() <= p {
-            return;
-        }
-        out[p] = s[i];
-        p += 1;
-        i += 1;
-    }
+    let at = at.min(out.len());
+    let size = s.len().min(out.len() - at);
+    out[at..at + size].copy_from_slice(&s[..size]);
 }

@@ -1,6 +1,5 @@
 // The kinds of bytes that a text is made of, and runs of one kind.
 ghost use Rattle.std.specs.Prelude.{◌≡◌, ◌+◌, drop};
-ghost use Rattle.tokens.specs.Token.{between};
 ghost use Rattle.text.specs.Byte.{is_digit, is_letter, starts_word, is_word_byte, kind_of, run};
 
 pub const LF: u8 = 10;
@@ -30,49 +29,31 @@ pub enum Kind {
     Body,
 }
 
-fn is_between(low: u8, high: u8, b: u8) -> bool
-    ensures { result ≡ between low high b }
-{
-    if b < low {
-        return false;
-    }
-    b <= high
-}
-
 pub fn is_digit(b: u8) -> bool
     ensures { result ≡ is_digit b }
 {
-    is_between(48, 57, b)
+    matches!(b, b'0'..=b'9')
 }
 
 // An upper case letter.
 pub(crate) fn is_letter(b: u8) -> bool
     ensures { result ≡ is_letter b }
 {
-    is_between(65, 90, b)
+    matches!(b, b'A'..=b'Z')
 }
 
 // A letter or $.
 pub(crate) fn starts_word(b: u8) -> bool
     ensures { result ≡ starts_word b }
 {
-    if is_letter(b) {
-        return true;
-    }
-    b == DOLLAR
+    is_letter(b) || b == DOLLAR
 }
 
 // A letter, a digit or _.
 fn is_word_byte(b: u8) -> bool
     ensures { result ≡ is_word_byte b }
 {
-    if is_letter(b) {
-        return true;
-    }
-    if is_digit(b) {
-        return true;
-    }
-    b == LOWLINE
+    is_letter(b) || is_digit(b) || b == LOWLINE
 }
 
 fn is_of(kind: Kind, b: u8) -> bool
@@ -86,16 +67,22 @@ fn is_of(kind: Kind, b: u8) -> bool
     }
 }
 
-// Where the bytes of a kind that stand from a place on end.
+// How many of the first bytes are of a kind.
+fn run(part: &[u8], kind: Kind) -> usize
+    ensures { result ≡ run (kind_of kind) part.now }
+{
+    part.iter()
+        .position(|b| !is_of(kind, *b))
+        .unwrap_or(part.len())
+}
+
+// Where the bytes of a kind that stand from a place on end. A closure in place of the kind would ask of the caller that it may be called, and no public call asks anything.
+#[tactic(auto, unfolding(crate::specs::Byte::run))]
 pub fn run_end(text: &[u8], at: usize, kind: Kind) -> usize
     ensures { result ≡ at + run (kind_of kind) (drop at text.now) }
 {
-    let mut k = at;
-    while k < text.len() {
-        if !is_of(kind, text[k]) {
-            return k;
-        }
-        k += 1;
+    if text.len() <= at {
+        return at;
     }
-    k
+    at + run(&text[at..], kind)
 }

@@ -1,5 +1,5 @@
 // Numbers in digits, written at a place of a lent buffer; the answer is how many bytes that is, those past the end too.
-ghost use Rattle.std.specs.Prelude.{◌≡◌, ◌+◌, ◌≤◌, min, length};
+ghost use Rattle.std.specs.Prelude.{◌≡◌, ◌+◌, ◌≤◌, ◌<◌, length};
 ghost use Rattle.text.specs.Digits.{digits_up, decimal, signed_text};
 ghost use Rattle.values.specs.PutAt.{put_at, IsPut};
 
@@ -8,16 +8,8 @@ use crate::buffer::put;
 // The digits that a u32 may have.
 const DIGITS: usize = 10;
 
-const MINUS: u8 = 45;
-
-// The place itself, or the buffer's end: behind it nothing is put.
-fn within(at: usize, size: usize) -> usize
-    ensures { result ≡ min size at }
-{
-    if at < size { at } else { size }
-}
-
 // The digits of a number, at most k; the answer is the place behind them.
+#[tactic(auto, unfolding(crate::specs::Digits::digits_up))]
 fn put_digits(out: &mut [u8], at: usize, n: u32, k: usize) -> usize
     requires { (at ≤ 9223372036854775808) × (k ≤ 10) }
     ensures { IsPut out.old at (digits_up k n) out.new result }
@@ -26,46 +18,20 @@ fn put_digits(out: &mut [u8], at: usize, n: u32, k: usize) -> usize
         return at;
     }
     if n < 10 {
-        put(out, at, 48 + n as u8);
+        put(out, at, b'0' + n as u8);
         return at + 1;
     }
     let end = put_digits(out, at, n / 10, k - 1);
-    put(out, end, 48 + (n % 10) as u8);
+    put(out, end, b'0' + (n % 10) as u8);
     end + 1
 }
 
-// How many digits a number has.
+// How many digits a number above 0 has.
 fn digit_count(n: u32) -> usize
+    requires { 0 < n }
     ensures { result ≡ length (decimal n) }
 {
-    if n < 10 {
-        return 1;
-    }
-    if n < 100 {
-        return 2;
-    }
-    if n < 1000 {
-        return 3;
-    }
-    if n < 10000 {
-        return 4;
-    }
-    if n < 100000 {
-        return 5;
-    }
-    if n < 1000000 {
-        return 6;
-    }
-    if n < 10000000 {
-        return 7;
-    }
-    if n < 100000000 {
-        return 8;
-    }
-    if n < 1000000000 {
-        return 9;
-    }
-    DIGITS
+    n.ilog10() as usize + 1
 }
 
 // All k digits of a number, the last first, where there is room for them.
@@ -74,10 +40,8 @@ fn fill_digits(out: &mut [u8], at: usize, n: u32, k: usize)
     ensures { out.new ≡ put_at out.old at (decimal n) }
 {
     let mut m = n;
-    let mut i = k;
-    while 0 < i {
-        i -= 1;
-        out[at + i] = 48 + (m % 10) as u8;
+    for i in (0..k).rev() {
+        out[at + i] = b'0' + (m % 10) as u8;
         m /= 10;
     }
 }
@@ -88,11 +52,11 @@ pub fn put_number(out: &mut [u8], at: usize, n: u32) -> usize
     ensures out_after { out.new ≡ put_at out.old at (decimal n) }
 {
     if n < 10 {
-        put(out, at, 48 + n as u8);
+        put(out, at, b'0' + n as u8);
         return 1;
     }
     let k = digit_count(n);
-    let p = within(at, out.len());
+    let p = at.min(out.len());
     if k <= out.len() - p {
         fill_digits(out, p, n, k);
         return k;
@@ -102,6 +66,7 @@ pub fn put_number(out: &mut [u8], at: usize, n: u32) -> usize
 }
 
 // A number in two's complement.
+#[tactic(auto, unfolding(crate::specs::Digits::signed_text))]
 pub fn put_signed(out: &mut [u8], at: usize, n: u32) -> usize
     ensures value { result ≡ length (signed_text n) }
     ensures out_after { out.new ≡ put_at out.old at (signed_text n) }
@@ -109,7 +74,7 @@ pub fn put_signed(out: &mut [u8], at: usize, n: u32) -> usize
     if n < 2147483648 {
         return put_number(out, at, n);
     }
-    let p = within(at, out.len());
-    put(out, p, MINUS);
+    let p = at.min(out.len());
+    put(out, p, b'-');
     1 + put_number(out, p + 1, 4294967295 - n + 1)
 }

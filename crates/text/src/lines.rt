@@ -1,5 +1,5 @@
 // Where a line of a text ends, and which lines have nothing to them.
-ghost use Rattle.std.specs.Prelude.{◌≡◌, length, drop};
+ghost use Rattle.std.specs.Prelude.{◌≡◌, drop};
 ghost use Rattle.text.specs.Lines.{without_return, bounds_at, is_blank};
 
 use crate::bytes::{CR, Kind, SPACE, run_end};
@@ -12,34 +12,26 @@ pub struct Bounds {
 }
 
 // Only spaces.
+#[tactic(auto, unfolding(crate::specs::Lines::is_blank))]
 pub fn is_blank(part: &[u8]) -> bool
     ensures { result ≡ is_blank part.now }
 {
-    let mut k: usize = 0;
-    while k < part.len() {
-        if part[k] != SPACE {
-            return false;
-        }
-        k += 1;
-    }
-    true
+    part.iter().all(|b| *b == SPACE)
 }
 
-// How many bytes of a line there are without a CR at its end.
-fn size_without_return(line: &[u8]) -> usize
-    ensures { result ≡ length (without_return line.now) }
+// A line without a CR at its end.
+#[tactic(auto, unfolding(crate::specs::Lines::without_return))]
+fn without_return(line: &[u8]) -> &[u8]
+    ensures { result.now ≡ without_return line.now }
 {
-    let n = line.len();
-    if n == 0 {
-        return 0;
+    match line {
+        [kept @ .., CR] => kept,
+        _ => line,
     }
-    if line[n - 1] == CR {
-        return n - 1;
-    }
-    n
 }
 
 // The bounds of the line that begins at a place. A CR is dropped only before an LF, so not at the end of the text.
+#[tactic(auto, unfolding(crate::specs::Lines::bounds_at, crate::specs::Lines::first_body, crate::specs::Lines::without_comment))]
 pub fn line_bounds(text: &[u8], at: usize) -> Bounds
     ensures { result ≡ bounds_at at (drop at text.now) }
 {
@@ -48,18 +40,14 @@ pub fn line_bounds(text: &[u8], at: usize) -> Bounds
     }
     let end = run_end(text, at, Kind::Line);
     let line = &text[at..end];
-    if end == text.len() {
-        let last = run_end(line, 0, Kind::Body);
-        return Bounds {
-            end: end,
-            body: at + last,
-        };
-    }
-    let n = size_without_return(line);
-    let kept = &line[..n];
+    let kept = if end == text.len() {
+        line
+    } else {
+        without_return(line)
+    };
     let size = run_end(kept, 0, Kind::Body);
     Bounds {
-        end: end,
+        end,
         body: at + size,
     }
 }

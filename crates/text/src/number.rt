@@ -1,6 +1,7 @@
 // The token of a number.
-ghost use Rattle.std.specs.Prelude.{◌≡◌, ◌-◌, ◌^◌, ◌≤◌, length};
-ghost use Rattle.text.specs.Number.{digits_value, point_mark, number_token};
+ghost use Rattle.std.specs.Prelude.{◌≡◌, ◌-◌, ◌^◌, ◌≤◌, IfSome, length};
+ghost use Rattle.values.specs.Value.{top};
+ghost use Rattle.text.specs.Number.{digits_value, thousandths, number_token};
 
 use tokens::token::NUMBER;
 
@@ -16,25 +17,14 @@ const UNIT: u64 = 1000;
 // What stands for any larger number.
 const TOO_LARGE: u32 = 1000001000;
 
-fn digit_of(b: u8) -> u64
-    ensures { result ≡ b - 48 }
-{
-    if b < 48 {
-        return 0;
-    }
-    (b - 48) as u64
-}
-
 // The value of at most seven digits.
 fn digits_value(digits: &[u8]) -> u64
     requires { length digits.now ≤ 7 }
     ensures { (result ≡ digits_value digits.now 0) × (result ≤ 230000000) }
 {
     let mut n: u64 = 0;
-    let mut k: usize = 0;
-    while k < digits.len() {
-        n = n * 10 + digit_of(digits[k]);
-        k += 1;
+    for b in digits {
+        n = n * 10 + u64::from(b.saturating_sub(b'0'));
     }
     n
 }
@@ -43,42 +33,32 @@ fn digits_value(digits: &[u8]) -> u64
 fn place_value(count: usize) -> u64
     ensures { (result ≡ 10 ^ (3 - count)) × (result ≤ 1000) }
 {
-    if count == 0 {
-        return 1000;
+    match count {
+        0 => 1000,
+        1 => 100,
+        2 => 10,
+        _ => 1,
     }
-    if count == 1 {
-        return 100;
-    }
-    if count == 2 {
-        return 10;
-    }
-    1
 }
 
-// 1 if a point was written.
-fn point_mark(behind: &[u8]) -> u32
-    ensures { (result ≡ point_mark behind.now) × (result ≤ 1) }
+// The thousandths of a number with these digits before and behind its point, unless there are too many digits or it is above the top.
+#[tactic(auto, unfolding(crate::specs::Number::is_fit, crate::specs::Number::written))]
+fn thousandths(before: &[u8], behind: &[u8]) -> Option<u32>
+    ensures value { result ≡ thousandths before.now behind.now }
+    ensures upper_bound { IfSome result (λ n. n ≤ top) }
 {
-    if behind.len() == 0 {
-        return 0;
+    if before.len() > WHOLE_DIGITS || behind.len() > PART_DIGITS {
+        return None;
     }
-    1
+    let n = digits_value(before) * UNIT + digits_value(behind) * place_value(behind.len());
+    if n > TOP { None } else { Some(n as u32) }
 }
 
 // The token of a number with these digits before and behind its point; none behind if no point was written.
+#[tactic(auto, unfolding(crate::specs::Number::number_token))]
 pub fn number_token(before: &[u8], behind: &[u8]) -> u32
     ensures { result ≡ number_token before.now behind.now }
 {
-    let mark = point_mark(behind);
-    if WHOLE_DIGITS < before.len() {
-        return NUMBER + TOO_LARGE * 2 + mark;
-    }
-    if PART_DIGITS < behind.len() {
-        return NUMBER + TOO_LARGE * 2 + mark;
-    }
-    let n = digits_value(before) * UNIT + digits_value(behind) * place_value(behind.len());
-    if TOP < n {
-        return NUMBER + TOO_LARGE * 2 + mark;
-    }
-    NUMBER + n as u32 * 2 + mark
+    let mark = u32::from(!behind.is_empty());
+    NUMBER + thousandths(before, behind).unwrap_or(TOO_LARGE) * 2 + mark
 }

@@ -1,8 +1,8 @@
 // The first token of some bytes.
-ghost use Rattle.std.specs.Prelude.{◌≡◌, [], ◌∷◌, ◌+◌, ◌≤◌, ◌<◌, length, get_or, drop};
+ghost use Rattle.std.specs.Prelude.{◌≡◌, [], ◌∷◌, ◌+◌, ◌≤◌, length, get_or, drop};
 ghost use Rattle.text.specs.Byte.{is_letter};
-ghost use Rattle.text.specs.Word.{pairs, singles, token_in};
-ghost use Rattle.text.specs.First.{found, word_first, behind_point, with_point, number_with, number_first, sign_first, first_token};
+ghost use Rattle.text.specs.Word.{pairs, singles, token_in, some_token};
+ghost use Rattle.text.specs.First.{word_first, behind_point, with_point, number_with, number_first, sign_first, first_token};
 
 use crate::bytes::{Kind, POINT, is_digit, is_letter, run_end, starts_word};
 use crate::number::number_token;
@@ -12,44 +12,32 @@ use tokens::token::{
     SAME, TIMES,
 };
 
-// A token and how many bytes it takes; 0 bytes if they begin with none.
+// A token and how many bytes it takes.
 #[derive(Clone, Copy)]
 pub struct First {
     pub token: u32,
     pub size: usize,
 }
 
-// The token t of n bytes; 0 is no token.
-fn first_of(t: u32, n: usize) -> First
-    ensures { result ≡ found t n }
-{
-    if t == 0 {
-        return First { token: 0, size: 0 };
-    }
-    First { token: t, size: n }
-}
-
-fn word_first(part: &[u8]) -> First
-    requires { 0 < length part.now }
+#[tactic(auto, unfolding(crate::specs::First::word_first))]
+fn word_first(part: &[u8]) -> Option<First>
+    requires { 1 ≤ length part.now }
     ensures { result ≡ word_first part.now }
 {
-    let n = run_end(part, 1, Kind::Word);
-    let word = &part[..n];
-    first_of(word_token(word), n)
+    let size = run_end(part, 1, Kind::Word);
+    let token = word_token(&part[..size])?;
+    Some(First { token, size })
 }
 
 // How many digits stand behind a point at n.
+#[tactic(auto, unfolding(crate::specs::First::behind_point))]
 fn behind_point(part: &[u8], n: usize) -> usize
     ensures { result ≡ behind_point (drop n part.now) }
 {
-    if part.len() <= n {
-        return 0;
+    match part.get(n) {
+        Some(&POINT) => run_end(part, n + 1, Kind::Digit) - (n + 1),
+        _ => 0,
     }
-    if part[n] != POINT {
-        return 0;
-    }
-    let from = n + 1;
-    run_end(part, from, Kind::Digit) - from
 }
 
 // Where a number of n digits, a point and m digits ends; no point without digits behind it.
@@ -57,37 +45,31 @@ fn number_end(n: usize, m: usize) -> usize
     requires { n + with_point m ≤ 18446744073709551615 }
     ensures { result ≡ n + with_point m }
 {
-    if m == 0 {
-        return n;
-    }
-    n + m + 1
+    if m == 0 { n } else { n + m + 1 }
 }
 
 fn is_letter_at(part: &[u8], k: usize) -> bool
     ensures { result ≡ is_letter (get_or part.now k 0) }
 {
-    if part.len() <= k {
-        return false;
-    }
-    is_letter(part[k])
+    part.get(k).is_some_and(|b| is_letter(*b))
 }
 
 // A number of n digits, and m behind a point.
-fn number_with(part: &[u8], n: usize, m: usize) -> First
+#[tactic(auto, unfolding(crate::specs::First::number_with))]
+fn number_with(part: &[u8], n: usize, m: usize) -> Option<First>
     requires { n + with_point m ≤ length part.now }
     ensures { result ≡ number_with part.now n m }
 {
-    let e = number_end(n, m);
-    if is_letter_at(part, e) {
-        return First { token: 0, size: 0 };
+    let size = number_end(n, m);
+    if is_letter_at(part, size) {
+        return None;
     }
-    let from = e - m;
-    let before = &part[..n];
-    let behind = &part[from..e];
-    first_of(number_token(before, behind), e)
+    let token = number_token(&part[..n], &part[size - m..size]);
+    Some(First { token, size })
 }
 
-fn number_first(part: &[u8]) -> First
+#[tactic(auto, unfolding(crate::specs::First::number_first))]
+fn number_first(part: &[u8]) -> Option<First>
     ensures { result ≡ number_first part.now }
 {
     let n = run_end(part, 0, Kind::Digit);
@@ -95,106 +77,65 @@ fn number_first(part: &[u8]) -> First
     number_with(part, n, m)
 }
 
-// The token of a sign of two bytes, or 0.
-fn pair_token(a: u8, b: u8) -> u32
-    ensures { result ≡ token_in pairs (a ∷ b ∷ []) }
+// The token of a sign of two bytes.
+fn pair_token(a: u8, b: u8) -> Option<u32>
+    ensures { result ≡ some_token (token_in pairs (a ∷ b ∷ [])) }
 {
-    if a == b'=' {
-        if b == b'=' {
-            return SAME;
-        }
-        return 0;
+    match (a, b) {
+        (b'=', b'=') => Some(SAME),
+        (b'<', b'>') => Some(OTHER),
+        (b'<', b'=') => Some(ATMOST),
+        (b'>', b'=') => Some(ATLEAST),
+        _ => None,
     }
-    if a == b'>' {
-        if b == b'=' {
-            return ATLEAST;
-        }
-        return 0;
-    }
-    if a != b'<' {
-        return 0;
-    }
-    if b == b'>' {
-        return OTHER;
-    }
-    if b == b'=' {
-        return ATMOST;
-    }
-    0
 }
 
-// That of a sign of one byte, or 0.
-fn single_token(a: u8) -> u32
-    ensures { result ≡ token_in singles (a ∷ []) }
+// That of a sign of one byte.
+fn single_token(a: u8) -> Option<u32>
+    ensures { result ≡ some_token (token_in singles (a ∷ [])) }
 {
-    if a == b'=' {
-        return EQUALS;
+    match a {
+        b'=' => Some(EQUALS),
+        b'<' => Some(LESS),
+        b'>' => Some(MORE),
+        b'+' => Some(PLUS),
+        b'-' => Some(MINUS),
+        b'*' => Some(TIMES),
+        b'/' => Some(OVER),
+        b'(' => Some(OPEN),
+        b')' => Some(CLOSE),
+        b'[' => Some(LEFT),
+        b']' => Some(RIGHT),
+        b',' => Some(COMMA),
+        _ => None,
     }
-    if a == b'<' {
-        return LESS;
-    }
-    if a == b'>' {
-        return MORE;
-    }
-    if a == b'+' {
-        return PLUS;
-    }
-    if a == b'-' {
-        return MINUS;
-    }
-    if a == b'*' {
-        return TIMES;
-    }
-    if a == b'/' {
-        return OVER;
-    }
-    if a == b'(' {
-        return OPEN;
-    }
-    if a == b')' {
-        return CLOSE;
-    }
-    if a == b'[' {
-        return LEFT;
-    }
-    if a == b']' {
-        return RIGHT;
-    }
-    if a == b',' {
-        return COMMA;
-    }
-    0
 }
 
 // A sign of two bytes, else of one.
-fn sign_first(part: &[u8]) -> First
-    requires { 0 < length part.now }
+#[tactic(auto, unfolding(crate::specs::First::sign_first))]
+fn sign_first(part: &[u8]) -> Option<First>
     ensures { result ≡ sign_first part.now }
 {
-    if part.len() == 1 {
-        return first_of(single_token(part[0]), 1);
+    let pair = match part {
+        [a, b, ..] => pair_token(*a, *b),
+        _ => None,
+    };
+    if let Some(token) = pair {
+        return Some(First { token, size: 2 });
     }
-    let t = pair_token(part[0], part[1]);
-    if t == 0 {
-        return first_of(single_token(part[0]), 1);
-    }
-    First { token: t, size: 2 }
+    let token = single_token(*part.first()?)?;
+    Some(First { token, size: 1 })
 }
 
 // The first token from a place on, longest first.
-pub fn first_token(text: &[u8], at: usize) -> First
+#[tactic(auto, unfolding(crate::specs::First::first_token))]
+pub fn first_token(text: &[u8], at: usize) -> Option<First>
     ensures { result ≡ first_token (drop at text.now) }
 {
-    if text.len() <= at {
-        return First { token: 0, size: 0 };
+    let part = text.get(at..)?;
+    match *part.first()? {
+        b if starts_word(b) => word_first(part),
+        b if is_digit(b) => number_first(part),
+        _ => sign_first(part),
     }
-    let part = &text[at..];
-    let b = part[0];
-    if starts_word(b) {
-        return word_first(part);
-    }
-    if is_digit(b) {
-        return number_first(part);
-    }
-    sign_first(part)
 }

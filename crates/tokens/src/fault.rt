@@ -1,10 +1,12 @@
 // The faults of single things, as codes of document 01; 0 is no fault.
-ghost use Rattle.std.specs.Prelude.{◌≡◌, true, false, ◌<◌, drop};
-ghost use Rattle.tokens.specs.SingleFault.{lower, opens_too_many, wanting_fault, number_fault, read_fault, is_writable, write_fault, code_fault, call_fault, id_fault, curve_fault};
+//
+// They stay numbers: the theorems on what is refused speak of the codes of the document, and so does the answer that a host gets.
+ghost use Rattle.std.specs.Prelude.{◌≡◌, drop};
+ghost use Rattle.tokens.specs.SingleFault.{lower, unless, opens_too_many, wanting_fault, number_fault, read_fault, is_writable, write_fault, code_fault, call_fault, id_fault, curve_fault};
 
 use crate::index::is_inside;
 use crate::token::{
-    CURVES, END, EVERY, OPEN, OUT, R, SETAL, TIMER, WHEN, is_bracket, is_fifo, token_at,
+    CLOSE, CURVES, END, EVERY, FIFO1, FIFO4, OPEN, OUT, R, SETAL, TIMER, WHEN, is_fifo,
 };
 use values::arithmetic::TOP;
 use values::codes::{CONFUSED, M_ALONE, OUTSIDE, READ_ONLY};
@@ -19,145 +21,129 @@ const HIGHEST: u32 = 2 * (TOP as u32) + 1;
 const LAST_CURVE: u32 = CURVES as u32;
 
 // The lower of two faults.
+#[tactic(auto, unfolding(crate::specs::SingleFault::lower))]
 pub fn lower_of(a: u8, b: u8) -> u8
     ensures { result ≡ lower a b }
 {
-    if a == 0 {
-        return b;
+    match (a, b) {
+        (0, _) => b,
+        (_, 0) => a,
+        _ => a.min(b),
     }
-    if b == 0 {
-        return a;
-    }
-    if a < b { a } else { b }
+}
+
+// The code, unless all is good.
+fn unless(good: bool, code: u8) -> u8
+    ensures { result ≡ unless good code }
+{
+    if good { 0 } else { code }
 }
 
 // 6 where a yes/no (true) or a number (false) is wanted and the other stands.
+#[tactic(auto, unfolding(crate::specs::SingleFault::wanting_fault))]
 pub fn wanting(wanted: bool, truth: bool) -> u8
     ensures { result ≡ wanting_fault wanted truth }
 {
-    if wanted == truth { 0 } else { CONFUSED }
+    unless(wanted == truth, CONFUSED)
 }
 
 // 7 for a number above 1,000,000; t is what its token carries, twice its thousandths and one more for a written point.
+#[tactic(auto, unfolding(crate::specs::SingleFault::number_fault))]
 pub fn number_fault(t: u32) -> u8
     ensures { result ≡ number_fault t }
 {
-    if t <= HIGHEST { 0 } else { OUTSIDE }
+    unless(t <= HIGHEST, OUTSIDE)
 }
 
 // 7 for an index outside, 8 for FIFO [0].
+#[tactic(auto, unfolding(crate::specs::SingleFault::read_fault, crate::specs::SingleFault::lower))]
 pub fn read_fault(w: u32, i: u32) -> u8
     ensures { result ≡ read_fault w i }
 {
     if !is_inside(w, i) {
         return OUTSIDE;
     }
-    if i != 0 {
-        return 0;
-    }
-    if is_fifo(w) { READ_ONLY } else { 0 }
+    unless(i != 0 || !is_fifo(w), READ_ONLY)
 }
 
+#[tactic(auto, unfolding(crate::specs::SingleFault::is_writable))]
 fn is_writable(w: u32, i: u32) -> bool
     ensures { result ≡ is_writable w i }
 {
-    if is_fifo(w) {
-        if i == 0 {
-            return true;
-        }
-        return i == 4;
+    match w {
+        FIFO1..=FIFO4 => matches!(i, 0 | 4),
+        R => i < 100,
+        OUT..=TIMER => true,
+        _ => false,
     }
-    if w == R {
-        return i < 100;
-    }
-    if w < OUT {
-        return false;
-    }
-    w <= TIMER
 }
 
 // 7 for an index outside, 8 for a place that text may not write.
+#[tactic(auto, unfolding(crate::specs::SingleFault::write_fault, crate::specs::SingleFault::lower))]
 pub fn write_fault(w: u32, i: u32) -> u8
     ensures { result ≡ write_fault w i }
 {
     if !is_inside(w, i) {
         return OUTSIDE;
     }
-    if is_writable(w, i) { 0 } else { READ_ONLY }
+    unless(is_writable(w, i), READ_ONLY)
 }
 
 // M: 7 above 99, 9 without WHEN or EVERY.
+#[tactic(auto, unfolding(crate::specs::SingleFault::code_fault, crate::specs::SingleFault::lower))]
 pub fn code_fault(keyword: u32, n: u32) -> u8
     ensures { result ≡ code_fault keyword n }
 {
     if 99 < n {
         return OUTSIDE;
     }
-    if (keyword == WHEN) | (keyword == EVERY) {
-        0
-    } else {
-        M_ALONE
-    }
+    unless(matches!(keyword, WHEN | EVERY), M_ALONE)
 }
 
 // SETAL 65000 to 69999, LOCK and UNLOCK a line's number; else 7.
+#[tactic(auto, unfolding(crate::specs::SingleFault::call_fault))]
 pub fn call_fault(w: u32, n: u32) -> u8
     ensures { result ≡ call_fault w n }
 {
-    if w == SETAL {
-        if n < 65000 {
-            return OUTSIDE;
-        }
-        if n <= 69999 {
-            return 0;
-        }
-        return OUTSIDE;
+    match w {
+        SETAL => unless(matches!(n, 65000..=69999), OUTSIDE),
+        _ => id_fault(n),
     }
-    id_fault(n)
 }
 
 // Line numbers are 1 to 255.
+#[tactic(auto, unfolding(crate::specs::SingleFault::id_fault))]
 pub fn id_fault(n: u32) -> u8
     ensures { result ≡ id_fault n }
 {
-    if n < 1 {
-        return OUTSIDE;
-    }
-    if n <= 255 { 0 } else { OUTSIDE }
+    unless(matches!(n, 1..=255), OUTSIDE)
 }
 
 // Curves are 1 to 3.
+#[tactic(auto, unfolding(crate::specs::SingleFault::curve_fault))]
 pub fn curve_fault(n: u32) -> u8
     ensures { result ≡ curve_fault n }
 {
-    if n < 1 {
-        return OUTSIDE;
-    }
-    if n <= LAST_CURVE { 0 } else { OUTSIDE }
+    unless(matches!(n, 1..=LAST_CURVE), OUTSIDE)
 }
 
 // Whether more than eight brackets ( are open at some place from `at` to the line's end.
+#[tactic(auto, unfolding(crate::specs::SingleFault::opens_too_many))]
 pub fn opens_too_many(set: &[u32], at: usize) -> bool
     ensures { result ≡ opens_too_many (drop at set.now) 0 }
 {
+    let Some(rest) = set.get(at..) else {
+        return false;
+    };
     let mut open: usize = 0;
-    let mut i = at;
-    while i < set.len() {
-        let t = token_at(set, i);
-        if t == END {
-            return false;
+    for &t in rest {
+        match t {
+            END => return false,
+            OPEN if open >= BRACKETS => return true,
+            OPEN => open += 1,
+            CLOSE => open = open.saturating_sub(1),
+            _ => {}
         }
-        if is_bracket(t) {
-            if t == OPEN {
-                if BRACKETS <= open {
-                    return true;
-                }
-                open += 1;
-            } else if 0 < open {
-                open -= 1;
-            }
-        }
-        i += 1;
     }
     false
 }

@@ -1,54 +1,29 @@
 // The indices that each variable has; a word that is no variable has none. The same table stands in specs/Index.
 ghost use Rattle.std.specs.Prelude.{◌≡◌};
-ghost use Rattle.tokens.specs.Index.{first_index, last_index, is_inside};
+ghost use Rattle.tokens.specs.Index.{first_index, is_inside};
 
-use crate::token::{FIFO4, IM, IN, INA, MARKER, OUT, PARAM, R, TIMER, is_fifo};
+use crate::token::{FIFO1, FIFO4, IM, IN, INA, MARKER, OUT, PARAM, R, TIMER};
 
+// The first of them.
 pub fn first_index(w: u32) -> u32
     ensures { result ≡ first_index w }
 {
-    if w < MARKER {
-        return 1;
-    }
-    if FIFO4 < w { 1 } else { 0 }
-}
-
-fn last_index(w: u32) -> u32
-    ensures { result ≡ last_index w }
-{
-    if w == R {
-        return 163;
-    }
-    if w == MARKER {
-        return 31;
-    }
-    if w == PARAM {
-        return 31;
-    }
-    if w == TIMER {
-        return 7;
-    }
-    if is_fifo(w) {
-        return 4;
-    }
-    if w == INA {
-        return 8;
-    }
-    if w == IM {
-        return 6;
-    }
-    if w == IN {
-        return 16;
-    }
-    if w == OUT { 16 } else { 0 }
+    if matches!(w, MARKER..=FIFO4) { 0 } else { 1 }
 }
 
 // Whether the variable w has an index i.
+#[tactic(auto, unfolding(crate::specs::Index::is_inside))]
 pub fn is_inside(w: u32, i: u32) -> bool
     ensures { result ≡ is_inside w i }
 {
-    if i < first_index(w) {
-        return false;
+    match w {
+        R => i <= 163,
+        MARKER | PARAM => i <= 31,
+        TIMER => i <= 7,
+        FIFO1..=FIFO4 => i <= 4,
+        IN | OUT => matches!(i, 1..=16),
+        INA => matches!(i, 1..=8),
+        IM => matches!(i, 1..=6),
+        _ => false,
     }
-    i <= last_index(w)
 }

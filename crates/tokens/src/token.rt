@@ -1,6 +1,8 @@
 // The tokens: their numbers, and what a token is. The same table stands in specs/Token.
+//
+// A token stays a number: the theorems of the grammar, of the turns and of the loading speak of a set as numbers in one array, and a C host keeps that array.
 ghost use Rattle.std.specs.Prelude.{◌≡◌, get_or};
-ghost use Rattle.tokens.specs.Token.{between, is_variable, is_fifo, is_axis, is_drive, is_move, is_call, is_lock, is_naming, is_keyword, is_id, is_bracket, is_factor, is_term, is_arithmetic, is_compare, is_logic, is_whole, whole};
+ghost use Rattle.tokens.specs.Token.{is_variable, is_fifo, is_axis, is_drive, is_move, is_call, is_lock, is_naming, is_keyword, is_id, is_factor, is_term, is_arithmetic, is_compare, is_logic, is_whole, whole};
 ghost use Rattle.tokens.specs.Descent.{is_row, is_index, index_of, is_indexed, index_at};
 
 // The lines that a set may have, the actions of each, and the bytes of its text.
@@ -133,194 +135,156 @@ pub fn token_at(set: &[u32], at: usize) -> u32
     if at < set.len() { set[at] } else { 0 }
 }
 
-fn is_between(low: u32, high: u32, t: u32) -> bool
-    ensures { result ≡ between low high t }
-{
-    if t < low {
-        return false;
-    }
-    t <= high
-}
-
 pub fn is_variable(t: u32) -> bool
     ensures { result ≡ is_variable t }
 {
-    is_between(IN, IM, t)
+    matches!(t, IN..=IM)
 }
 
 pub fn is_fifo(t: u32) -> bool
     ensures { result ≡ is_fifo t }
 {
-    is_between(FIFO1, FIFO4, t)
+    matches!(t, FIFO1..=FIFO4)
 }
 
 pub fn is_axis(t: u32) -> bool
     ensures { result ≡ is_axis t }
 {
-    is_between(X, W, t)
+    matches!(t, X..=W)
 }
 
 pub fn is_drive(t: u32) -> bool
     ensures { result ≡ is_drive t }
 {
-    is_between(POS, MOV, t)
+    matches!(t, POS..=MOV)
 }
 
 // POS or MOV; FA is no move.
 pub fn is_move(t: u32) -> bool
     ensures { result ≡ is_move t }
 {
-    if t == FA {
-        return false;
-    }
-    is_drive(t)
+    matches!(t, POS | MOV)
 }
 
 pub fn is_call(t: u32) -> bool
     ensures { result ≡ is_call t }
 {
-    is_between(SETAL, UNLOCK, t)
+    matches!(t, SETAL..=UNLOCK)
 }
 
 // LOCK and UNLOCK.
 pub fn is_lock(t: u32) -> bool
     ensures { result ≡ is_lock t }
 {
-    is_between(LOCK, UNLOCK, t)
+    matches!(t, LOCK..=UNLOCK)
 }
 
 // Whether the first number in the brackets of a word is a name: LOCK and UNLOCK, and SYNFCT.
 pub fn is_naming(t: u32) -> bool
     ensures { result ≡ is_naming t }
 {
-    if is_lock(t) {
-        return true;
-    }
-    t == SYNFCT
+    is_lock(t) || t == SYNFCT
 }
 
 pub fn is_keyword(t: u32) -> bool
     ensures { result ≡ is_keyword t }
 {
-    is_between(WHEN, EVERY, t)
+    matches!(t, WHEN..=EVERY)
 }
 
 pub fn is_id(t: u32) -> bool
     ensures { result ≡ is_id t }
 {
-    is_between(ID, IDS, t)
-}
-
-// A bracket ( or ).
-pub(crate) fn is_bracket(t: u32) -> bool
-    ensures { result ≡ is_bracket t }
-{
-    is_between(OPEN, CLOSE, t)
+    matches!(t, ID..=IDS)
 }
 
 pub fn is_factor(t: u32) -> bool
     ensures { result ≡ is_factor t }
 {
-    is_between(TIMES, OVER, t)
+    matches!(t, TIMES..=OVER)
 }
 
 pub fn is_term(t: u32) -> bool
     ensures { result ≡ is_term t }
 {
-    is_between(PLUS, MINUS, t)
+    matches!(t, PLUS..=MINUS)
 }
 
 // One of + - * /: those of a term stand directly before those of a factor.
 pub fn is_arithmetic(t: u32) -> bool
     ensures { result ≡ is_arithmetic t }
 {
-    is_between(PLUS, OVER, t)
+    matches!(t, PLUS..=OVER)
 }
 
 pub fn is_compare(t: u32) -> bool
     ensures { result ≡ is_compare t }
 {
-    is_between(SAME, ATLEAST, t)
+    matches!(t, SAME..=ATLEAST)
 }
 
 pub fn is_logic(t: u32) -> bool
     ensures { result ≡ is_logic t }
 {
-    is_between(AND, XOR, t)
+    matches!(t, AND..=XOR)
 }
 
 // Whether a token goes on with the row of AND, OR or XOR that began with `first`.
 pub fn is_row(first: u32, t: u32) -> bool
     ensures { result ≡ is_row first t }
 {
-    if is_logic(t) { t == first } else { false }
+    is_logic(t) && t == first
 }
 
 // Whether a token is a number written without a point.
 pub fn is_whole(t: u32) -> bool
     ensures { result ≡ is_whole t }
 {
-    if t < NUMBER {
-        return false;
-    }
-    (t - NUMBER) % 2000 == 0
+    t >= NUMBER && (t - NUMBER) % 2000 == 0
 }
 
 // The number that a whole number's token carries; 0 for a token that is no number.
 pub fn whole_of(t: u32) -> u32
     ensures { result ≡ whole t }
 {
-    if t < NUMBER {
-        return 0;
-    }
-    (t - NUMBER) / 2000
+    t.saturating_sub(NUMBER) / 2000
 }
 
 // Whether a token is an index of the word w: an axis letter, or a number without a point.
+#[tactic(auto, unfolding(crate::specs::Descent::is_index))]
 fn is_index(w: u32, t: u32) -> bool
     ensures { result ≡ is_index w t }
 {
-    if IM <= w {
-        return is_axis(t);
-    }
-    is_whole(t)
+    if w < IM { is_whole(t) } else { is_axis(t) }
 }
 
 // The index that a token is for the word w; X to W are 1 to 6.
+#[tactic(auto, unfolding(crate::specs::Descent::index_of))]
 fn index_of(w: u32, t: u32) -> u32
     ensures { result ≡ index_of w t }
 {
     if w < IM {
-        return whole_of(t);
+        whole_of(t)
+    } else {
+        t.saturating_sub(X - 1)
     }
-    if t < X {
-        return 0;
-    }
-    t - (X - 1)
 }
 
 // Whether an index of the word w stands behind place `at`.
+#[tactic(auto, unfolding(crate::specs::Descent::is_indexed))]
 pub fn is_indexed(set: &[u32], w: u32, at: usize) -> bool
     ensures { result ≡ is_indexed set.now w at }
 {
-    if set.len() <= at {
-        return false;
-    }
-    if token_at(set, at + 1) != LEFT {
-        return false;
-    }
-    if token_at(set, at + 3) != RIGHT {
-        return false;
-    }
-    is_index(w, token_at(set, at + 2))
+    at < set.len()
+        && token_at(set, at + 1) == LEFT
+        && token_at(set, at + 3) == RIGHT
+        && is_index(w, token_at(set, at + 2))
 }
 
 // The index of the word w behind place `at`.
+#[tactic(auto, unfolding(crate::specs::Descent::index_at))]
 pub fn index_at(set: &[u32], w: u32, at: usize) -> u32
     ensures { result ≡ index_at set.now w at }
 {
-    if set.len() <= at {
-        return index_of(w, 0);
-    }
-    index_of(w, token_at(set, at + 2))
+    index_of(w, token_at(set, at.saturating_add(2)))
 }

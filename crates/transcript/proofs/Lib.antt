@@ -3,6 +3,5 @@ mod BeatLineLaws
 mod OutLaws
 mod TestLaws
 mod TallyBeatLaws
-mod SetTextLaws
 mod StepLaws
 mod WorkLaws

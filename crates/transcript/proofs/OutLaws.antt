@@ -5,8 +5,9 @@ use mathlib.Core.List.{List, [], ◌∷◌, ◌++◌, append_assoc, append-nil}
 use Prim.Native.Nat.{ℕ, zero, suc, ◌+◌, ◌-◌, ◌*◌, ◌≤◌, ◌<◌}
 use native.Mathlib.Omega.{arith}
 use native.Mathlib.Numerals.{add-one}
-use lib.ListN.{length, get_or, drop, drop_of_length-le}
-use lib.Seq.{drop-cons, get_or-drop, drop-drop}
+use lib.ListN.{length, get_or, take, drop, drop_of_length-le, length-drop, get_or-append}
+use lib.Seq.{drop-cons, get_or-drop, drop-append-le, length-take-le}
+use Rattle.std.proofs.lemmas.List.{take-append-drop, get_or-take}
 use Rattle.engine.specs.Order.{order_size}
 use Rattle.engine.specs.Status.{no_status}
 use Rattle.engine.specs.declared.status.LineStatus.{LineStatus}
@@ -28,10 +29,6 @@ field-alone f = ap (λ (y : List ℕ). SPACE ∷ y) (append-nil f)
 pub field-first : (f : List ℕ) (fs : List (List ℕ)) → spaced (f ∷ fs) ≡ spaced (f ∷ []) ++ spaced fs
 unfolding spaced
 field-first f fs = ap (λ (y : List ℕ). SPACE ∷ (y ++ spaced fs)) (sym (append-nil f))
-
-pub three-fields : (a b c : ℕ) → spaced (decimals (a ∷ b ∷ c ∷ [])) ≡ (spaced (decimals (a ∷ [])) ++ spaced (decimals (b ∷ []))) ++ spaced (decimals (c ∷ []))
-three-fields a b c =
-    field-first (decimal a) (decimals (b ∷ c ∷ [])) ∙ ap (λ (y : List ℕ). spaced (decimals (a ∷ [])) ++ y) (field-first (decimal b) (decimals (c ∷ []))) ∙ sym (append_assoc (spaced (decimals (a ∷ []))) (spaced (decimals (b ∷ []))) (spaced (decimals (c ∷ []))))
 
 -- the numbers from place i on
 module _ (ns : List ℕ) (i : ℕ) where
@@ -56,43 +53,39 @@ line-more word fs f = rw (spaced-more fs f) (simp append_assoc)
 
 -- ---- the fields of an order
 
-module _ (o : List ℕ) (from : ℕ) where
-  field : (i : ℕ) {x : ℕ} → x ≡ get_or o (from + i) 0 → get_or (drop from o) i 0 ≡ x
-  field i e = get_or-drop from o i 0 ∙ sym e
+-- its value, in its last four bytes
+pub four_is : (o : List ℕ) → get_or o 4 0 + get_or o 5 0 * 256 + get_or o 6 0 * 65536 + get_or o 7 0 * 16777216 ≡ four_of (drop 4 o)
+unfolding four_of
+four_is o = rw (get_or-drop 4 o 0 0, get_or-drop 4 o 1 0, get_or-drop 4 o 2 0, get_or-drop 4 o 3 0)
 
-  first : {x : ℕ} → x ≡ get_or o from 0 → get_or (drop from o) 0 0 ≡ x
-  first e = let z : from + 0 ≡ from = omega arith in field 0 (rw z e)
+-- its three numbers, then its value behind a space
+pub order_is : (o : List ℕ) {line kind target v : ℕ} → line ≡ get_or o 1 0 → kind ≡ get_or o 0 0 → target ≡ get_or o 2 0 → v ≡ four_of (drop 4 o) →
+    order_line o ≡ (((bytes "O" ++ spaced (decimals (line ∷ kind ∷ target ∷ []))) ++ (SPACE ∷ [])) ++ signed_text v) ++ (LF ∷ [])
+unfolding order_line
+order_is o e f g h = rw (e, f, g, h) (line-more (bytes "O") (decimals (get_or o 1 0 ∷ get_or o 0 0 ∷ get_or o 2 0 ∷ [])) (signed_text (four_of (drop 4 o))))
 
-  pub four_is : {a b c d : ℕ} → a ≡ get_or o from 0 → b ≡ get_or o (from + 1) 0 → c ≡ get_or o (from + 2) 0 → d ≡ get_or o (from + 3) 0 → a + b * 256 + c * 65536 + d * 16777216 ≡ four_of (drop from o)
-  unfolding four_of
-  four_is e f g h = rw (first e, field 1 f, field 2 g, field 3 h)
-
-  -- its three numbers, then its value behind a space
-  pub order_is : {line kind target v : ℕ} → line ≡ get_or o (from + 1) 0 → kind ≡ get_or o from 0 → target ≡ get_or o (from + 2) 0 → v ≡ four_of (drop (from + 4) o) →
-      order_line (drop from o) ≡ (((bytes "O" ++ spaced (decimals (line ∷ kind ∷ target ∷ []))) ++ (SPACE ∷ [])) ++ signed_text v) ++ (LF ∷ [])
-  unfolding order_line
-  order_is {line} {kind} {target} {v} e f g h = rw (field 1 e, first f, field 2 g, drop-drop 4 from o, ← h) (line-more (bytes "O") (decimals (line ∷ kind ∷ target ∷ [])) (signed_text v))
+-- what is behind it in a buffer is not looked at
+pub order-alone : (o b : List ℕ) → order_size ≤ length o → order_line (o ++ b) ≡ order_line o
+unfolding order_line four_of
+order-alone o b h =
+    let d = length-drop 4 o in
+    rw (get_or-append o b 0 1 (omega arith), get_or-append o b 0 0 (omega arith), get_or-append o b 0 2 (omega arith), drop-append-le 4 o b (omega arith))
+    (rw (get_or-append (drop 4 o) b 0 0 (omega arith), get_or-append (drop 4 o) b 0 1 (omega arith), get_or-append (drop 4 o) b 0 2 (omega arith), get_or-append (drop 4 o) b 0 3 (omega arith)))
 
 -- ---- orders one behind the other
 
--- the orders from place k on, of n
-abbrev pub orders_left : ℕ → List ℕ → ℕ → List ℕ
-orders_left n o k = order_lines (n - k) (drop (k * order_size) o)
+-- before k of n orders, where there are so many
+pub orders-next : (n k : ℕ) (o : List ℕ) → k < n → order_size ≤ length o → order_lines (n - k) o ≡ order_line (take order_size o) ++ order_lines (n - (k + 1)) (drop order_size o)
+unfolding order_lines
+orders-next n k o h l =
+    let e : n - k ≡ suc (n - (k + 1)) = omega arith in
+    let m = length-take-le order_size o l in
+    let q : order_line o ≡ order_line (take order_size o) = ap order_line (sym (take-append-drop order_size o)) ∙ order-alone (take order_size o) (drop order_size o) (omega arith) in
+    rw (e, q)
 
-module _ (n : ℕ) (o : List ℕ) where
-  pub all_left : orders_left n o 0 ≡ order_lines n o
-  all_left = let e : n - 0 ≡ n = omega arith in rw e
-
-  pub none_left : (k : ℕ) → n ≤ k → orders_left n o k ≡ []
-  unfolding order_lines
-  none_left k h = let e : n - k ≡ 0 = omega arith in rw e
-
-  pub one_less : (k : ℕ) → k < n → orders_left n o k ≡ order_line (drop (k * order_size) o) ++ orders_left n o (k + 1)
-  unfolding order_lines
-  one_less k h =
-      let e : n - k ≡ suc (n - (k + 1)) = omega arith in
-      let f : k * order_size + order_size ≡ (k + 1) * order_size = omega arith in
-      rw (e, drop-drop order_size (k * order_size) o, f)
+pub orders-over : (n k : ℕ) (o : List ℕ) → n ≤ k → order_lines (n - k) o ≡ []
+unfolding order_lines
+orders-over n k o h = let e : n - k ≡ 0 = omega arith in rw e
 
 -- ---- the status picture
 
@@ -141,6 +134,10 @@ module _ (n : ℕ) (xs : List LineStatus) where
   unfolding status_rows
   no_row k h = let e : n - k ≡ 0 = omega arith in rw e
 
-  pub row-less : (k : ℕ) (d : LineStatus) → k < n → k < length xs → rows_left n xs k ≡ status_line (get_or xs k d) ++ rows_left n xs (k + 1)
+  -- where there are so many
+  pub row-taken : (k : ℕ) (d : LineStatus) → k < n → n ≤ length xs → rows_left n xs k ≡ status_line (get_or (take n xs) k d) ++ rows_left n xs (k + 1)
   unfolding status_rows
-  row-less k d h w = let e : n - k ≡ suc (n - (k + 1)) = omega arith in rw (e, read-within xs k d no_status w)
+  row-taken k d h w =
+      let e : n - k ≡ suc (n - (k + 1)) = omega arith in
+      let q : get_or xs k no_status ≡ get_or (take n xs) k d = read-within xs k no_status d (omega arith) ∙ sym (get_or-take n xs k d h) in
+      rw (e, q)

@@ -4,23 +4,20 @@ use mathlib.Core.Bool.{true, false}
 use mathlib.Core.List.{List, [], ◌++◌}
 use Prim.Native.Nat.{ℕ, zero, suc, ◌+◌, ◌-◌, ◌≤◌, ◌<◌}
 use native.Mathlib.Omega.{arith}
-use borrow.Author.Tests.{eq-eqb, ne_eqb, le-leb, lt-leb, lt-ltb, le-ltb}
+use borrow.Author.Tests.{le-leb, lt-leb, lt-ltb, le-ltb}
 use lib.ListN.{length, take, drop, length-drop}
 use lib.Seq.{drop-drop}
 use Rattle.text.specs.Byte.{in_line, run}
 use Rattle.text.specs.ByteLaws.{run-within}
-use Rattle.engine.specs.declared.state.State.{State}
 use Rattle.values.specs.PutAt.{put_at, IsPut}
 use Rattle.values.specs.PutLaws.{put_both, put-nothing}
+use Rattle.transcript.specs.declared.intake.Arrived.{Arrived}
 use Rattle.transcript.specs.declared.intake.Intake.{Intake}
 use Rattle.transcript.specs.declared.session.Session.{Session}
-use Rattle.transcript.specs.Output.{end_room, out_size, last_start, line_room}
-use Rattle.transcript.specs.declared.totals.Counts.{Counts}
 use Rattle.transcript.specs.declared.totals.Totals.{Totals}
-use Rattle.transcript.specs.Totals.{ended}
-use Rattle.transcript.specs.Intake.{BEATS, bytes_taken, bytes_kept, input_over}
+use Rattle.transcript.specs.Output.{end_room, out_size, last_start, line_room}
+use Rattle.transcript.specs.Intake.{bytes_taken, bytes_kept, input_over}
 use Rattle.transcript.specs.Machine.{Machine, Fed, Work, with_intake, is_fit, arrival_worked, chunk, line_end, end_after, last_output, finished, finished_text, work_from, worked}
-use Rattle.transcript.specs.InPlace.{session_in}
 use Rattle.transcript.specs.SessionAnswers.{IsFed, IsWorked, machine_of, session_of, step_answer}
 use Rattle.transcript.specs.SessionRoomLaws.{Lives, fit_parts, fit-lives, chunk-lives, line-lives}
 
@@ -33,10 +30,10 @@ pub step_is : {w : Work} {t s b exit : List ℕ} {y : Session} {k q : ℕ} → I
     (record { session = y; taken = k; written = q } ≡ step_answer w) × ((t ≡ w.machine.text) × ((s ≡ w.machine.set) × (exit ≡ put_at b 0 w.output)))
 step_is {w} {q = q} f = let h : q ≡ length w.output = let b = f.output.behind in omega arith in rw (f.machine, f.taken, h) (refl, (refl, (refl, f.output.put)))
 
--- with totals that are held in place
-pub step-as : (t s input : List ℕ) (i : Intake) {u v b exit : List ℕ} {j : Intake} {m n y z : Totals} {k q : ℕ} → m ≡ n → y ≡ z → IsWorked (worked (machine_of t s (session_of i n)) input) (machine_of u v (session_of j z)) k b exit q →
-    IsWorked (worked (machine_of t s (session_of i m)) input) (machine_of u v (session_of j y)) k b exit q
-step-as t s input i e f w = rw (e, f) w
+-- over sessions by other names
+pub step-as : (t s input : List ℕ) {x y : Session} → x ≡ y → {u v b exit : List ℕ} {z w : Session} → z ≡ w → {k q : ℕ} → IsWorked (worked (machine_of t s x) input) (machine_of u v w) k b exit q →
+    IsWorked (worked (machine_of t s y) input) (machine_of u v z) k b exit q
+step-as t s input e f w = rw (← e, f) w
 
 module _ (m : Machine) (t : List ℕ) where
   pub unfit-work : is_fit m.session ≡ false → worked m t ≡ record { machine = m; taken = length t; output = [] }
@@ -163,23 +160,18 @@ put-after {f} e g p = put_whole (e ∙ ap (λ (x : Machine). f.output ++ end_aft
 pub end-has-room : {f : Fed} {m : Machine} {b exit : List ℕ} {p : ℕ} → IsFed f m b 0 exit p → length f.output ≤ line_room → p + end_room ≤ out_size
 end-has-room g h = let e = g.output.behind in omega arith
 
--- with a state by another name
-pub end-in : (s : List ℕ) (i : Intake) (n : Counts) {x y : State} {b exit : List ℕ} {at q : ℕ} → x ≡ y → IsPut b at (end_after s (session_in i n x)) exit q → IsPut b at (end_after s (session_in i n y)) exit q
-end-in s i n e p = rw (← e) p
-
-pub end-beats : (s : List ℕ) (x : Session) → x.intake.phase ≡ BEATS → end_after s x ≡ ended s x.totals
-unfolding end_after
-end-beats s x h = simp (end_after, eq-eqb _ _ h)
-
-pub end-else : (s : List ℕ) (x : Session) → (x.intake.phase ≡ BEATS → ⊥) → end_after s x ≡ []
-unfolding end_after
-end-else s x h = simp (end_after, ne_eqb _ _ h)
+-- of a session by another name
+pub end-in : (s : List ℕ) {x y : Session} → x ≡ y → {b exit : List ℕ} {at q : ℕ} → IsPut b at (end_after s x) exit q → IsPut b at (end_after s y) exit q
+end-in s e p = rw e at p
 
 module _ (t s : List ℕ) (x : Session) where
   pub finish-unfit : is_fit x ≡ false → finished_text (machine_of t s x) ≡ []
   unfolding finished_text
   finish-unfit h = simp (finished_text, h)
 
-  pub finish-fit : is_fit x ≡ true → {n : Totals} → x.totals ≡ n → finished_text (machine_of t s x) ≡ last_output (arrival_worked (machine_of t s (session_of (input_over x.intake).intake n)) (input_over x.intake).arrival)
+  finish-fit : is_fit x ≡ true → finished_text (machine_of t s x) ≡ last_output (arrival_worked (machine_of t s (session_of (input_over x.intake).intake x.totals)) (input_over x.intake).arrival)
   unfolding finished_text finished
-  finish-fit h e = simp (finished_text, h) (ap (λ (n : Totals). last_output (arrival_worked (machine_of t s (session_of (input_over x.intake).intake n)) (input_over x.intake).arrival)) e)
+  finish-fit h = simp (finished_text, h)
+
+  pub finish-as : is_fit x ≡ true → {a : Arrived} → a ≡ input_over x.intake → {n : Totals} → n ≡ x.totals → finished_text (machine_of t s x) ≡ last_output (arrival_worked (machine_of t s (session_of a.intake n)) a.arrival)
+  finish-as h e k = rw (e, k) (finish-fit h)

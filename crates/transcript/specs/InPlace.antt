@@ -1,45 +1,28 @@
--- How the code holds a session while it works a piece of input: the intake, the counts and the channels by value, the rest of the state by its arrays. Definitions only.
-use Rattle.std.specs.Prelude.{Bool, true, false, List, ℕ, ◌+◌, ℤ, drop}
-use Rattle.couplers.specs.declared.channel.Channel.{Channel}
-use Rattle.working.specs.Variables.{input_count}
-use Rattle.engine.specs.declared.state.State.{State}
-use Rattle.engine.specs.Calls.{program_end_call, control_reset_call}
-use Rattle.transcript.specs.BeatLine.{Said, program_end, control_reset}
-use Rattle.transcript.specs.declared.intake.Intake.{Intake}
+-- How the code holds a session while it works a piece of input. Definitions only.
+use Rattle.std.specs.Prelude.{true, false, List, ℕ, eqb}
+use Rattle.engine.specs.Held.{state_held}
+use Rattle.transcript.specs.declared.in_place.Workplace.{Workplace}
 use Rattle.transcript.specs.declared.session.Session.{Session}
-use Rattle.transcript.specs.declared.totals.Counts.{Counts}
 use Rattle.transcript.specs.declared.totals.Totals.{Totals}
-use Rattle.transcript.specs.Totals.{one_if}
+use Rattle.transcript.specs.Totals.{last_line, ended}
+use Rattle.transcript.specs.Machine.{Machine, Fed, stopped, standing}
+use Rattle.transcript.specs.SessionAnswers.{machine_of}
 
--- the totals, of their state the channels only
-abbrev pub counts_of : Totals → Counts
-counts_of n = record { view = n.view; channels = n.state.channels; lines = n.lines; beats = n.beats; coded = n.coded; orders = n.orders }
+-- the totals, and the session
+abbrev pub totals_at : Workplace → Totals
+totals_at w = record { counts = w.counts; state = state_held w.held }
 
--- and with a state
-abbrev pub totals_of : Counts → State → Totals
-totals_of n x = record { view = n.view; state = x; lines = n.lines; beats = n.beats; coded = n.coded; orders = n.orders }
+abbrev pub session_at : Workplace → Session
+session_at w = record { intake = w.intake; totals = totals_at w }
 
--- the counts with a line and its beat, by its code, its orders and what the channels then keep
-abbrev pub counts_after : Counts → ℕ → ℕ → List Channel → Counts
-counts_after n code orders kept = record { view = n.view; channels = kept; lines = n.lines + 1; beats = record { 0 = n.beats.0 + 1 }; coded = n.coded + one_if code; orders = n.orders + orders }
+-- over a kept text and a set
+abbrev pub machine_at : List ℕ → List ℕ → Workplace → Machine
+machine_at t s w = machine_of t s (session_at w)
 
--- with a line that is no beat, by what the channels keep
-abbrev pub counts_called : Counts → List Channel → Counts
-counts_called n kept = record { view = n.view; channels = kept; lines = n.lines + 1; beats = n.beats; coded = n.coded; orders = n.orders }
-
--- a call, by whether it is the control reset, and the state that it leaves
-abbrev pub call_said : Bool → Said
-call_said true = control_reset
-call_said false = program_end
-
-abbrev pub call_left : Bool → List ℕ → State → State
-call_left true s st = (control_reset_call s st).state
-call_left false s st = (program_end_call s st).state
-
--- the state in its arrays: R, the cells of a beat, which timers run, what the channels keep, locks, cancels, memory, how often each line acted
-abbrev pub state_in : List ℤ → List ℤ → List Bool → List Channel → List Bool → List Bool → List Bool → List ℕ → State
-state_in r c runs channels locked cancelled memory acts = record { r = r; cells = drop input_count c; runs = runs; channels = channels; locked = locked; cancelled = cancelled; memory = memory; acts = acts }
-
--- the session
-abbrev pub session_in : Intake → Counts → State → Session
-session_in i n x = record { intake = i; totals = totals_of n x }
+-- behind a line that was counted: the end, if it is the last
+unfoldable pub behind_last : Machine → Fed
+behind_last m =
+    elim (eqb m.session.totals.counts.lines last_line) [
+      | true ↦ record { machine = record { text = m.text; set = m.set; session = stopped m.session }; output = ended m.set m.session.totals }
+      | false ↦ standing m
+    ]

@@ -1,32 +1,33 @@
 -- The input of a session as the code takes it in: set text up to the line *, then the lines behind it, each in parts of any size, and what the end of a line brings. Nothing is worked or printed here. Definitions only.
-use Rattle.std.specs.Prelude.{Bool, true, false, ◌&&◌, List, ℕ, eqb, leb, set}
-use Rattle.std.proofs.Math.Option.{Option}
+use Rattle.std.specs.Prelude.{Bool, true, false, ◌&&◌, List, ℕ, leb, set}
 use Rattle.text.specs.Byte.{LF}
 use Rattle.values.specs.PutAt.{put_at}
 use Rattle.transcript.specs.declared.set_text.Place.{Place}
 use Rattle.transcript.specs.declared.beat_line.HalfLine.{HalfLine}
 use Rattle.transcript.specs.declared.intake.Intake.{Intake}
-use Rattle.transcript.specs.BeatLine.{Said}
+use Rattle.transcript.specs.declared.intake.Arrival.{Arrival}
+use Rattle.transcript.specs.declared.intake.Arrival.TheVariants.{Nothing, WholeText, LineCame}
+use Rattle.transcript.specs.declared.intake.Arrived.{Arrived}
+use Rattle.transcript.specs.declared.intake.Phase.{Phase}
+use Rattle.transcript.specs.declared.intake.Phase.TheVariants.{Text, Beats, Over}
 use Rattle.transcript.specs.SetText.{kept_size, no_place, star_ends, place_on, place_end, last_size}
 use Rattle.transcript.specs.HalfLine.{last_field, no_half_line, read_on, is_untouched, without_cr, read_said}
 
--- the phases: set text, the lines behind the line *, over
-abbrev pub TEXT : ℕ
-TEXT = 0
-
-abbrev pub BEATS : ℕ
-BEATS = 1
-
-abbrev pub OVER : ℕ
-OVER = 2
-
 -- ---- an intake
+
+-- no more is taken in
+abbrev pub is_over : Intake → Bool
+is_over x = elim x.phase [ Over ↦ true | _ ↦ false ]
+
+-- the lines behind the line * are awaited
+abbrev pub in_beats : Intake → Bool
+in_beats x = elim x.phase [ Beats ↦ true | _ ↦ false ]
 
 -- before the first byte
 abbrev pub no_intake : Intake
-no_intake = record { phase = TEXT; place = no_place; half = no_half_line }
+no_intake = record { phase = Text; place = no_place; half = no_half_line }
 
-abbrev pub with_phase : Intake → ℕ → Intake
+abbrev pub with_phase : Intake → Phase → Intake
 with_phase x p = record { phase = p; place = x.place; half = x.half }
 
 abbrev pub with_place : Intake → Place → Intake
@@ -43,37 +44,33 @@ intake_fits x = leb x.place.size kept_size && (leb x.place.start x.place.size &&
 
 unfoldable pub bytes_taken : Intake → List ℕ → Intake
 bytes_taken x l =
-    elim (eqb x.phase TEXT) [
-      | true ↦ with_place x (place_on x.place l)
-      | false ↦ elim (eqb x.phase BEATS) [ true ↦ with_half_line x (read_on x.half l) | false ↦ x ]
+    elim x.phase [
+      | Text ↦ with_place x (place_on x.place l)
+      | Beats ↦ with_half_line x (read_on x.half l)
+      | Over ↦ x
     ]
 
 -- the kept text t with them
 unfoldable pub bytes_kept : Intake → List ℕ → List ℕ → List ℕ
-bytes_kept x t l = elim (eqb x.phase TEXT) [ true ↦ put_at t x.place.size l | false ↦ t ]
+bytes_kept x t l = elim x.phase [ Text ↦ put_at t x.place.size l | _ ↦ t ]
 
 -- ---- the end of a line, and of the input
 
--- what it brings: nothing; the whole set text, so many bytes of what is kept; a line behind the line *, and what it says if it is well-formed
-pub data Arrival : Type 0 where
-  nothing : Arrival
-  whole_text : ℕ → Arrival
-  line_came : Option Said → Arrival
-
-pub record Arrived : Type 0 where
-  pub intake : Intake
-  pub arrival : Arrival
+-- the size of the set text, where that is whole
+abbrev pub size_in : Arrival → ℕ
+size_in (WholeText n) = n
+size_in _ = 0
 
 abbrev pub nothing_came : Intake → Arrived
-nothing_came x = record { intake = x; arrival = nothing }
+nothing_came x = record { intake = x; arrival = Nothing }
 
 -- n bytes are the set text, and the lines behind the line * follow
 abbrev pub text_whole : Intake → ℕ → Arrived
-text_whole x n = record { intake = with_phase (with_half_line x no_half_line) BEATS; arrival = whole_text n }
+text_whole x n = record { intake = with_phase (with_half_line x no_half_line) Beats; arrival = WholeText n }
 
 -- a line behind the line * that was read
 abbrev pub line_read : Intake → HalfLine → Arrived
-line_read x r = record { intake = with_half_line x no_half_line; arrival = line_came (read_said r) }
+line_read x r = record { intake = with_half_line x no_half_line; arrival = LineCame (read_said r) }
 
 -- the LF of a line of set text: behind the line * the text before it is whole
 unfoldable pub text_line_over : Intake → Arrived
@@ -85,22 +82,20 @@ text_line_kept x t = elim (star_ends x.place.star) [ true ↦ t | false ↦ set 
 -- an LF
 unfoldable pub line_over : Intake → Arrived
 line_over x =
-    elim (eqb x.phase TEXT) [
-      | true ↦ text_line_over x
-      | false ↦ elim (eqb x.phase BEATS) [ true ↦ line_read x (without_cr x.half) | false ↦ nothing_came x ]
+    elim x.phase [
+      | Text ↦ text_line_over x
+      | Beats ↦ line_read x (without_cr x.half)
+      | Over ↦ nothing_came x
     ]
 
 unfoldable pub line_kept : Intake → List ℕ → List ℕ
-line_kept x t = elim (eqb x.phase TEXT) [ true ↦ text_line_kept x t | false ↦ t ]
+line_kept x t = elim x.phase [ Text ↦ text_line_kept x t | _ ↦ t ]
 
 -- the end of input: a last line has no LF
 unfoldable pub input_over : Intake → Arrived
 input_over x =
-    elim (eqb x.phase TEXT) [
-      | true ↦ text_whole x (last_size x.place)
-      | false ↦
-          elim (eqb x.phase BEATS) [
-            | true ↦ elim (is_untouched x.half) [ true ↦ nothing_came x | false ↦ line_read x x.half ]
-            | false ↦ nothing_came x
-          ]
+    elim x.phase [
+      | Text ↦ text_whole x (last_size x.place)
+      | Beats ↦ elim (is_untouched x.half) [ true ↦ nothing_came x | false ↦ line_read x x.half ]
+      | Over ↦ nothing_came x
     ]

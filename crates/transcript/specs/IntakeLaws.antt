@@ -1,18 +1,20 @@
 -- An intake that could have come from a beginning stays such a one, and tells no more text than is kept; what an intake comes to in each phase, and that one which is over takes nothing in. Assumes nothing.
 use Rattle.std.specs.Prelude.{◌≡◌, refl, true, false, ◌&&◌, ◌||◌, List, [], ◌∷◌, ℕ, ◌≤◌, eqb, leb, ltb, set}
 use Rattle.std.proofs.Common.{arith}
-use borrow.Author.Tests.{leb-true, le-leb, ltb-true, eq-eqb, ne_eqb}
+use borrow.Author.Tests.{leb-true, le-leb, ltb-true}
 use Rattle.values.specs.Choice.{either, either-cond, both, and-true}
 use Rattle.values.specs.PutAt.{put_at}
 use Rattle.text.specs.Byte.{LF, CR, SPACE, is_digit}
 use Rattle.transcript.specs.declared.set_text.Place.{Place}
 use Rattle.transcript.specs.declared.beat_line.HalfLine.{HalfLine}
 use Rattle.transcript.specs.declared.intake.Intake.{Intake}
-use Rattle.transcript.specs.SetText.{kept_size, star_ends, place_on, place_end, last_size}
+use Rattle.transcript.specs.declared.intake.Phase.{Phase}
+use Rattle.transcript.specs.declared.intake.Phase.TheVariants.{Text, Beats, Over}
+use Rattle.transcript.specs.SetText.{kept_size, is_alone, star_ends, place_on, place_end, last_size}
 use Rattle.transcript.specs.BeatLine.{is_hex}
-use Rattle.transcript.specs.HalfLine.{last_field, no_half_line, is_reading, eight_digits, with_field, closed, space_after, mode_byte, minus_byte, digit_byte, number_byte, digits_so_far, hex_byte, reading_byte, field_byte, read_byte, read_on, greatest, is_untouched, without_cr}
-use Rattle.transcript.specs.Intake.{TEXT, BEATS, OVER, with_phase, with_place, with_half_line, intake_fits, bytes_taken, bytes_kept, Arrived, nothing_came, text_whole, text_line_over, text_line_kept, line_read, line_over, line_kept, input_over}
-use Rattle.transcript.specs.IntakeAnswers.{size_in}
+use Rattle.transcript.specs.HalfLine.{last_field, is_empty, is_endable, is_past, no_half_line, is_reading, eight_digits, with_field, closed, space_after, mode_byte, minus_byte, digit_byte, number_byte, digits_so_far, hex_byte, reading_byte, field_byte, read_byte, read_on, greatest, is_untouched, without_cr}
+use Rattle.transcript.specs.declared.intake.Arrived.{Arrived}
+use Rattle.transcript.specs.Intake.{size_in, with_phase, with_place, with_half_line, intake_fits, bytes_taken, bytes_kept, nothing_came, text_whole, text_line_over, text_line_kept, line_read, line_over, line_kept, input_over}
 
 -- ---- a line's fields: a space begins the next only below the fifteenth
 
@@ -23,7 +25,7 @@ pub closed-field : (r : HalfLine) → (closed r).field ≡ r.field
 unfolding closed with_field
 closed-field r =
     let P : HalfLine → Type 0 = λ y. y.field ≡ r.field in
-    either P (eqb r.stage 2)
+    either P (is_endable r.stage)
     (λ e. either P (eqb r.field 0) (λ g. refl) λ g.
     either P (leb r.value (greatest r)) (λ h. either P (eqb r.field 1) (λ k. refl) (λ k. either P (is_reading r.field) (λ d. refl) (λ d. refl))) (λ h. refl))
     (λ e. refl)
@@ -31,8 +33,8 @@ closed-field r =
 space-narrow : (r : HalfLine) → Narrow r → Narrow (space_after r)
 unfolding space_after
 space-narrow r n =
-    either Narrow (eqb r.stage 2 && ltb r.field last_field)
-    (λ e. let h = ltb-true r.field last_field (both (eqb r.stage 2) (ltb r.field last_field) e).1 in omega arith)
+    either Narrow (is_endable r.stage && ltb r.field last_field)
+    (λ e. let h = ltb-true r.field last_field (both (is_endable r.stage) (ltb r.field last_field) e).1 in omega arith)
     (λ e. n)
 
 reading-narrow : (r : HalfLine) (b : ℕ) → Narrow r → Narrow (reading_byte r b)
@@ -40,22 +42,22 @@ unfolding reading_byte hex_byte
 reading-narrow r b n =
     either Narrow (is_hex b)
     (λ e. either Narrow (ltb (digits_so_far r) eight_digits) (λ g. n) (λ g. n))
-    (λ e. either Narrow (eqb b 83 && eqb r.stage 0) (λ g. n) (λ g. n))
+    (λ e. either Narrow (eqb b 83 && is_empty r.stage) (λ g. n) (λ g. n))
 
 field-narrow : (r : HalfLine) (b : ℕ) → Narrow r → Narrow (field_byte r b)
 unfolding field_byte mode_byte number_byte minus_byte digit_byte
 field-narrow r b n =
-    either Narrow (eqb r.field 0) (λ e. either Narrow (eqb r.stage 0) (λ g. either Narrow (eqb b 65 || eqb b 77) (λ h. n) (λ h. n)) (λ g. n)) λ e.
+    either Narrow (eqb r.field 0) (λ e. either Narrow (is_empty r.stage) (λ g. either Narrow (eqb b 65 || eqb b 77) (λ h. n) (λ h. n)) (λ g. n)) λ e.
     either Narrow (is_reading r.field) (λ d. reading-narrow r b n) λ d.
     either Narrow (is_digit b) (λ g. n) λ g.
-    either Narrow (eqb b 45) (λ h. either Narrow (eqb r.stage 0 && leb 2 r.field) (λ k. n) (λ k. n)) (λ h. n)
+    either Narrow (eqb b 45) (λ h. either Narrow (is_empty r.stage && leb 2 r.field) (λ k. n) (λ k. n)) (λ h. n)
 
 pub byte-narrow : (r : HalfLine) (b : ℕ) → r.field ≤ last_field → (read_byte r b).field ≤ last_field
 unfolding read_byte
 byte-narrow r b n =
-    either Narrow (leb 3 r.stage) (λ e. n) λ e.
+    either Narrow (is_past r.stage) (λ e. n) λ e.
     either Narrow (eqb b SPACE) (λ g. space-narrow (closed r) (rw closed-field n)) λ g.
-    either Narrow (eqb b CR) (λ h. either Narrow (eqb r.stage 2) (λ k. n) (λ k. n)) (λ h. field-narrow r b n)
+    either Narrow (eqb b CR) (λ h. either Narrow (is_endable r.stage) (λ k. n) (λ k. n)) (λ h. field-narrow r b n)
 
 pub read-narrow : (r : HalfLine) (l : List ℕ) → r.field ≤ last_field → (read_on r l).field ≤ last_field
 unfolding read_on
@@ -88,7 +90,7 @@ unfolding intake_fits
 intake-whole x f = and-true (le-leb _ _ f.size) (and-true (le-leb _ _ f.start) (le-leb _ _ f.field))
 
 -- in any phase
-pub phase-fit : {x : Intake} (p : ℕ) → FitIntake x → FitIntake (with_phase x p)
+pub phase-fit : {x : Intake} (p : Phase) → FitIntake x → FitIntake (with_phase x p)
 phase-fit p f = record { size = f.size; start = f.start; field = f.field }
 
 -- ---- it stays so
@@ -101,17 +103,17 @@ pub bytes_fit : (x : Intake) (l : List ℕ) → FitIntake x → FitIntake (bytes
 unfolding bytes_taken
 bytes_fit x l f =
     let p = place-fit x.place l f.size f.start in
-    either FitIntake (eqb x.phase TEXT)
-    (λ e. record { size = p.0; start = p.1; field = f.field }) λ e.
-    either FitIntake (eqb x.phase BEATS)
-    (λ g. record { size = f.size; start = f.start; field = read-narrow x.half l f.field })
-    (λ g. f)
+    elim x.phase as (λ q. FitIntake (elim q [ Text ↦ with_place x (place_on x.place l) | Beats ↦ with_half_line x (read_on x.half l) | Over ↦ x ])) [
+      | Text ↦ record { size = p.0; start = p.1; field = f.field }
+      | Beats ↦ record { size = f.size; start = f.start; field = read-narrow x.half l f.field }
+      | Over ↦ f
+    ]
 
 abbrev ArrivedFit : Arrived → Type 0
 ArrivedFit a = FitIntake a.intake × (size_in a.arrival ≤ kept_size)
 
 -- no byte of the next line is read
-new_line : {x : Intake} (p : ℕ) → FitIntake x → FitIntake (record { phase = p; place = x.place; half = no_half_line })
+new_line : {x : Intake} (p : Phase) → FitIntake x → FitIntake (record { phase = p; place = x.place; half = no_half_line })
 new_line p f = record { size = f.size; start = f.start; field = omega arith }
 
 text-line-fit : (x : Intake) → FitIntake x → ArrivedFit (text_line_over x)
@@ -119,94 +121,79 @@ unfolding text_line_over place_end
 text-line-fit x f =
     let s = f.start in
     let n = f.size in
-    either ArrivedFit (star_ends x.place.star) (λ e. (new_line BEATS f, omega arith))
+    either ArrivedFit (star_ends x.place.star) (λ e. (new_line Beats f, omega arith))
     (λ e. (record { size = omega arith; start = omega arith; field = f.field }, omega arith))
 
 -- nor is the text that is told longer than what is kept
 pub line-fit : (x : Intake) → FitIntake x → FitIntake (line_over x).intake × (size_in (line_over x).arrival ≤ kept_size)
 unfolding line_over
 line-fit x f =
-    either ArrivedFit (eqb x.phase TEXT) (λ e. text-line-fit x f) λ e.
-    either ArrivedFit (eqb x.phase BEATS) (λ g. (new_line x.phase f, omega arith)) (λ g. (f, omega arith))
+    elim x.phase as (λ q. ArrivedFit (elim q [ Text ↦ text_line_over x | Beats ↦ line_read x (without_cr x.half) | Over ↦ nothing_came x ])) [
+      | Text ↦ text-line-fit x f
+      | Beats ↦ (new_line x.phase f, omega arith)
+      | Over ↦ (f, omega arith)
+    ]
 
 last_within : (x : Intake) → FitIntake x → last_size x.place ≤ kept_size
 last_within x f =
     let s = f.start in
     let n = f.size in
-    either-cond (λ (y : ℕ). y ≤ kept_size) (eqb x.place.star 1) x.place.start x.place.size (omega arith) n
+    either-cond (λ (y : ℕ). y ≤ kept_size) (is_alone x.place.star) x.place.start x.place.size (omega arith) n
 
 pub input_fit : (x : Intake) → FitIntake x → FitIntake (input_over x).intake × (size_in (input_over x).arrival ≤ kept_size)
 unfolding input_over
 input_fit x f =
-    either ArrivedFit (eqb x.phase TEXT) (λ e. (new_line BEATS f, last_within x f)) λ e.
-    either ArrivedFit (eqb x.phase BEATS) (λ g. either ArrivedFit (is_untouched x.half) (λ u. (f, omega arith)) (λ u. (new_line x.phase f, omega arith)))
-    (λ g. (f, omega arith))
+    let untouched : Arrived = elim (is_untouched x.half) [ true ↦ nothing_came x | false ↦ line_read x x.half ] in
+    elim x.phase as (λ q. ArrivedFit (elim q [ Text ↦ text_whole x (last_size x.place) | Beats ↦ untouched | Over ↦ nothing_came x ])) [
+      | Text ↦ (new_line Beats f, last_within x f)
+      | Beats ↦ either ArrivedFit (is_untouched x.half) (λ u. (f, omega arith)) (λ u. (new_line x.phase f, omega arith))
+      | Over ↦ (f, omega arith)
+    ]
 
 -- ---- by the phase
 
 module _ (x : Intake) where
-  module _ (h : x.phase ≡ TEXT) where
+  module _ (h : x.phase ≡ Text) where
     pub text-bytes : (l : List ℕ) → bytes_taken x l ≡ with_place x (place_on x.place l)
     unfolding bytes_taken
-    text-bytes l = simp (bytes_taken, eq-eqb _ _ h)
+    text-bytes l = simp (bytes_taken, h)
 
     pub text-bytes-kept : (t l : List ℕ) → bytes_kept x t l ≡ put_at t x.place.size l
     unfolding bytes_kept
-    text-bytes-kept t l = simp (bytes_kept, eq-eqb _ _ h)
+    text-bytes-kept t l = simp (bytes_kept, h)
 
     pub text-line : line_over x ≡ text_line_over x
     unfolding line_over
-    text-line = simp (line_over, eq-eqb _ _ h)
+    text-line = simp (line_over, h)
 
     pub text-line-kept : (t : List ℕ) → line_kept x t ≡ text_line_kept x t
     unfolding line_kept
-    text-line-kept t = simp (line_kept, eq-eqb _ _ h)
+    text-line-kept t = simp (line_kept, h)
 
     pub text-input : input_over x ≡ text_whole x (last_size x.place)
     unfolding input_over
-    text-input = simp (input_over, eq-eqb _ _ h)
+    text-input = simp (input_over, h)
 
-  module _ (h : x.phase ≡ BEATS) where
-    no_text : eqb x.phase TEXT ≡ false
-    no_text = ne_eqb x.phase TEXT (λ g. omega arith)
-
+  module _ (h : x.phase ≡ Beats) where
     pub beats-bytes : (l : List ℕ) → bytes_taken x l ≡ with_half_line x (read_on x.half l)
     unfolding bytes_taken
-    beats-bytes l = simp (bytes_taken, no_text, eq-eqb _ _ h)
+    beats-bytes l = simp (bytes_taken, h)
+
+    pub beats-bytes-kept : (t l : List ℕ) → bytes_kept x t l ≡ t
+    unfolding bytes_kept
+    beats-bytes-kept t l = simp (bytes_kept, h)
 
     pub beats-line : line_over x ≡ line_read x (without_cr x.half)
     unfolding line_over
-    beats-line = simp (line_over, no_text, eq-eqb _ _ h)
+    beats-line = simp (line_over, h)
 
     pub beats-new : is_untouched x.half ≡ true → input_over x ≡ nothing_came x
     unfolding input_over
-    beats-new u = simp (input_over, no_text, eq-eqb _ _ h) (simp u)
+    beats-new u = simp (input_over, h) (simp u)
 
     pub beats-input : is_untouched x.half ≡ false → input_over x ≡ line_read x x.half
     unfolding input_over
-    beats-input u = simp (input_over, no_text, eq-eqb _ _ h) (simp u)
-
-  module _ (h : x.phase ≡ TEXT → ⊥) where
-    pub else-bytes-kept : (t l : List ℕ) → bytes_kept x t l ≡ t
-    unfolding bytes_kept
-    else-bytes-kept t l = simp (bytes_kept, ne_eqb _ _ h)
-
-    pub else-line-kept : (t : List ℕ) → line_kept x t ≡ t
-    unfolding line_kept
-    else-line-kept t = simp (line_kept, ne_eqb _ _ h)
-
-    module _ (g : x.phase ≡ BEATS → ⊥) where
-      pub else-bytes : (l : List ℕ) → bytes_taken x l ≡ x
-      unfolding bytes_taken
-      else-bytes l = simp (bytes_taken, ne_eqb _ _ h, ne_eqb _ _ g)
-
-      pub else-line : line_over x ≡ nothing_came x
-      unfolding line_over
-      else-line = simp (line_over, ne_eqb _ _ h, ne_eqb _ _ g)
-
-      pub else-input : input_over x ≡ nothing_came x
-      unfolding input_over
-      else-input = simp (input_over, ne_eqb _ _ h, ne_eqb _ _ g)
+    beats-input u = simp (input_over, h) (simp (u, h))
 
   -- a line of set text, by whether it is *
   module _ (h : star_ends x.place.star ≡ true) where
@@ -229,24 +216,23 @@ module _ (x : Intake) where
 
 -- ---- over
 
-module _ (x : Intake) (o : x.phase ≡ OVER) where
-  not-text : x.phase ≡ TEXT → ⊥
-  not-text e = omega arith
-
-  not-beats : x.phase ≡ BEATS → ⊥
-  not-beats e = omega arith
-
+module _ (x : Intake) (o : x.phase ≡ Over) where
   pub over-bytes : (l : List ℕ) → bytes_taken x l ≡ x
-  over-bytes l = else-bytes x not-text not-beats l
+  unfolding bytes_taken
+  over-bytes l = simp (bytes_taken, o)
 
   pub over-bytes-kept : (t l : List ℕ) → bytes_kept x t l ≡ t
-  over-bytes-kept t l = else-bytes-kept x not-text t l
+  unfolding bytes_kept
+  over-bytes-kept t l = simp (bytes_kept, o)
 
   pub over-line : line_over x ≡ nothing_came x
-  over-line = else-line x not-text not-beats
+  unfolding line_over
+  over-line = simp (line_over, o)
 
   pub over-line-kept : (t : List ℕ) → line_kept x t ≡ t
-  over-line-kept t = else-line-kept x not-text t
+  unfolding line_kept
+  over-line-kept t = simp (line_kept, o)
 
   pub over-input : input_over x ≡ nothing_came x
-  over-input = else-input x not-text not-beats
+  unfolding input_over
+  over-input = simp (input_over, o)

@@ -1,17 +1,19 @@
 -- A session as the code works it: line by line, whatever the pieces of its input. That this comes to what Synrun says is shown in the crate `sessions`. Definitions only.
-use Rattle.std.specs.Prelude.{Bool, true, false, ◌&&◌, List, [], ◌∷◌, ◌++◌, ℕ, zero, suc, ◌+◌, eqb, leb, ltb, length, take, drop}
-use Rattle.std.proofs.Math.Option.{Option, none, some}
+use Rattle.std.specs.Prelude.{Bool, true, false, ◌&&◌, List, [], ◌∷◌, ◌++◌, ℕ, zero, suc, ◌+◌, eqb, leb, ltb, length, take, drop, Option, None, Some}
 use Rattle.text.specs.Byte.{in_line, run}
 use Rattle.reader.specs.Load.{load_answer, load_set}
 use Rattle.transcript.specs.declared.intake.Intake.{Intake}
+use Rattle.transcript.specs.declared.intake.Phase.TheVariants.{Over}
 use Rattle.transcript.specs.declared.session.Session.{Session}
 use Rattle.transcript.specs.declared.totals.Totals.{Totals}
-use Rattle.transcript.specs.BeatLine.{Said}
+use Rattle.transcript.specs.declared.beat_line.Said.{Said}
 use Rattle.transcript.specs.Output.{load_line, error_line, out_size, line_room}
 use Rattle.transcript.specs.Totals.{last_line, no_totals, ended, are_fit}
 use Rattle.transcript.specs.declared.view.View.{View}
 use Rattle.transcript.specs.Tally.{said_counted, said_printed}
-use Rattle.transcript.specs.Intake.{BEATS, OVER, no_intake, with_phase, intake_fits, bytes_taken, bytes_kept, Arrival, nothing, whole_text, line_came, line_over, line_kept, input_over}
+use Rattle.transcript.specs.declared.intake.Arrival.{Arrival}
+use Rattle.transcript.specs.declared.intake.Arrival.TheVariants.{Nothing, WholeText, LineCame}
+use Rattle.transcript.specs.Intake.{in_beats, no_intake, with_phase, intake_fits, bytes_taken, bytes_kept, line_over, line_kept, input_over}
 
 -- the kept text, the set, and what is kept beside them
 pub record Machine : Type 0 where
@@ -37,11 +39,11 @@ with_totals x n = record { intake = x.intake; totals = n }
 
 -- no more is taken in, and nothing more printed
 abbrev pub stopped : Session → Session
-stopped x = with_intake x (with_phase x.intake OVER)
+stopped x = with_intake x (with_phase x.intake Over)
 
 -- one that could have come from a beginning; any other is treated as over
 unfoldable pub is_fit : Session → Bool
-is_fit x = intake_fits x.intake && are_fit x.totals
+is_fit x = intake_fits x.intake && are_fit x.totals.counts
 
 -- ---- what came in is worked
 
@@ -62,7 +64,7 @@ unfoldable pub said_of : Machine → Said → Fed
 said_of m x =
     let n = said_counted m.set m.session.totals x in
     let text = said_printed m.set m.session.totals x in
-    elim (eqb n.lines last_line) [
+    elim (eqb n.counts.lines last_line) [
       | true ↦ record { machine = record { text = m.text; set = m.set; session = stopped (with_totals m.session n) }; output = text ++ ended m.set n }
       | false ↦ record { machine = record { text = m.text; set = m.set; session = with_totals m.session n }; output = text }
     ]
@@ -71,17 +73,17 @@ said_of m x =
 unfoldable pub said_end : Machine → Option Said → Fed
 said_end m o =
     elim o [
-      | none ↦ record { machine = record { text = m.text; set = m.set; session = stopped m.session }; output = error_line (m.session.totals.lines + 1) }
-      | some x ↦ said_of m x
+      | None ↦ record { machine = record { text = m.text; set = m.set; session = stopped m.session }; output = error_line (m.session.totals.counts.lines + 1) }
+      | Some x ↦ said_of m x
     ]
 
 -- what the end of a line, or of the input, brought
 unfoldable pub arrival_worked : Machine → Arrival → Fed
 arrival_worked m a =
     elim a [
-      | nothing ↦ standing m
-      | whole_text n ↦ opened m (take n m.text)
-      | line_came o ↦ said_end m o
+      | Nothing ↦ standing m
+      | WholeText n ↦ opened m (take n m.text)
+      | LineCame o ↦ said_end m o
     ]
 
 -- ---- input
@@ -111,7 +113,7 @@ fed_lines m (l ∷ k ∷ ls) = let f = line_end (chunk m l) in behind f.output (
 
 -- the end, where lines are still awaited
 unfoldable pub end_after : List ℕ → Session → List ℕ
-end_after s x = elim (eqb x.intake.phase BEATS) [ true ↦ ended s x.totals | false ↦ [] ]
+end_after s x = elim (in_beats x.intake) [ true ↦ ended s x.totals | false ↦ [] ]
 
 abbrev pub last_output : Fed → List ℕ
 last_output f = f.output ++ end_after f.machine.set f.machine.session

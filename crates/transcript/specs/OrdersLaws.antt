@@ -1,5 +1,5 @@
 -- A beat has no more orders than its lines may have actions: each action gives at most one. Assumes nothing.
-use Rattle.std.specs.Prelude.{Bool, eqb, ltb, length}
+use Rattle.std.specs.Prelude.{Bool, eqb, ltb, length, is_some}
 use Rattle.std.proofs.Math.Bool.{true, false}
 use mathlib.Core.List.{List, [], ◌∷◌}
 use Prim.Native.Nat.{ℕ, zero, suc, ◌+◌, ◌*◌, ◌≤◌}
@@ -17,17 +17,17 @@ use Rattle.working.specs.Operators.{from_worked, is_yes}
 use Rattle.working.specs.Working.{right_value, condition_value, variable_at}
 use Rattle.checking.specs.declared.line.Line.{Line}
 use Rattle.engine.specs.declared.state.State.{State}
-use Rattle.engine.specs.Set.{curve_line, rank_in, no_line, sound_lines}
+use Rattle.engine.specs.Set.{defined_curve, rank_in, no_line, lines_of}
 use Rattle.tokens.specs.AnswerLaws.{Ok, bind_ok, ok-then}
 use Rattle.engine.specs.SetLinesLaws.{lines-lined}
 use Rattle.engine.specs.Sound.{is_sound}
-use Rattle.engine.specs.Action.{World, Did, ordered, from_value_or_alarm, lock_of, taken_at, assignment_of, curve_assigned, synfct_of, drive_of, command_of, action_of}
+use Rattle.engine.specs.Action.{World, Did, ordered, from_reached, lock_of, taken_at, assignment_of, curve_assigned, synfct_of, drive_of, command_of, action_of}
 use Rattle.engine.specs.Actions.{actions_of}
 use Rattle.engine.specs.Drive.{drive_order}
 use Rattle.engine.specs.Write.{write_to}
 use Rattle.engine.specs.Turn.{Entry, Turned, worked, remembered, counted, takes_turn, do_turn, try_turn, turn_of, turns_from}
 use Rattle.engine.specs.Keyword.{tries, acts, remembers}
-use Rattle.engine.specs.Beat.{samples_in, buffer_size, are_inputs, Given, beat_begun, all_turns, whole_beat, turned_answer, beat_answer}
+use Rattle.engine.specs.Beat.{samples_in, buffer_size, are_inputs, Given, beat_begun, all_turns, whole_beat, turned_answer, beat_answer, kept_in}
 
 -- ---- the bytes of orders that are added
 
@@ -63,14 +63,14 @@ synfct-adds : (s : List ℕ) (x : World) (p : ℕ) → DidAdd x order_size (synf
 unfolding synfct_of
 synfct-adds s x p =
     bind_ok (λ (d : Did). Adds x order_size d.world) (from_worked (variable_at s x.vars.r x.vars.cells (p + 9))) _ λ a _.
-    bind_ok (λ (d : Did). Adds x order_size d.world) (curve_assigned x.vars (curve_line s (whole (token s (p + 2)))).curve a (token s (p + 4)) (index_at s (token s (p + 4)) (p + 4))) _ λ v _.
+    bind_ok (λ (d : Did). Adds x order_size d.world) (curve_assigned x.vars (defined_curve s (whole (token s (p + 2)))) a (token s (p + 4)) (index_at s (token s (p + 4)) (p + 4))) _ λ v _.
     omega arith
 
 drive-adds : (s : List ℕ) (number : ℕ) (x : World) (w p : ℕ) → DidAdd x order_size (drive_of s number x w p)
 unfolding drive_of
 drive-adds s number x w p =
     if_not (DidAdd x order_size) (is_axis (get_or s (p + 2) 0)) (λ e. tt) λ e.
-    bind_ok (λ (d : Did). Adds x order_size d.world) (from_value_or_alarm (right_value s x.vars.r x.vars.cells (p + 5))) _ λ a _.
+    bind_ok (λ (d : Did). Adds x order_size d.world) (from_reached (right_value s x.vars.r x.vars.cells (p + 5))) _ λ a _.
     bind_ok (λ (d : Did). Adds x order_size d.world) (drive_order number w (index_at s w p) a.0) _ λ o _.
     order-adds x o
 
@@ -119,7 +119,7 @@ module _ (s numbers : List ℕ) (cancelled : List Bool) (automatic : Bool) where
   try-adds l k x =
       let m = get_or x.memory k false in
       either (TurnAdds x turn_bytes) (tries l.keyword m)
-      (λ e. bind_ok (λ (t : Turned). Adds x turn_bytes t.world) (from_value_or_alarm (condition_value s x.vars.r x.vars.cells l.condition)) _ λ a _.
+      (λ e. bind_ok (λ (t : Turned). Adds x turn_bytes t.world) (from_reached (condition_value s x.vars.r x.vars.cells l.condition)) _ λ a _.
       do-adds l k (remembered x k (remembers l.keyword m (is_yes a.0))) (worked k (is_yes a.0) ∷ []) (acts l.keyword m (is_yes a.0)))
       (λ e. do-adds l k x [] (acts l.keyword m false))
 
@@ -147,10 +147,10 @@ bytes-within s st g =
     either P (is_sound s st)
     (λ e. either P (ltb (length g.buffer) buffer_size) (λ b. tt) λ b.
     either P (are_inputs g.lent)
-    (λ h. either P (samples_in st g).good
-    (λ v. ok-then (λ (t : Turned). Adds (beat_begun st g) (turn_bytes * (sound_lines s).count) t.world) (λ (t : Turned). length t.world.orders ≤ buffer_size)
-    (all_turns s (sound_lines s) st g) _
-    (turns-add s (sound_lines s).numbers st.cancelled g.automatic (sound_lines s).items (sound_lines s).count 0 (beat_begun st g))
+    (λ h. either P (is_some (samples_in st g))
+    (λ v. ok-then (λ (t : Turned). Adds (beat_begun st g) (turn_bytes * (lines_of s).count) t.world) (λ (t : Turned). length t.world.orders ≤ buffer_size)
+    (all_turns s (lines_of s) st g) _
+    (turns-add s (lines_of s).numbers st.cancelled g.automatic (lines_of s).items (lines_of s).count 0 (beat_begun st g))
     (λ t a. let f = (lines-lined s).few in omega arith))
     (λ v. tt))
     (λ h. tt))
@@ -162,4 +162,4 @@ answered-within st kept (stop k) h = omega arith
 
 pub orders-within : (s : List ℕ) (st : State) (g : Given) → (beat_answer s st g).orders ≤ max_orders
 unfolding beat_answer
-orders-within s st g = answered-within st (samples_in st g).channels (whole_beat s st g) (bytes-within s st g)
+orders-within s st g = answered-within st (kept_in st g) (whole_beat s st g) (bytes-within s st g)

@@ -1,7 +1,6 @@
 -- How much a line of input may print, and that a session lives on while its input goes on. Assumes nothing.
-use Rattle.std.specs.Prelude.{◌≡◌, refl, true, List, ◌⊎◌, ℕ, zero, suc, ◌+◌, ◌≤◌, eqb, length, take}
+use Rattle.std.specs.Prelude.{◌≡◌, refl, true, List, ◌⊎◌, ℕ, zero, suc, ◌+◌, ◌≤◌, eqb, length, take, Option, None, Some, Result, Ok, Err, IfOk}
 use Rattle.std.proofs.Common.{inl, inr, arith, length-append, eqb-true}
-use Rattle.std.proofs.Math.Option.{Option, none, some}
 use Rattle.std.proofs.lemmas.Bool.{eqb-false}
 use Rattle.values.specs.Choice.{either, both, and-true}
 use Rattle.tokens.specs.Token.{max_lines}
@@ -12,18 +11,23 @@ use Rattle.engine.specs.declared.status.Status.{Status as LineStates}
 use Rattle.engine.specs.Sound.{is_sound}
 use Rattle.engine.specs.Status.{status_of}
 use Rattle.reader.specs.Load.{load_answer}
+use Rattle.transcript.specs.declared.intake.Phase.TheVariants.{Over}
 use Rattle.transcript.specs.declared.session.Session.{Session}
-use Rattle.transcript.specs.BeatLine.{Lent, Said, beat, program_end, control_reset}
+use Rattle.transcript.specs.declared.beat_line.Lent.{Lent}
+use Rattle.transcript.specs.declared.beat_line.Said.{Said}
+use Rattle.transcript.specs.declared.beat_line.Said.TheVariants.{Beat, ProgramEnd, ControlReset}
 use Rattle.transcript.specs.Output.{beat_room, end_room, line_room, out_size}
 use Rattle.transcript.specs.OutputLaws.{load-room, error-room, code-room, orders-room, end-room, rows-room}
 use Rattle.transcript.specs.declared.totals.Totals.{Totals}
 use Rattle.transcript.specs.declared.view.View.{View}
 use Rattle.transcript.specs.declared.view.View.TheVariants.{Run, Status}
-use Rattle.transcript.specs.Totals.{last_line, picture, end_by, ended, are_fit}
-use Rattle.transcript.specs.TotalsLaws.{FitTotals, fit-totals, totals-fit, counting-fit, calling-fit}
+use Rattle.transcript.specs.Totals.{rows_in, last_line, picture, end_by, ended, are_fit}
+use Rattle.transcript.specs.TotalsLaws.{counting-fit, calling-fit, FitCounts, fit-counts, counts-fit}
 use Rattle.transcript.specs.Tally.{given_by, answer_of, buffer_of, beat_text, printed_by, beat_printed, said_counted, said_printed}
 use Rattle.transcript.specs.Machine.{Machine, Fed, is_fit, opened, said_of, said_end, chunk, line_end, finished, finished_text, stopped, standing, arrival_worked, keeping, end_after, last_output}
-use Rattle.transcript.specs.Intake.{BEATS, OVER, intake_fits, bytes_taken, Arrival, nothing, whole_text, line_came, line_over, line_kept, input_over}
+use Rattle.transcript.specs.declared.intake.Arrival.{Arrival}
+use Rattle.transcript.specs.declared.intake.Arrival.TheVariants.{Nothing, WholeText, LineCame}
+use Rattle.transcript.specs.Intake.{in_beats, intake_fits, bytes_taken, line_over, line_kept, input_over}
 use Rattle.transcript.specs.IntakeLaws.{FitIntake, intake-parts, intake-whole, phase-fit, bytes_fit, line-fit, over-bytes, over-bytes-kept, over-line as intake-line, over-line-kept}
 use Rattle.transcript.specs.Machine.{with_intake}
 use Rattle.transcript.specs.OrdersLaws.{orders-within}
@@ -36,9 +40,9 @@ by_code P zero f g = f refl
 by_code P (suc c) f g = g c refl
 
 -- the same of what may be lent
-pub by_lent : {A X : Type 0} (P : X → Type 0) (o : Option A) {x : X} {y : A → X} → (o ≡ none → P x) → ((a : A) → o ≡ some a → P (y a)) → P (elim o [ none ↦ x | some a ↦ y a ])
-by_lent P none f g = f refl
-by_lent P (some a) f g = g a refl
+pub by_lent : {A X : Type 0} (P : X → Type 0) (o : Option A) {x : X} {y : A → X} → (o ≡ None → P x) → ((a : A) → o ≡ Some a → P (y a)) → P (elim o [ None ↦ x | Some a ↦ y a ])
+by_lent P None f g = f refl
+by_lent P (Some a) f g = g a refl
 
 -- ---- room
 
@@ -54,7 +58,7 @@ beat-orders s n l = orders-within s n.state (given_by l)
 pub beat-room : (s : List ℕ) (n : Totals) (l : Lent) → length (beat_text s n l) ≤ beat_room
 unfolding beat_text
 beat-room s n l =
-    let a = code-room (n.beats.0 + 1) (answer_of s n l).code (answer_of s n l).orders in
+    let a = code-room (n.counts.beats.0 + 1) (answer_of s n l).code (answer_of s n l).orders in
     let b = orders-room (answer_of s n l).orders (buffer_of s n l) in
     let c = beat-orders s n l in
     simp length-append (omega arith)
@@ -66,33 +70,33 @@ printed-room Status text h = omega arith
 
 pub beat-printed-room : (s : List ℕ) (n : Totals) (l : Lent) → length (beat_printed s n l) ≤ beat_room
 unfolding beat_printed
-beat-printed-room s n l = printed-room n.view (beat_text s n l) (beat-room s n l)
+beat-printed-room s n l = printed-room n.counts.view (beat_text s n l) (beat-room s n l)
 
 -- nor of any line
-said-room : (s : List ℕ) (n : Totals) (x : Said) → Short beat_room (said_printed s n x)
-said-room s n (beat l) = beat-printed-room s n l
-said-room s n program_end = omega arith
-said-room s n control_reset = omega arith
+pub said-room : (s : List ℕ) (n : Totals) (x : Said) → Short beat_room (said_printed s n x)
+said-room s n (Beat l) = beat-printed-room s n l
+said-room s n ProgramEnd = omega arith
+said-room s n ControlReset = omega arith
 
 -- a picture has at most 32 lines
-pub status-count : (s : List ℕ) (st : State) → (status_of s st).count ≤ max_lines
+pub status-count : (s : List ℕ) (st : State) → IfOk (status_of s st) (λ x. x.count ≤ max_lines)
 unfolding status_of
-status-count s st = either (λ (x : LineStates). x.count ≤ max_lines) (is_sound s st) (λ e. sound-count s) (λ e. omega arith)
+status-count s st = either (λ (x : Result LineStates ℕ). IfOk x (λ y. y.count ≤ max_lines)) (is_sound s st) (λ e. sound-count s) (λ e. tt)
+
+shown-room : (x : Result LineStates ℕ) → IfOk x (λ y. y.count ≤ max_lines) → Short end_room (rows_in x)
+shown-room (Ok x) h = let a = rows-room x.count 0 x.lines in omega arith
+shown-room (Err k) h = omega arith
 
 picture-room : (s : List ℕ) (st : State) → Short end_room (picture s st)
-picture-room s st =
-    let x = status_of s st in
-    let a = rows-room x.count 0 x.lines in
-    let b = status-count s st in
-    omega arith
+picture-room s st = shown-room (status_of s st) (status-count s st)
 
 end-by-room : (v : View) (s : List ℕ) (n : Totals) → Short end_room (end_by v s n)
-end-by-room Run s n = end-room n.beats.0 n.coded n.orders
+end-by-room Run s n = end-room n.counts.beats.0 n.counts.coded n.counts.orders
 end-by-room Status s n = picture-room s n.state
 
 -- what is printed at the end
 pub ended-room : (s : List ℕ) (n : Totals) → length (ended s n) ≤ end_room
-ended-room s n = end-by-room n.view s n
+ended-room s n = end-by-room n.counts.view s n
 
 -- what is printed with it
 abbrev Prints : ℕ → Fed → Type 0
@@ -104,12 +108,12 @@ said_of-room m x =
     let n = said_counted m.set m.session.totals x in
     let a = said-room m.set m.session.totals x in
     let b = ended-room m.set n in
-    either (Prints line_room) (eqb n.lines last_line) (λ e. simp length-append (omega arith)) (λ e. omega arith)
+    either (Prints line_room) (eqb n.counts.lines last_line) (λ e. simp length-append (omega arith)) (λ e. omega arith)
 
 said-end-room : (m : Machine) (o : Option Said) → length (said_end m o).output ≤ line_room
 unfolding said_end
-said-end-room m none = let a = error-room (m.session.totals.lines + 1) in omega arith
-said-end-room m (some x) = said_of-room m x
+said-end-room m None = let a = error-room (m.session.totals.counts.lines + 1) in omega arith
+said-end-room m (Some x) = said_of-room m x
 
 opened-room : (m : Machine) (t : List ℕ) → length (opened m t).output ≤ line_room
 unfolding opened
@@ -117,9 +121,9 @@ opened-room m t = by_code (Prints line_room) (load_answer t).code (λ e. omega a
 
 pub arrival-room : (m : Machine) (a : Arrival) → Prints line_room (arrival_worked m a)
 unfolding arrival_worked
-arrival-room m nothing = omega arith
-arrival-room m (whole_text n) = opened-room m (take n m.text)
-arrival-room m (line_came o) = said-end-room m o
+arrival-room m Nothing = omega arith
+arrival-room m (WholeText n) = opened-room m (take n m.text)
+arrival-room m (LineCame o) = said-end-room m o
 
 -- a line of input prints at most this much
 pub line-room : (m : Machine) → length (line_end m).output ≤ line_room
@@ -132,7 +136,7 @@ line-room m =
 -- and so does the end of input
 end-after-room : (s : List ℕ) (x : Session) → Short end_room (end_after s x)
 unfolding end_after
-end-after-room s x = either (Short end_room) (eqb x.intake.phase BEATS) (λ e. ended-room s x.totals) (λ e. omega arith)
+end-after-room s x = either (Short end_room) (in_beats x.intake) (λ e. ended-room s x.totals) (λ e. omega arith)
 
 last-room : (f : Fed) → Prints line_room f → Short out_size (last_output f)
 last-room f h = let a = end-after-room f.machine.set f.machine.session in simp length-append (omega arith)
@@ -153,23 +157,23 @@ finished-text-room m = either (Short out_size) (is_fit m.session) (λ e. finishe
 
 pub record Fit (x : Session) : Type 0 where
   pub intake : FitIntake x.intake
-  pub totals : FitTotals x.totals
+  pub totals : FitCounts x.totals.counts
 
 -- each of the tests
 pub fit_parts : (x : Session) → is_fit x ≡ true → Fit x
 unfolding is_fit
 fit_parts x h =
     let i = intake_fits x.intake in
-    let n = are_fit x.totals in
-    record { intake = intake-parts x.intake (both i n h).0; totals = fit-totals x.totals (both i n h).1 }
+    let n = are_fit x.totals.counts in
+    record { intake = intake-parts x.intake (both i n h).0; totals = fit-counts x.totals.counts (both i n h).1 }
 
 pub fit-whole : (x : Session) → Fit x → is_fit x ≡ true
 unfolding is_fit
-fit-whole x f = and-true (intake-whole x.intake f.intake) (totals-fit x.totals f.totals)
+fit-whole x f = and-true (intake-whole x.intake f.intake) (counts-fit x.totals.counts f.totals)
 
 -- totals that are fit, or those after the last line, of a session that is over
 abbrev pub LiveTotals : Session → Type 0
-LiveTotals x = FitTotals x.totals ⊎ ((x.intake.phase ≡ OVER) × (x.totals.lines ≡ last_line))
+LiveTotals x = FitCounts x.totals.counts ⊎ ((x.intake.phase ≡ Over) × (x.totals.counts.lines ≡ last_line))
 
 -- fit, or over after the last line
 pub record Lives (x : Session) : Type 0 where
@@ -185,25 +189,25 @@ abbrev FedLives : Fed → Type 0
 FedLives f = Lives f.machine.session
 
 -- before the last line the totals stay fit
-said-fit : (s : List ℕ) (n : Totals) (x : Said) → FitTotals n → ((said_counted s n x).lines ≡ last_line → ⊥) → FitTotals (said_counted s n x)
-said-fit s n (beat l) f h = let a = answer_of s n l in counting-fit n a.code a.orders a.state f (beat-orders s n l) h
-said-fit s n program_end f h = calling-fit n _ f h
-said-fit s n control_reset f h = calling-fit n _ f h
+said-fit : (s : List ℕ) (n : Totals) (x : Said) → FitCounts n.counts → ((said_counted s n x).counts.lines ≡ last_line → ⊥) → FitCounts (said_counted s n x).counts
+said-fit s n (Beat l) f h = let a = answer_of s n l in counting-fit n.counts a.code a.orders f (beat-orders s n l) h
+said-fit s n ProgramEnd f h = calling-fit n.counts f h
+said-fit s n ControlReset f h = calling-fit n.counts f h
 
 said_of-lives : (m : Machine) (x : Said) → Fit m.session → FedLives (said_of m x)
 unfolding said_of
 said_of-lives m x f =
     let n = said_counted m.set m.session.totals x in
-    either FedLives (eqb n.lines last_line) (λ e. record { intake = phase-fit OVER f.intake; totals = inr (refl, eqb-true n.lines last_line e) })
-    (λ e. record { intake = f.intake; totals = inl (said-fit m.set m.session.totals x f.totals (eqb-false n.lines last_line e)) })
+    either FedLives (eqb n.counts.lines last_line) (λ e. record { intake = phase-fit Over f.intake; totals = inr (refl, eqb-true n.counts.lines last_line e) })
+    (λ e. record { intake = f.intake; totals = inl (said-fit m.set m.session.totals x f.totals (eqb-false n.counts.lines last_line e)) })
 
 stopped-lives : (x : Session) → Fit x → Lives (stopped x)
-stopped-lives x f = record { intake = phase-fit OVER f.intake; totals = inl f.totals }
+stopped-lives x f = record { intake = phase-fit Over f.intake; totals = inl f.totals }
 
 said_end-lives : (m : Machine) (o : Option Said) → Fit m.session → FedLives (said_end m o)
 unfolding said_end
-said_end-lives m none f = stopped-lives m.session f
-said_end-lives m (some x) f = said_of-lives m x f
+said_end-lives m None f = stopped-lives m.session f
+said_end-lives m (Some x) f = said_of-lives m x f
 
 opened-lives : (m : Machine) (t : List ℕ) → Fit m.session → FedLives (opened m t)
 unfolding opened
@@ -211,18 +215,18 @@ opened-lives m t f = by_code FedLives (load_answer t).code (λ e. fit-lives f) (
 
 arrival-lives : (m : Machine) (a : Arrival) → Fit m.session → FedLives (arrival_worked m a)
 unfolding arrival_worked
-arrival-lives m nothing f = fit-lives f
-arrival-lives m (whole_text n) f = opened-lives m (take n m.text) f
-arrival-lives m (line_came o) f = said_end-lives m o f
+arrival-lives m Nothing f = fit-lives f
+arrival-lives m (WholeText n) f = opened-lives m (take n m.text) f
+arrival-lives m (LineCame o) f = said_end-lives m o f
 
 -- ---- over
 
 -- a session that is over takes nothing in and prints nothing
-pub over-chunk : (m : Machine) (l : List ℕ) → m.session.intake.phase ≡ OVER → chunk m l ≡ m
+pub over-chunk : (m : Machine) (l : List ℕ) → m.session.intake.phase ≡ Over → chunk m l ≡ m
 unfolding chunk
 over-chunk m l o = let x = m.session.intake in rw (over-bytes x o l, over-bytes-kept x o m.text l)
 
-pub over-line : (m : Machine) → m.session.intake.phase ≡ OVER → line_end m ≡ standing m
+pub over-line : (m : Machine) → m.session.intake.phase ≡ Over → line_end m ≡ standing m
 unfolding line_end arrival_worked
 over-line m o = let x = m.session.intake in rw (intake-line x o, over-line-kept x o m.text)
 

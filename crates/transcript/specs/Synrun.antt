@@ -1,6 +1,5 @@
 -- All that synrun prints, and synstat, from all that it reads (document 01, "On both sides of each edge"; document 02, Req 06 and 07). Definitions only.
-use Rattle.std.specs.Prelude.{true, false, List, [], ◌∷◌, ◌++◌, ℕ, zero, suc, ◌+◌, eqb}
-use Rattle.std.proofs.Math.Option.{none, some}
+use Rattle.std.specs.Prelude.{true, false, List, [], ◌∷◌, ◌++◌, ℕ, zero, suc, ◌+◌, eqb, None, Some}
 use Rattle.reader.specs.Load.{load_answer, load_set}
 use Rattle.transcript.specs.BeatLine.{line_said}
 use Rattle.transcript.specs.Output.{load_line, error_line}
@@ -15,12 +14,12 @@ use Rattle.transcript.specs.Input.{Input, input_of}
 unfoldable pub beats_text : List ℕ → Totals → List (List ℕ) → List ℕ
 beats_text s n [] = ended s n
 beats_text s n (l ∷ ls) =
-    elim (eqb n.lines last_line) [
+    elim (eqb n.counts.lines last_line) [
       | true ↦ ended s n
       | false ↦
           elim (line_said l) [
-            | none ↦ error_line (n.lines + 1)
-            | some x ↦ said_printed s n x ++ beats_text s (said_counted s n x) ls
+            | None ↦ error_line (n.counts.lines + 1)
+            | Some x ↦ said_printed s n x ++ beats_text s (said_counted s n x) ls
           ]
     ]
 

@@ -1,12 +1,14 @@
 -- The lines behind the line * and the beats of a session, counted, and what is printed at its end (document 01, "On both sides of each edge"; document 02, Req 06 and 07). Definitions only.
-use Rattle.std.specs.Prelude.{Bool, ◌&&◌, List, ℕ, zero, suc, ◌+◌, ◌*◌, leb, ltb}
+use Rattle.std.specs.Prelude.{Bool, ◌&&◌, List, ℕ, zero, suc, ◌+◌, ◌*◌, leb, ltb, Result, Ok, Err, []}
 use Rattle.engine.specs.Order.{max_orders}
 use Rattle.engine.specs.declared.state.State.{State}
 use Rattle.engine.specs.State.{power_on}
+use Rattle.engine.specs.declared.status.Status.{Status as LineStates}
 use Rattle.engine.specs.Status.{status_of}
 use Rattle.transcript.specs.declared.view.View.{View}
 use Rattle.transcript.specs.declared.view.View.TheVariants.{Run, Status}
 use Rattle.transcript.specs.Output.{end_line, status_rows}
+use Rattle.transcript.specs.declared.totals.Counts.{Counts}
 use Rattle.transcript.specs.declared.totals.Totals.{Totals}
 
 -- after 1,000,000 lines behind the line * a session ends as at the end of input
@@ -15,37 +17,42 @@ last_line = 1000000
 
 -- before the first of them
 abbrev pub no_totals : View → Totals
-no_totals v = record { view = v; state = power_on; lines = 0; beats = record { 0 = 0 }; coded = 0; orders = 0 }
+no_totals v = record { counts = record { view = v; lines = 0; beats = record { 0 = 0 }; coded = 0; orders = 0 }; state = power_on }
 
 -- END
-abbrev pub end_counts : Totals → List ℕ
+abbrev pub end_counts : Counts → List ℕ
 end_counts n = end_line n.beats.0 n.coded n.orders
+
+-- the rows of a status picture; refused, none
+abbrev pub rows_in : Result LineStates ℕ → List ℕ
+rows_in (Ok x) = status_rows x.count 0 x.lines
+rows_in (Err k) = []
 
 -- the status picture of the set s
 abbrev pub picture : List ℕ → State → List ℕ
-picture s st = let x = status_of s st in status_rows x.count 0 x.lines
+picture s st = rows_in (status_of s st)
 
 -- at the end, over the set s: END, or the picture
 abbrev pub end_by : View → List ℕ → Totals → List ℕ
-end_by Run s n = end_counts n
+end_by Run s n = end_counts n.counts
 end_by Status s n = picture s n.state
 
 abbrev pub ended : List ℕ → Totals → List ℕ
-ended s n = end_by n.view s n
+ended s n = end_by n.counts.view s n
 
 -- one more beat with a code
 abbrev pub one_if : ℕ → ℕ
 one_if zero = 0
 one_if (suc c) = 1
 
--- the totals with a line and its beat, by its code, its orders and the state that it leaves
-abbrev pub counting : Totals → ℕ → ℕ → State → Totals
-counting n code orders x = record { view = n.view; state = x; lines = n.lines + 1; beats = record { 0 = n.beats.0 + 1 }; coded = n.coded + one_if code; orders = n.orders + orders }
+-- the counts with a line and its beat, by its code and its orders
+abbrev pub counting : Counts → ℕ → ℕ → Counts
+counting n code orders = record { view = n.view; lines = n.lines + 1; beats = record { 0 = n.beats.0 + 1 }; coded = n.coded + one_if code; orders = n.orders + orders }
 
--- the totals with a line that is no beat, by the state that its call leaves
-abbrev pub calling : Totals → State → Totals
-calling n x = record { view = n.view; state = x; lines = n.lines + 1; beats = n.beats; coded = n.coded; orders = n.orders }
+-- the counts with a line that is no beat
+abbrev pub calling : Counts → Counts
+calling n = record { view = n.view; lines = n.lines + 1; beats = n.beats; coded = n.coded; orders = n.orders }
 
--- totals that a session may have with a line still to come: no more beats than lines
-unfoldable pub are_fit : Totals → Bool
+-- counts that a session may have with a line still to come: no more beats than lines
+unfoldable pub are_fit : Counts → Bool
 are_fit n = ltb n.lines last_line && (leb n.beats.0 n.lines && (leb n.coded n.beats.0 && leb n.orders (n.beats.0 * max_orders)))

@@ -1,24 +1,23 @@
--- Totals that are fit, and that they stay so until the last line. Assumes nothing.
+-- Counts that are fit, and that they stay so until the last line. Assumes nothing.
 use Rattle.std.specs.Prelude.{◌≡◌, true, ◌&&◌, ℕ, zero, suc, ◌+◌, ◌*◌, ◌≤◌, ◌<◌, leb, ltb}
 use Rattle.std.proofs.Common.{arith, leb-true, le-leb, ltb-true, lt-ltb}
 use Rattle.values.specs.Choice.{both, and-true}
 use Rattle.engine.specs.Order.{max_orders}
-use Rattle.engine.specs.declared.state.State.{State}
-use Rattle.transcript.specs.declared.totals.Totals.{Totals}
+use Rattle.transcript.specs.declared.totals.Counts.{Counts}
 use Rattle.transcript.specs.Totals.{last_line, one_if, counting, calling, are_fit}
 
--- ---- totals that are fit
+-- ---- counts that are fit
 
-pub record FitTotals (n : Totals) : Type 0 where
+pub record FitCounts (n : Counts) : Type 0 where
   pub lines : n.lines < last_line
   pub beats : n.beats.0 ≤ n.lines
   pub coded : n.coded ≤ n.beats.0
   pub orders : n.orders ≤ n.beats.0 * max_orders
 
 -- each of the tests
-pub fit-totals : (n : Totals) → are_fit n ≡ true → FitTotals n
+pub fit-counts : (n : Counts) → are_fit n ≡ true → FitCounts n
 unfolding are_fit
-fit-totals n h =
+fit-counts n h =
     let l = ltb n.lines last_line in
     let b = leb n.beats.0 n.lines in
     let c = leb n.coded n.beats.0 in
@@ -32,9 +31,9 @@ fit-totals n h =
       orders = leb-true _ _ (both c o h₂).1;
     }
 
-pub totals-fit : (n : Totals) → FitTotals n → are_fit n ≡ true
+pub counts-fit : (n : Counts) → FitCounts n → are_fit n ≡ true
 unfolding are_fit
-totals-fit n f = and-true (lt-ltb _ _ f.lines) (and-true (le-leb _ _ f.beats) (and-true (le-leb _ _ f.coded) (le-leb _ _ f.orders)))
+counts-fit n f = and-true (lt-ltb _ _ f.lines) (and-true (le-leb _ _ f.beats) (and-true (le-leb _ _ f.coded) (le-leb _ _ f.orders)))
 
 -- ---- a line that is counted
 
@@ -44,8 +43,8 @@ one-most zero = omega arith
 one-most (suc c) = omega arith
 
 -- before the last line they stay fit
-pub counting-fit : (n : Totals) (code orders : ℕ) (x : State) → FitTotals n → orders ≤ max_orders → (n.lines + 1 ≡ last_line → ⊥) → FitTotals (counting n code orders x)
-counting-fit n code orders x f o h =
+pub counting-fit : (n : Counts) (code orders : ℕ) → FitCounts n → orders ≤ max_orders → (n.lines + 1 ≡ last_line → ⊥) → FitCounts (counting n code orders)
+counting-fit n code orders f o h =
     let k = one-most code in
     let b = f.beats in
     let l = f.lines in
@@ -53,8 +52,8 @@ counting-fit n code orders x f o h =
     let d = f.orders in
     record { lines = omega (arith, h); beats = omega arith; coded = omega arith; orders = omega arith }
 
-pub calling-fit : (n : Totals) (x : State) → FitTotals n → (n.lines + 1 ≡ last_line → ⊥) → FitTotals (calling n x)
-calling-fit n x f h =
+pub calling-fit : (n : Counts) → FitCounts n → (n.lines + 1 ≡ last_line → ⊥) → FitCounts (calling n)
+calling-fit n f h =
     let l = f.lines in
     let b = f.beats in
     record { lines = omega (arith, h); beats = omega arith; coded = f.coded; orders = f.orders }

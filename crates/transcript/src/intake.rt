@@ -1,212 +1,192 @@
 // The input of a session as it comes in, in parts of lines of any size: set text up to the line *, then the lines behind it. What a line's end brings is told; nothing is worked or printed here.
 ghost use Rattle.std.specs.Prelude.{◌≡◌};
-ghost use Rattle.transcript.specs.Intake.{OVER, no_intake, with_phase, intake_fits, bytes_taken, bytes_kept, with_half_line, nothing_came, text_whole, text_line_over, text_line_kept, line_read, line_over, line_kept, input_over};
-ghost use Rattle.transcript.specs.IntakeAnswers.{brought_by};
-ghost use Rattle.transcript.specs.HalfLine.{no_half_line};
+ghost use Rattle.transcript.specs.Intake.{is_over, in_beats, no_intake, with_phase, intake_fits, bytes_taken, bytes_kept, nothing_came, text_whole, text_line_over, text_line_kept, line_read, line_over, line_kept, input_over};
+ghost use Rattle.transcript.specs.declared.intake.Phase.TheVariants.{Over};
 ghost use Rattle.transcript.specs.IntakeLaws.{FitIntake};
 
-use crate::beat_line::{
-    CONTROL_RESET, HalfLine, LAST_FIELD, MaybeLent, PROGRAM_END, is_untouched, no_half_line,
-    nothing_lent, read_bytes, read_lent, without_cr,
-};
-use crate::set_text::{KEPT, Place, is_star, no_place, place_end, place_on, text_size};
+use crate::beat_line::{HalfLine, LAST_FIELD, Said};
+use crate::set_text::{KEPT, Place};
 use text::buffer::{put, put_bytes};
 use text::bytes::LF;
 
-// The phases: set text, the lines behind the line *, over.
-const TEXT: u8 = 0;
-
-pub const BEATS: u8 = 1;
-
-pub const OVER: u8 = 2;
+// What is taken in: set text, the lines behind the line *, no more.
+#[derive(Clone, Copy, PartialEq, Eq)]
+pub enum Phase {
+    Text,
+    Beats,
+    Over,
+}
 
 // What is kept of the input beside the bytes of the set text.
 #[derive(Clone, Copy)]
 pub struct Intake {
-    pub phase: u8,
+    pub phase: Phase,
     pub place: Place,
     pub half: HalfLine,
 }
 
-// What the end of a line, or of the input, brings: nothing, the whole set text, a beat line, PE, RS.
+// What the end of a line, or of the input, brings: nothing; the whole set text, so many bytes of what is kept; a line behind the line *, and what it says if it is well-formed.
 #[derive(Clone, Copy)]
-pub enum Ending {
+pub enum Arrival {
     Nothing,
-    Text,
-    Beat,
-    ProgramEnd,
-    ControlReset,
+    WholeText(usize),
+    LineCame(Option<Said>),
 }
 
-// The intake behind it, the size of the text if that is whole, and what a beat line lends.
+// That, and the intake behind it.
 #[derive(Clone, Copy)]
-pub struct Brought {
+pub struct Arrived {
     pub intake: Intake,
-    pub ending: Ending,
-    pub size: usize,
-    pub lent: MaybeLent,
+    pub arrival: Arrival,
 }
 
-// Before the first byte of input.
-pub fn no_intake() -> Intake
-    ensures { result ≡ no_intake }
-{
-    Intake {
-        phase: TEXT,
-        place: no_place(),
-        half: no_half_line(),
+impl Intake {
+    // Before the first byte of input.
+    pub fn new() -> Intake
+        ensures { result ≡ no_intake }
+    {
+        Intake {
+            phase: Phase::Text,
+            place: Place::new(),
+            half: HalfLine::new(),
+        }
     }
-}
 
-// No more is taken in.
-pub fn stop(intake: Intake) -> Intake
-    ensures { result ≡ with_phase intake OVER }
-{
-    let mut x = intake;
-    x.phase = OVER;
-    x
-}
+    // No more is taken in.
+    pub fn stop(self) -> Intake
+        ensures { result ≡ with_phase self Over }
+    {
+        Intake {
+            phase: Phase::Over,
+            ..self
+        }
+    }
 
-// Whether an intake could have come from a beginning.
-pub fn intake_fits(intake: Intake) -> bool
-    ensures { result ≡ intake_fits intake }
-{
-    let size = intake.place.size;
-    if KEPT < size {
-        return false;
+    pub fn is_over(self) -> bool
+        ensures { result ≡ is_over self }
+    {
+        self.phase == Phase::Over
     }
-    if size < intake.place.start {
-        return false;
-    }
-    intake.half.field <= LAST_FIELD
-}
 
-// Bytes of a line, no LF among them.
-pub fn take_in(intake: Intake, text: &mut [u8; KEPT], part: &[u8]) -> Intake
-    requires { FitIntake intake }
-    ensures value { result ≡ bytes_taken intake part.now }
-    ensures text_after { text.new ≡ bytes_kept intake text.old part.now }
-{
-    let mut x = intake;
-    let phase = intake.phase;
-    if phase == TEXT {
-        let place = intake.place;
-        put_bytes(text, place.size, part);
-        x.place = place_on(place, part);
-        return x;
+    // Whether the lines behind the line * are awaited.
+    pub fn in_beats(self) -> bool
+        ensures { result ≡ in_beats self }
+    {
+        self.phase == Phase::Beats
     }
-    if phase == BEATS {
-        let half = intake.half;
-        x.half = read_bytes(part, half);
-        return x;
-    }
-    x
-}
 
-// ---- ends
+    // Whether an intake could have come from a beginning.
+    #[tactic(auto, unfolding(crate::specs::Intake::intake_fits))]
+    pub fn fits(self) -> bool
+        ensures { result ≡ intake_fits self }
+    {
+        self.place.size <= KEPT
+            && self.place.start <= self.place.size
+            && self.half.field <= LAST_FIELD
+    }
 
-fn nothing_came(intake: Intake) -> Brought
-    ensures { result ≡ brought_by (nothing_came intake) }
-{
-    Brought {
-        intake: intake,
-        ending: Ending::Nothing,
-        size: 0,
-        lent: nothing_lent(),
+    // Bytes of a line, no LF among them.
+    #[tactic(auto, unfolding(crate::specs::Intake::bytes_taken, crate::specs::Intake::bytes_kept))]
+    pub fn take_in(self, text: &mut [u8; KEPT], part: &[u8]) -> Intake
+        requires { FitIntake self }
+        ensures value { result ≡ bytes_taken self part.now }
+        ensures text_after { text.new ≡ bytes_kept self text.old part.now }
+    {
+        match self.phase {
+            Phase::Text => {
+                put_bytes(text, self.place.size, part);
+                Intake {
+                    place: self.place.on(part),
+                    ..self
+                }
+            }
+            Phase::Beats => Intake {
+                half: self.half.read_bytes(part),
+                ..self
+            },
+            Phase::Over => self,
+        }
     }
-}
 
-// The set text is whole, and the lines behind the line * follow.
-fn text_whole(intake: Intake, size: usize) -> Brought
-    ensures { result ≡ brought_by (text_whole intake size) }
-{
-    let mut x = intake;
-    x.phase = BEATS;
-    x.half = no_half_line();
-    Brought {
-        intake: x,
-        ending: Ending::Text,
-        size: size,
-        lent: nothing_lent(),
-    }
-}
+    // ---- ends
 
-// A line behind the line * brings this.
-fn came(intake: Intake, ending: Ending, lent: MaybeLent) -> Brought
-    ensures { result ≡ record { intake = with_half_line intake no_half_line; ending = ending; size = 0; lent = lent } }
-{
-    let mut x = intake;
-    x.half = no_half_line();
-    Brought {
-        intake: x,
-        ending: ending,
-        size: 0,
-        lent: lent,
+    fn nothing_came(self) -> Arrived
+        ensures { result ≡ nothing_came self }
+    {
+        Arrived {
+            intake: self,
+            arrival: Arrival::Nothing,
+        }
     }
-}
 
-// Such a line is over.
-fn line_read(intake: Intake, half: HalfLine) -> Brought
-    ensures { result ≡ brought_by (line_read intake half) }
-{
-    let stage = half.stage;
-    if stage == PROGRAM_END {
-        return came(intake, Ending::ProgramEnd, nothing_lent());
+    // The set text is whole, and the lines behind the line * follow.
+    fn text_whole(self, size: usize) -> Arrived
+        ensures { result ≡ text_whole self size }
+    {
+        Arrived {
+            intake: Intake {
+                phase: Phase::Beats,
+                half: HalfLine::new(),
+                ..self
+            },
+            arrival: Arrival::WholeText(size),
+        }
     }
-    if stage == CONTROL_RESET {
-        return came(intake, Ending::ControlReset, nothing_lent());
-    }
-    came(intake, Ending::Beat, read_lent(half))
-}
 
-// The LF of a line of set text: behind the line * the text before it is whole.
-fn end_text_line(intake: Intake, text: &mut [u8; KEPT]) -> Brought
-    requires { FitIntake intake }
-    ensures value { result ≡ brought_by (text_line_over intake) }
-    ensures text_after { text.new ≡ text_line_kept intake text.old }
-{
-    let place = intake.place;
-    if is_star(place.star) {
-        return text_whole(intake, place.start);
+    // A line behind the line * is over.
+    fn line_read(self, half: HalfLine) -> Arrived
+        ensures { result ≡ line_read self half }
+    {
+        Arrived {
+            intake: Intake {
+                half: HalfLine::new(),
+                ..self
+            },
+            arrival: Arrival::LineCame(half.read_said()),
+        }
     }
-    put(text, place.size, LF);
-    let mut x = intake;
-    x.place = place_end(place);
-    nothing_came(x)
-}
 
-// An LF.
-pub fn end_line(intake: Intake, text: &mut [u8; KEPT]) -> Brought
-    requires { FitIntake intake }
-    ensures value { result ≡ brought_by (line_over intake) }
-    ensures text_after { text.new ≡ line_kept intake text.old }
-{
-    let phase = intake.phase;
-    if phase == TEXT {
-        return end_text_line(intake, text);
+    // The LF of a line of set text: behind the line * the text before it is whole.
+    #[tactic(auto, unfolding(crate::specs::Intake::text_line_over, crate::specs::Intake::text_line_kept))]
+    fn end_text_line(self, text: &mut [u8; KEPT]) -> Arrived
+        requires { FitIntake self }
+        ensures value { result ≡ text_line_over self }
+        ensures text_after { text.new ≡ text_line_kept self text.old }
+    {
+        if self.place.star.ends() {
+            return self.text_whole(self.place.start);
+        }
+        put(text, self.place.size, LF);
+        let intake = Intake {
+            place: self.place.end(),
+            ..self
+        };
+        intake.nothing_came()
     }
-    if phase == BEATS {
-        let half = intake.half;
-        return line_read(intake, without_cr(half));
-    }
-    nothing_came(intake)
-}
 
-// The end of input: a last line has no LF.
-pub fn end_input(intake: Intake) -> Brought
-    ensures { result ≡ brought_by (input_over intake) }
-{
-    let phase = intake.phase;
-    if phase == TEXT {
-        let place = intake.place;
-        return text_whole(intake, text_size(place));
+    // An LF.
+    #[tactic(auto, unfolding(crate::specs::Intake::line_over, crate::specs::Intake::line_kept))]
+    pub fn end_line(self, text: &mut [u8; KEPT]) -> Arrived
+        requires { FitIntake self }
+        ensures value { result ≡ line_over self }
+        ensures text_after { text.new ≡ line_kept self text.old }
+    {
+        match self.phase {
+            Phase::Text => self.end_text_line(text),
+            Phase::Beats => self.line_read(self.half.without_cr()),
+            Phase::Over => self.nothing_came(),
+        }
     }
-    if phase != BEATS {
-        return nothing_came(intake);
+
+    // The end of input: a last line has no LF.
+    #[tactic(auto, unfolding(crate::specs::Intake::input_over))]
+    pub fn end_input(self) -> Arrived
+        ensures { result ≡ input_over self }
+    {
+        match self.phase {
+            Phase::Text => self.text_whole(self.place.text_size()),
+            Phase::Beats if !self.half.is_untouched() => self.line_read(self.half),
+            _ => self.nothing_came(),
+        }
     }
-    let half = intake.half;
-    if is_untouched(half) {
-        return nothing_came(intake);
-    }
-    line_read(intake, half)
 }

@@ -1,21 +1,16 @@
 // The lines that a session prints, each at a place of a lent buffer; the answer is the place behind it.
-ghost use Rattle.std.specs.Prelude.{◌≡◌, cond, [], ◌∷◌, ◌++◌, ◌+◌, ◌*◌, ◌≤◌, ◌<◌, length, get_or, drop};
-ghost use Rattle.engine.specs.Beat.{buffer_size};
-ghost use Rattle.engine.specs.Order.{max_orders};
+ghost use Rattle.std.specs.Prelude.{◌≡◌, cond, [], ◌∷◌, ◌++◌, ◌+◌, ◌*◌, ◌≤◌, length};
+ghost use Rattle.engine.specs.Order.{order_size, max_orders};
 ghost use Rattle.text.specs.Byte.{bytes};
 ghost use Rattle.tokens.specs.Token.{max_lines};
 ghost use Rattle.values.specs.PutAt.{put_at, IsPut};
-ghost use Rattle.transcript.specs.Output.{spaced, printed_line, decimals, four_of, load_line, error_line, code_line, order_line, order_lines, end_line, standing_word, status_line, status_rows, order_room, status_room, out_size};
+ghost use Rattle.transcript.specs.Output.{spaced, printed_line, decimals, load_line, error_line, code_line, order_line, order_lines, end_line, standing_word, status_line, status_rows, order_room, status_room, out_size};
 
 use engine::{LineStatus, MAX_ORDERS, ORDER_BYTES, Standing};
 use text::buffer::{put, put_bytes};
 use text::bytes::{LF, SPACE};
 use text::digits::{put_number, put_signed};
 use tokens::token::LINES;
-
-const C: u8 = 67;
-
-const O: u8 = 79;
 
 const S: u8 = 83;
 
@@ -48,27 +43,14 @@ fn put_field(out: &mut [u8], at: usize, n: u32) -> usize
     p + put_number(out, p, n)
 }
 
-// Three numbers, as the lines of a beat have.
-fn put_three(out: &mut [u8], at: usize, a: u32, b: u32, c: u32) -> usize
-    requires { at ≤ out_size + 1 }
-    ensures put { IsPut out.old at (spaced (decimals (a ∷ b ∷ c ∷ []))) out.new result }
-    ensures upper_bound { result ≤ at + 33 }
-{
-    let p = put_field(out, at, a);
-    let q = put_field(out, p, b);
-    put_field(out, q, c)
-}
-
 // Numbers, each behind a space.
 fn put_numbers(out: &mut [u8], at: usize, numbers: &[u32]) -> usize
     requires { (at ≤ out_size + 3) × (length numbers.now ≤ 3) }
     ensures { IsPut out.old at (spaced (decimals numbers.now)) out.new result }
 {
     let mut p = at;
-    let mut i: usize = 0;
-    while i < numbers.len() {
-        p = put_field(out, p, numbers[i]);
-        i += 1;
+    for n in numbers {
+        p = put_field(out, p, *n);
     }
     p
 }
@@ -93,12 +75,12 @@ fn put_line(out: &mut [u8], at: usize, word: &[u8], numbers: &[u32]) -> usize
 }
 
 // L code line
+#[tactic(auto, unfolding(crate::specs::Output::load_line))]
 pub fn load_line(out: &mut [u8], at: usize, code: u8, line: u32) -> usize
     requires { at ≤ out_size }
     ensures { IsPut out.old at (load_line code line) out.new result }
 {
-    let numbers = [code as u32, line];
-    put_line(out, at, b"L", &numbers)
+    put_line(out, at, b"L", &[u32::from(code), line])
 }
 
 // The same at a buffer's start; the answer is how many bytes it is.
@@ -110,87 +92,64 @@ pub fn put_refusal(out: &mut [u8], code: u8, line: u32) -> usize
 }
 
 // E k
+#[tactic(auto, unfolding(crate::specs::Output::error_line))]
 pub fn error_line(out: &mut [u8], at: usize, k: u32) -> usize
     requires { at ≤ out_size }
     ensures { IsPut out.old at (error_line k) out.new result }
 {
-    let numbers = [k];
-    put_line(out, at, b"E", &numbers)
+    put_line(out, at, b"E", &[k])
 }
 
 // C beat code orders
+#[tactic(auto, unfolding(crate::specs::Output::code_line))]
 pub fn code_line(out: &mut [u8], at: usize, beat: u32, code: u8, orders: u32) -> usize
     requires { at ≤ out_size }
     ensures { IsPut out.old at (code_line beat code orders) out.new result }
 {
-    put(out, at, C);
-    let p = put_three(out, at + 1, beat, code as u32, orders);
-    put(out, p, LF);
-    p + 1
+    put_line(out, at, b"C", &[beat, u32::from(code), orders])
 }
 
 // END beats beats-with-a-code orders
+#[tactic(auto, unfolding(crate::specs::Output::end_line))]
 pub fn end_line(out: &mut [u8], at: usize, beats: u32, coded: u32, orders: u32) -> usize
     requires { at ≤ out_size }
     ensures { IsPut out.old at (end_line beats coded orders) out.new result }
 {
-    let numbers = [beats, coded, orders];
-    put_line(out, at, b"END", &numbers)
+    put_line(out, at, b"END", &[beats, coded, orders])
 }
 
 // ---- orders
 
-// The byte at a place, 0 past the end.
-fn byte_at(bytes: &[u8], at: usize) -> u32
-    ensures { (result ≡ get_or bytes.now at 0) × (result < 256) }
+// O line kind target value, of an order's bytes.
+#[tactic(auto, unfolding(crate::specs::Output::order_line, crate::specs::Output::four_of))]
+fn order_line(out: &mut [u8], at: usize, order: &[u8; ORDER_BYTES]) -> usize
+    requires { at ≤ out_size }
+    ensures { IsPut out.old at (order_line order.now) out.new result }
 {
-    if at < bytes.len() {
-        return bytes[at] as u32;
-    }
-    0
-}
-
-// Four bytes from a place on, low first.
-fn four_at(bytes: &[u8], at: usize) -> u32
-    requires { at ≤ buffer_size + 8 }
-    ensures { result ≡ four_of (drop at bytes.now) }
-{
-    let a = byte_at(bytes, at);
-    let b = byte_at(bytes, at + 1);
-    let c = byte_at(bytes, at + 2);
-    let d = byte_at(bytes, at + 3);
-    a + b * 256 + c * 65536 + d * 16777216
-}
-
-// O line kind target value, of the order whose bytes begin at `from`.
-fn order_line(out: &mut [u8], at: usize, orders: &[u8], from: usize) -> usize
-    requires { (at ≤ out_size) × (from < buffer_size) }
-    ensures { IsPut out.old at (order_line (drop from orders.now)) out.new result }
-{
-    let line = byte_at(orders, from + 1);
-    let kind = byte_at(orders, from);
-    let target = byte_at(orders, from + 2);
-    let value = four_at(orders, from + 4);
-    put(out, at, O);
-    let p = put_three(out, at + 1, line, kind, target);
+    let [kind, line, target, _, a, b, c, d] = *order;
+    let numbers = [u32::from(line), u32::from(kind), u32::from(target)];
+    let p = put_fields(out, at, b"O", &numbers);
     put(out, p, SPACE);
     let q = p + 1;
-    let end = q + put_signed(out, q, value);
+    let end = q + put_signed(out, q, u32::from_le_bytes([a, b, c, d]));
     put(out, end, LF);
     end + 1
 }
 
 // The lines of n orders.
 pub fn order_lines(out: &mut [u8], at: usize, orders: &[u8], n: u32) -> usize
-    requires { (at + order_room * n ≤ out_size) × (n ≤ max_orders) }
+    requires room { (at + order_room * n ≤ out_size) × (n ≤ max_orders) }
+    requires long { order_size * n ≤ length orders.now }
     ensures { IsPut out.old at (order_lines n orders.now) out.new result }
 {
     let mut p = at;
-    let count = n as usize;
-    let mut k: usize = 0;
-    while k < count {
-        p = order_line(out, p, orders, k * ORDER_BYTES);
-        k += 1;
+    let mut rest = orders;
+    for _ in 0..n {
+        let Some((order, behind)) = rest.split_first_chunk() else {
+            return p;
+        };
+        p = order_line(out, p, order);
+        rest = behind;
     }
     p
 }
@@ -214,9 +173,10 @@ fn put_kind(out: &mut [u8], at: usize, ids: bool) -> usize
     ensures { IsPut out.old at (spaced (cond ids (bytes "IDS") (bytes "ID") ∷ [])) out.new result }
 {
     if ids {
-        return put_word(out, at, b"IDS");
+        put_word(out, at, b"IDS")
+    } else {
+        put_word(out, at, b"ID")
     }
-    put_word(out, at, b"ID")
 }
 
 // Locked, cancelled or waiting.
@@ -236,11 +196,10 @@ fn status_line(out: &mut [u8], at: usize, row: LineStatus) -> usize
     requires { at ≤ out_size }
     ensures { IsPut out.old at (status_line row) out.new result }
 {
-    let standing = row.standing;
     put(out, at, S);
     let p = put_kind(out, at + 1, row.ids);
-    let q = put_field(out, p, row.number as u32);
-    let r = put_standing(out, q, standing);
+    let q = put_field(out, p, u32::from(row.number));
+    let r = put_standing(out, q, row.standing);
     let end = put_field(out, r, row.acts);
     put(out, end, LF);
     end + 1
@@ -252,11 +211,8 @@ pub fn status_rows(out: &mut [u8], at: usize, rows: [LineStatus; LINES], count: 
     ensures { IsPut out.old at (status_rows count 0 rows) out.new result }
 {
     let mut p = at;
-    let mut k: usize = 0;
-    while k < count {
-        let row = rows[k];
-        p = status_line(out, p, row);
-        k += 1;
+    for row in &rows[..count] {
+        p = status_line(out, p, *row);
     }
     p
 }

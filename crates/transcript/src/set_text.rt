@@ -1,7 +1,7 @@
 // The set text as it comes in: how much of it is kept, and whether its last line is the line * that ends it.
 ghost use Rattle.std.specs.Prelude.{◌≡◌, ◌+◌, ◌≤◌, min, length};
 ghost use Rattle.transcript.specs.Input.{input_of};
-ghost use Rattle.transcript.specs.SetText.{kept_size, no_place, star_after, star_on, star_ends, place_on, place_end, last_size};
+ghost use Rattle.transcript.specs.SetText.{kept_size, no_place, star_after, star_on, is_alone, star_ends, place_on, place_end, last_size};
 
 use text::bytes::{CR, Kind, run_end};
 use tokens::token::TEXT_SIZE;
@@ -9,63 +9,60 @@ use tokens::token::TEXT_SIZE;
 // The bytes of set text that are kept: one more than a text may have, so that a longer one is seen to be too long.
 pub const KEPT: usize = TEXT_SIZE + 1;
 
-const STAR: u8 = 42;
+// What a line is so far: nothing, `*`, `*` and CR, anything else.
+#[derive(Clone, Copy, PartialEq, Eq)]
+pub enum Star {
+    Empty,
+    Alone,
+    Return,
+    Other,
+}
 
-// Where the set text stands: how many bytes of it are kept, where its last line begins, and what that line is so far (0 nothing, 1 `*`, 2 `*` and CR, 3 anything else).
+// Where the set text stands: how many bytes of it are kept, where its last line begins, and what that line is so far.
 #[derive(Clone, Copy)]
 pub struct Place {
     pub size: usize,
     pub start: usize,
-    pub star: u8,
+    pub star: Star,
 }
 
-// Before the first byte.
-pub fn no_place() -> Place
-    ensures { result ≡ no_place }
-{
-    Place {
-        size: 0,
-        start: 0,
-        star: 0,
-    }
-}
-
-// What a line is with one more byte.
-fn star_after(star: u8, b: u8) -> u8
-    ensures { result ≡ star_after star b }
-{
-    if star == 0 {
-        if b == STAR {
-            return 1;
+impl Star {
+    // What a line is with one more byte.
+    #[tactic(auto, unfolding(crate::specs::SetText::star_after))]
+    fn after(self, b: u8) -> Star
+        ensures { result ≡ star_after self b }
+    {
+        match (self, b) {
+            (Star::Empty, b'*') => Star::Alone,
+            (Star::Alone, CR) => Star::Return,
+            _ => Star::Other,
         }
-        return 3;
     }
-    if star != 1 {
-        return 3;
-    }
-    if b == CR { 2 } else { 3 }
-}
 
-fn star_on(part: &[u8], star: u8) -> u8
-    ensures { result ≡ star_on star part.now }
-{
-    let mut s = star;
-    let mut i: usize = 0;
-    while i < part.len() {
-        s = star_after(s, part[i]);
-        i += 1;
+    #[tactic(auto, unfolding(crate::specs::SetText::star_on))]
+    fn on(self, part: &[u8]) -> Star
+        ensures { result ≡ star_on self part.now }
+    {
+        let mut star = self;
+        for b in part {
+            star = star.after(*b);
+        }
+        star
     }
-    s
-}
 
-// Whether a line is *, with or without a CR behind it.
-pub fn is_star(star: u8) -> bool
-    ensures { result ≡ star_ends star }
-{
-    if star == 1 {
-        return true;
+    // Whether a line is *.
+    fn is_alone(self) -> bool
+        ensures { result ≡ is_alone self }
+    {
+        self == Star::Alone
     }
-    star == 2
+
+    // Whether a line is *, with or without a CR behind it.
+    pub fn ends(self) -> bool
+        ensures { result ≡ star_ends self }
+    {
+        matches!(self, Star::Alone | Star::Return)
+    }
 }
 
 // The bytes kept with n more.
@@ -73,45 +70,58 @@ fn size_with(size: usize, n: usize) -> usize
     requires { size ≤ kept_size }
     ensures { result ≡ min kept_size (size + n) }
 {
-    if KEPT - size <= n {
-        return KEPT;
-    }
-    size + n
+    size + n.min(KEPT - size)
 }
 
-// Bytes of a line, no LF among them, in set text.
-pub fn place_on(place: Place, part: &[u8]) -> Place
-    requires { place.size ≤ kept_size }
-    ensures { result ≡ place_on place part.now }
-{
-    let size = size_with(place.size, part.len());
-    let star = star_on(part, place.star);
-    Place {
-        size: size,
-        start: place.start,
-        star: star,
+impl Place {
+    // Before the first byte.
+    pub fn new() -> Place
+        ensures { result ≡ no_place }
+    {
+        Place {
+            size: 0,
+            start: 0,
+            star: Star::Empty,
+        }
     }
-}
 
-// The LF of a line of set text.
-pub fn place_end(place: Place) -> Place
-    requires { place.size ≤ kept_size }
-    ensures { result ≡ place_end place }
-{
-    let size = size_with(place.size, 1);
-    Place {
-        size: size,
-        start: size,
-        star: 0,
+    // Bytes of a line, no LF among them, in set text.
+    #[tactic(auto, unfolding(crate::specs::SetText::place_on))]
+    pub fn on(self, part: &[u8]) -> Place
+        requires { self.size ≤ kept_size }
+        ensures { result ≡ place_on self part.now }
+    {
+        Place {
+            size: size_with(self.size, part.len()),
+            star: self.star.on(part),
+            ..self
+        }
     }
-}
 
-// Where the set text ends if its last line has no LF: before the line *, or behind all of it.
-pub fn text_size(place: Place) -> usize
-    ensures { result ≡ last_size place }
-{
-    let star = place.star;
-    if star == 1 { place.start } else { place.size }
+    // The LF of a line of set text.
+    #[tactic(auto, unfolding(crate::specs::SetText::place_end))]
+    pub fn end(self) -> Place
+        requires { self.size ≤ kept_size }
+        ensures { result ≡ place_end self }
+    {
+        let size = size_with(self.size, 1);
+        Place {
+            size,
+            start: size,
+            star: Star::Empty,
+        }
+    }
+
+    // Where the set text ends if its last line has no LF: before the line *, or behind all of it.
+    pub fn text_size(self) -> usize
+        ensures { result ≡ last_size self }
+    {
+        if self.star.is_alone() {
+            self.start
+        } else {
+            self.size
+        }
+    }
 }
 
 // How many bytes of a whole input are its set text: those before the first line *, or all of it.
@@ -119,16 +129,14 @@ pub fn set_text_size(input: &[u8]) -> usize
     ensures { result ≡ length (input_of input.now).text }
 {
     let mut at: usize = 0;
+    // A line ends where its bytes say, and no line is read behind the line *: no plainer as a `for`.
     while at < input.len() {
         let end = run_end(input, at, Kind::Line);
-        let star = star_on(&input[at..end], 0);
+        let star = Star::Empty.on(&input[at..end]);
         if end == input.len() {
-            if star == 1 {
-                return at;
-            }
-            return end;
+            return if star.is_alone() { at } else { end };
         }
-        if is_star(star) {
+        if star.ends() {
             return at;
         }
         at = end + 1;

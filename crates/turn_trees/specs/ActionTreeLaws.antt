@@ -1,5 +1,5 @@
 -- Laws of right sides, conditions and actions: wherever the tokens of a tree stand, the engine works them as the tree is worked, up to the place behind them. Nothing is assumed.
-use Rattle.std.specs.Prelude.{◌≡◌, Bool, T, eqb, ℤ, pos, length, get_or}
+use Rattle.std.specs.Prelude.{◌≡◌, Bool, T, eqb, ℤ, length, get_or}
 use Rattle.std.proofs.Math.Path.{refl}
 use Rattle.std.proofs.Common.{◌∙◌, le-leb, lt-ltb, eq-eqb, ne_eqb}
 use Rattle.std.proofs.Math.Bool.{true, false}
@@ -16,10 +16,12 @@ use Rattle.checking.specs.Fault.{is_removal}
 use Rattle.working.specs.Variables.{variable_value}
 use Rattle.working.specs.Operators.{is_yes, from_worked}
 use Rattle.working.specs.Working.{value_over, right_value, condition_value, variable_at}
-use Rattle.engine.specs.Set.{rank_in, curve_line}
-use Rattle.engine.specs.Write.{Vars, change_fifo, write_to}
+use Rattle.engine.specs.Set.{rank_in, defined_curve}
+use Rattle.engine.specs.Write.{change_fifo, write_to}
+use Rattle.engine.specs.declared.write.Change.TheVariants.{Remove}
+use Rattle.engine.specs.declared.write.Vars.{Vars}
 use Rattle.engine.specs.Drive.{drive_order}
-use Rattle.engine.specs.Action.{World, Did, Taken, from_value_or_alarm, taken_at, assignment_of, drive_of, command_of, action_of, did, with_vars, ordered, lock_of, curve_assigned, synfct_of}
+use Rattle.engine.specs.Action.{World, Did, Taken, from_reached, taken_at, assignment_of, drive_of, command_of, action_of, did, with_vars, ordered, lock_of, curve_assigned, synfct_of}
 use Rattle.engine.specs.Actions.{actions_of}
 use Rattle.grammar.specs.Tree.{number, variable, position, truth, bracket, minus, not, product, Sum, sum, Expression, Action, assign, assign_position, drive, code, call, synfct, Place, place_word, place_index, place_token, place_tokens, sum_tokens, expression_tokens, action_tokens, actions_tokens}
 use Rattle.grammar.specs.Meaning.{sum_meaning, expression_meaning, Stands, EndsSum, EndsExpression}
@@ -47,12 +49,12 @@ module _ (s : List ℕ) where
   -- ---- right sides and conditions
 
   right-tree : (r c : List ℤ) (a : Sum) (p q : ℕ) → length (sum_tokens a) ≤ set_size → Stands s p (sum_tokens a) q → EndsSum (token s q) →
-      from_value_or_alarm (right_value s r c p) ≡ up_to_place (sum_meaning (value_over r c) a) q
+      from_reached (right_value s r c p) ≡ up_to_place (sum_meaning (value_over r c) a) q
   unfolding right_value
   right-tree r c a p q l h e = rw (sum_agrees s (value_over r c) a set_size p q l h e) (told-tree (sum_meaning (value_over r c) a) q (right-stops r c a))
 
   pub condition-tree : (x : Vars) (e : Expression) (p q : ℕ) → length (expression_tokens e) ≤ set_size → Stands s p (expression_tokens e) q → EndsExpression (token s q) →
-      (from_value_or_alarm (condition_value s x.r x.cells p) >>= λ a. good (is_yes a.0)) ≡ condition_tree x e
+      (from_reached (condition_value s x.r x.cells p) >>= λ a. good (is_yes a.0)) ≡ condition_tree x e
   unfolding condition_value condition_tree
   condition-tree x e p q l h z =
       rw (expression-agrees s (value_over x.r x.cells) e set_size p q l h z, told-tree (expression_meaning (value_over x.r x.cells) e) q (condition-stops x.r x.cells e))
@@ -64,7 +66,7 @@ module _ (s : List ℕ) where
 
   -- a right side that is no removal
   value_taken_lem : (x : Vars) (a : Sum) (p q : ℕ) → length (sum_tokens a) ≤ set_size → Stands s p (sum_tokens a) q → EndsSum (token s q) →
-      (from_value_or_alarm (right_value s x.r x.cells p) >>= λ b. good (record { value = b.0; vars = x; next = b.1 })) ≡ (value_taken x a >>= taken_up_to q)
+      (from_reached (right_value s x.r x.cells p) >>= λ b. good (record { value = b.0; vars = x; next = b.1 })) ≡ (value_taken x a >>= taken_up_to q)
   value_taken_lem x a p q l h e = rw (right-tree x.r x.cells a p q l h e) (go (sum_meaning (value_over x.r x.cells) a))
     where
       go : (m : Answer ℤ) → (up_to_place m q >>= λ b. good (record { value = b.0; vars = x; next = b.1 })) ≡ (m >>= (λ v. good (record { value = v; vars = x })) >>= taken_up_to q)
@@ -82,7 +84,7 @@ module _ (s : List ℕ) where
       let a = sum (product (variable w v i) r) t in
       let (m, n) = removal-agrees s a p q h e in
       choose-by (taken_up_to q) (is_removal s p) (is_removal_tree a) _ _ _ _ m
-      (λ z. rw (h.0, n z) (through _ (change_fifo x.r x.cells 1 w (pos 0)) _ _ (λ c. refl)))
+      (λ z. rw (h.0, n z) (through _ (change_fifo x.r x.cells Remove w) _ _ (λ c. refl)))
       (λ z. value_taken_lem x a p q l h e)
   taken-tree x (sum (product (number n) r) t) p q l h e = no-removal x (sum (product (number n) r) t) p q refl l h e
   taken-tree x (sum (product (position y v) r) t) p q l h e = no-removal x (sum (product (position y v) r) t) p q refl l h e
@@ -130,7 +132,7 @@ module _ (s : List ℕ) where
       variable-there s r c p (rw f.0 v) (rw f.0 a) ∙ rw (f.0, b, k)
 
   -- SYNFCT, where c is the curve that the set has
-  synfct-tree : (x : World) (m : ℕ) (y z : Place) (c : Curve) (p q : ℕ) → (curve_line s m).curve ≡ c → Stands s p (action_tokens (synfct m y z)) q →
+  synfct-tree : (x : World) (m : ℕ) (y z : Place) (c : Curve) (p q : ℕ) → defined_curve s m ≡ c → Stands s p (action_tokens (synfct m y z)) q →
       synfct_of s x p
       ≡ (from_worked (variable_value x.vars.r x.vars.cells (place_word z) (place_index z)) >>= (λ u. curve_assigned x.vars c u (place_word y) (place_index y) >>= λ v. done_in (with_vars x v)) >>= done_up_to q)
   unfolding synfct_of action_tokens

@@ -2,7 +2,7 @@
 use Rattle.std.specs.Prelude.{◌≡◌, true, List, [], ◌∷◌, ℕ, ◌<◌}
 use Rattle.tokens.specs.Token.{max_lines, is_lock}
 use Rattle.grammar.specs.Tree.{Action, assign, assign_position, drive, code, call, synfct, Line, line}
-use Rattle.engine.specs.Set.{rank_in, curve_line}
+use Rattle.engine.specs.Set.{rank_in, defined_curve}
 use Rattle.turn_trees.specs.TurnTree.{Names}
 
 module _ (P Q : ℕ → Type 0) where
@@ -28,4 +28,4 @@ SameRank numbers names m = (rank_in numbers m 0 < max_lines) × (rank_in numbers
 
 -- the curve m of the set is the one that the names have
 abbrev pub SameCurve : List ℕ → Names → ℕ → Type 0
-SameCurve s names m = (curve_line s m).curve ≡ names.curves m
+SameCurve s names m = defined_curve s m ≡ names.curves m

@@ -1,5 +1,5 @@
 -- THE CURVES OF A SOUND SET ARE THOSE OF ITS DEFINITIONS; and each sound set has such definitions. Theorems; nothing is assumed.
-use Rattle.std.specs.Prelude.{◌≡◌, true, false, List, [], ◌∷◌, ◌++◌, eqb, leb, length, drop, get_or}
+use Rattle.std.specs.Prelude.{Ok, ◌≡◌, true, false, List, [], ◌∷◌, ◌++◌, eqb, leb, length, drop, get_or, is_some}
 use Rattle.std.proofs.Math.Path.{refl, ap}
 use Rattle.std.proofs.Common.{sym, subst, ◌∙◌, inl, inr, arith, eqb-true, eq-eqb}
 use Rattle.std.proofs.lemmas.Bool.{false≢true}
@@ -7,16 +7,15 @@ use Prim.Native.Nat.{ℕ, zero, suc, ◌+◌, ◌-◌, ◌≤◌, ◌<◌}
 use Rattle.std.proofs.Math.Decide.{ℕ_discrete}
 use Rattle.std.proofs.Math.ListN.{get_or-eq_default}
 use Rattle.values.specs.Choice.{decide, both, chosen, refused}
-use Rattle.values.specs.Codes.{too_deep}
 use Rattle.tokens.specs.Token.{END, max_curves}
 use Rattle.tokens.specs.SingleFault.{opens_too_many}
 use Rattle.checking.specs.declared.definition.Definition.{Definition as Told}
-use Rattle.checking.specs.CurveDefinition.{judged_curve, definition_at}
+use Rattle.checking.specs.CurveDefinition.{fault_of_definition, judged_curve}
 use Rattle.grammar.specs.Tree.{Definition, definition_front}
 use Rattle.grammar.specs.Meaning.{Stands}
 use Rattle.grammar.specs.TreeFault.{curve_in, definition_fault, defined_from}
-use Rattle.grammar.specs.AgreementDefinition.{definition-agrees, definition-fault, definition-written}
-use Rattle.engine.specs.Set.{curve_start, curve_line, is_defined, curves_from, curves_in, sound_lines}
+use Rattle.grammar.specs.AgreementDefinition.{definition-agrees, definition-fault, definition-written, not-deep-definition}
+use Rattle.engine.specs.Set.{curve_start, curve_line, curve_in_line, defined_curve, is_defined, curves_from, curves_in, sound_lines}
 use Rattle.soundness.specs.AnswerCodes.{OneOf}
 use Rattle.soundness.specs.SetSoundLaws.{curve-defined}
 use Rattle.turn_trees.specs.TurnTree.{curve_named}
@@ -32,14 +31,6 @@ pub record DefinitionsOf (s : List ℕ) (ds : List Definition) : Type 0 where
   pub stands : (d : Definition) → OneOf d ds → DefinitionAt s d.number d
   pub has : (n : ℕ) → Defined s n → (d : Definition) × OneOf d ds × (d.number ≡ n)
 
--- tokens of a definition without a fault have no fault 4
-not-deep : (s : List ℕ) (p : ℕ) → (definition_at s p).fault ≡ 0 → opens_too_many (drop p s) 0 ≡ false
-unfolding definition_at
-not-deep s p clean =
-    decide _ (opens_too_many (drop p s) 0)
-    (λ t. let z : (definition_at s p).fault ≡ too_deep = ap (λ (x : Told). x.fault) (chosen _ _ _ t) in absurd (omega arith))
-    (λ t. t)
-
 -- the first definition with a number is the one whose curve the number names
 first-named : (ds : List Definition) (n : ℕ) (d : Definition) → OneOf d ds → d.number ≡ n → (e : Definition) × OneOf e ds × (e.number ≡ n) × (curve_in e ≡ curve_named ds n)
 unfolding curve_named
@@ -50,29 +41,34 @@ first-named (x ∷ ds) n d (inr o) h =
     (λ t. (x, inl refl, eqb-true x.number n t, sym (chosen _ _ _ t)))
     (λ t. let (e, p, m, c) = first-named ds n d o h in (e, inr p, m, c ∙ sym (refused _ _ _ t)))
 
-module _ (s : List ℕ) (sound : (sound_lines s).sound ≡ true) where
+module _ (s : List ℕ) (sound : is_some (sound_lines s) ≡ true) where
   -- ---- one curve
 
   module _ (n : ℕ) (there : Defined s n) where
-    clean : (curve_line s n).fault ≡ 0
-    clean = (curve-defined s sound n there).0
+    clean : fault_of_definition (curve_line s n) ≡ 0
+    clean = let (_, e, _) = curve-defined s sound n there in ap fault_of_definition e
 
     shallow : opens_too_many (drop (curve_start s n) s) 0 ≡ false
-    shallow = not-deep s (curve_start s n) clean
+    shallow = not-deep-definition s (curve_start s n) clean
 
     module _ (d : Definition) (h : DefinitionAt s n d) where
       pub definition-faultless : definition_fault d ≡ 0
       definition-faultless = sym (definition-fault s d (curve_start s n) h.0 shallow h.1) ∙ clean
 
       -- what the check tells of it
-      told : ((curve_line s n).number ≡ d.number) × ((curve_line s n).curve ≡ curve_in d)
+      told : curve_line s n ≡ Ok (record { number = d.number; curve = curve_in d; end = curve_start s n + length (definition_front d) })
       unfolding defined_from judged_curve definition_fault
-      told =
-          let e = definition-agrees s d (curve_start s n) h.0 shallow h.1 ∙ chosen _ _ _ (eq-eqb (definition_fault d) 0 definition-faultless) in
-          (ap (λ (x : Told). x.number) e, ap (λ (x : Told). x.curve) e)
+      told = definition-agrees s d (curve_start s n) h.0 shallow h.1 ∙ chosen _ _ _ (eq-eqb (definition_fault d) 0 definition-faultless)
+
+      pub told-curve : defined_curve s n ≡ curve_in d
+      told-curve = ap curve_in_line told
 
       pub definition-number : d.number ≡ n
-      definition-number = sym told.0 ∙ (curve-defined s sound n there).1
+      definition-number =
+          let (x, e, m) = curve-defined s sound n there in
+          let t = told in
+          let same : x ≡ record { number = d.number; curve = curve_in d; end = curve_start s n + length (definition_front d) } = cc in
+          sym (ap (λ (y : Told). y.number) same) ∙ m
 
     -- EACH CURVE OF A SOUND SET HAS A DEFINITION
     pub definition-found : (d : Definition) × DefinitionAt s n d
@@ -85,7 +81,7 @@ module _ (s : List ℕ) (sound : (sound_lines s).sound ≡ true) where
   definitions-curves ds h n there =
       let (d, o, e) = h.has n there in
       let (f, p, g, c) = first-named ds n d o e in
-      (told n there f (rw g at (h.stands f p))).1 ∙ c
+      told-curve n there f (rw g at (h.stands f p)) ∙ c
 
   -- ---- the definitions of a set
 

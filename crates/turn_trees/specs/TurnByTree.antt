@@ -20,7 +20,7 @@ use Rattle.grammar.specs.AgreementLaws.{stands-place}
 use Rattle.grammar.specs.AgreementFault.{do-ends, line-stands}
 use Rattle.engine.specs.Set.{no_line}
 use Rattle.engine.specs.Keyword.{acts, remembers, tries}
-use Rattle.engine.specs.Action.{World, Did, from_value_or_alarm}
+use Rattle.engine.specs.Action.{World, Did, from_reached}
 use Rattle.engine.specs.Turn.{Entry, worked, lock_entry, Turned, remembered, counted, takes_turn, do_turn, try_turn, turn_of, turns_from}
 use Rattle.soundness.specs.WriteSoundLaws.{lower-zero, unless-zero}
 use Rattle.turn_trees.specs.TurnTree.{Names, ActionsDone, condition_tree, actions_tree, do_tree, try_tree, takes_tree, turn_tree, turns_tree}
@@ -81,7 +81,7 @@ module _ (s numbers : List ℕ) (names : Names) (automatic : Bool) where
       let m = get_or x.memory k false in
       let t = parts_from p (line w v n c a r) in
       alike (tries kw m)
-      (bind_is (from_value_or_alarm (condition_value s x.vars.r x.vars.cells (p + 4))) (condition_tree x.vars e)
+      (bind_is (from_reached (condition_value s x.vars.r x.vars.cells (p + 4))) (condition_tree x.vars e)
       (condition-tree s x.vars e (p + 4) y.doing (omega arith) (rw four at y.condition.1) (rw y.begins do-ends))
       (λ b. do_turn s numbers names.cancelled automatic t k (remembered x k (remembers kw m b)) (worked k b ∷ []) (acts kw m b))
       (λ b. do_tree names n k (remembered x k (remembers kw m b)) (worked k b ∷ []) a r (acts kw m b))

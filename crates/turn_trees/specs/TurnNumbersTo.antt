@@ -10,7 +10,7 @@ use Rattle.grammar.specs.TreeFault.{is_removal_tree}
 use Rattle.grammar.specs.NumbersTo.{operand_to, sum_to, expression_to, action_to, condition_to, numbers_to, definition_to}
 use Rattle.grammar.specs.NumbersToLaws.{Keeps, bind-same, removal-same, to-right-value, to-condition-value, to-curve}
 use Rattle.engine.specs.Keyword.{acts, remembers, tries}
-use Rattle.engine.specs.Write.{Vars}
+use Rattle.engine.specs.declared.write.Vars.{Vars}
 use Rattle.engine.specs.Action.{World}
 use Rattle.engine.specs.Turn.{Entry, worked, remembered, counted}
 use Rattle.turn_trees.specs.TurnTree.{Names, oldest_taken, value_taken, taken_tree, condition_tree, assign_tree, action_tree, actions_tree, do_tree, try_tree, takes_tree, turn_tree, turns_tree, names_of, curve_named}

@@ -9,7 +9,7 @@ use Rattle.std.specs.Prelude.{◌≡◌, refl, Bool, true, false, List, [], ◌�
 use Rattle.values.specs.Codes.{zero_divisor}
 use Rattle.values.specs.Complement.{twos_complement}
 use Rattle.values.specs.Value.{in_range, valued, sum_of, difference_of, product_of, quotient_of, less_than, equal_to, nearest_units, marker_of}
-use Rattle.values.specs.Curve.{◌times◌, ◌plus◌, polynomial_of, limited_to, curve_of}
+use Rattle.values.specs.Curve.{polynomial_of, limited_to, curve_of}
 use Rattle.values.specs.Fifo.{fits, append_answer, appended, shifted, remove_answer, removed, count_of}
 use Rattle.tokens.specs.Token.{SAME, ATLEAST, MORE, MINUS, PLUS, TIMES, OVER, ID, IDS, WHEN, WHENEVER, EVERY, IN, MARKER, R, FIFO1, POS, LOCK, UNLOCK, X, max_lines}
 use Rattle.tokens.specs.Descent.{Answer, good, stop, ◌>>=◌}
@@ -126,5 +126,5 @@ abbrev pub expected : Case → Answer Shown
 expected c = c.outcome
 
 pub turn-table : map outcome_of turn_cases ≡ map expected turn_cases
-unfolding turn_cases five_lines one_curve curve_named curve_in curve_assigned curve_of polynomial_of ◌times◌ ◌plus◌ limited_to turns_tree turn_tree takes_tree try_tree do_tree actions_tree action_tree lock_tree assign_tree condition_tree taken_tree is_removal_tree operand_meaning value_over variable_value is_inside cell_of beat_count fifo_value fifo_at join_logic join_truths join_values in_range valued sum_of difference_of product_of quotient_of less_than equal_to nearest_units marker_of fits append_answer appended shifted remove_answer removed count_of change_answer changed change_fifo write_fifo write_cell write_inside write_to drive_order twos_complement four_bytes order_bytes rank_in power_on fresh_channels thousandths_of signed_thousandths nearest_even all_good values_sampled sampled_all grown_cells input_cells beat_cells beat_begun acts remembers tries
+unfolding turn_cases five_lines one_curve curve_named curve_in curve_assigned curve_of polynomial_of limited_to turns_tree turn_tree takes_tree try_tree do_tree actions_tree action_tree lock_tree assign_tree condition_tree taken_tree is_removal_tree operand_meaning value_over variable_value is_inside cell_of beat_count fifo_value fifo_at join_logic join_truths join_values in_range valued sum_of difference_of product_of quotient_of less_than equal_to nearest_units marker_of fits append_answer appended shifted remove_answer removed count_of change_answer changed change_fifo write_fifo write_cell write_inside write_to drive_order twos_complement four_bytes order_bytes rank_in power_on fresh_channels thousandths_of signed_thousandths nearest_even all_good values_sampled sampled_all grown_cells input_cells beat_cells beat_begun acts remembers tries
 turn-table = refl

@@ -3,7 +3,7 @@ use Rattle.std.specs.Prelude.{Bool, true, false, not as is_not, ◌&&◌, ◌||�
 use Rattle.values.specs.declared.curve.Curve.{Curve}
 use Rattle.tokens.specs.Token.{IDS, IM, SETAL, LOCK, axis_of}
 use Rattle.tokens.specs.Descent.{Answer, good, ◌>>=◌}
-use Rattle.checking.specs.CurveDefinition.{faulty_definition}
+use Rattle.checking.specs.CurveDefinition.{no_curve}
 use Rattle.working.specs.Variables.{variable_value}
 use Rattle.working.specs.Operators.{is_yes, from_worked}
 use Rattle.working.specs.Working.{value_over}
@@ -12,7 +12,9 @@ use Rattle.grammar.specs.Meaning.{sum_meaning, expression_meaning}
 use Rattle.grammar.specs.TreeFault.{is_removal_tree, curve_in}
 use Rattle.engine.specs.declared.order.Kind.TheVariants as K
 use Rattle.engine.specs.Set.{rank_in}
-use Rattle.engine.specs.Write.{Vars, change_fifo, with_changed, write_to}
+use Rattle.engine.specs.declared.write.Change.TheVariants.{Remove}
+use Rattle.engine.specs.declared.write.Vars.{Vars}
+use Rattle.engine.specs.Write.{change_fifo, with_changed, write_to}
 use Rattle.engine.specs.Drive.{drive_order, order_of}
 use Rattle.engine.specs.Keyword.{acts, remembers, tries}
 use Rattle.engine.specs.Action.{World, Note, ordered, with_vars, with_lock, curve_assigned}
@@ -37,7 +39,7 @@ value_taken x a = sum_meaning (value_over x.r x.cells) a >>= λ v. good (record 
 
 -- the oldest value of the FIFO with the word w, which is removed
 abbrev pub oldest_taken : Vars → ℕ → Answer RightTaken
-oldest_taken x w = change_fifo x.r x.cells 1 w (pos 0) >>= λ c. good (record { value = c.value; vars = with_changed x c })
+oldest_taken x w = change_fifo x.r x.cells Remove w >>= λ c. good (record { value = c.value; vars = with_changed x c })
 
 -- the right side of an assignment to a variable: FIFO [0] as the whole of it removes the oldest
 unfoldable pub taken_tree : Vars → Sum → Answer RightTaken
@@ -135,5 +137,5 @@ names_of ls curves cancelled = record { numbers = map tree_number ls; cancelled 
 
 -- the curve that the number n names by some definitions: that of the first with the number; the zero curve where there is none
 unfoldable pub curve_named : List Definition → ℕ → Curve
-curve_named [] n = (faulty_definition 0).curve
+curve_named [] n = no_curve
 curve_named (d ∷ ds) n = elim (eqb d.number n) [ true ↦ curve_in d | false ↦ curve_named ds n ]

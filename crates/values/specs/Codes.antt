@@ -1,5 +1,7 @@
 -- The codes of document 01 ("Codes") and document 02, each named once; 0 is success. Definitions only.
-use Rattle.std.specs.Prelude.{ℕ}
+use Rattle.std.specs.Prelude.{cond, ℕ, eqb, Result, Ok, Err}
+use Rattle.values.specs.declared.codes.Alarm.{Alarm}
+use Rattle.values.specs.declared.codes.Alarm.TheVariants.{OutOfRange, ZeroDivisor, FifoEmpty, FifoFull, NotAllowed, Unsound}
 
 -- text above 4,096 bytes
 abbrev pub too_long : ℕ
@@ -100,3 +102,26 @@ not_allowed = 34
 -- host names a line not in the set, or cancelled
 abbrev pub unknown_line : ℕ
 unknown_line = 40
+
+-- the code of an alarm
+abbrev pub code_of : Alarm → ℕ
+code_of OutOfRange = out_of_range
+code_of ZeroDivisor = zero_divisor
+code_of FifoEmpty = fifo_empty
+code_of FifoFull = fifo_full
+code_of NotAllowed = not_allowed
+code_of Unsound = unsound
+
+-- the alarm with a code; `Unsound` where none has it
+abbrev pub alarm_with : ℕ → Alarm
+alarm_with k =
+    cond (eqb k out_of_range) OutOfRange
+    (cond (eqb k zero_divisor) ZeroDivisor
+    (cond (eqb k fifo_empty) FifoEmpty
+    (cond (eqb k fifo_full) FifoFull
+    (cond (eqb k not_allowed) NotAllowed Unsound))))
+
+-- the code of an answer
+abbrev pub answer_code : {A : Type 0} → Result A Alarm → ℕ
+answer_code (Ok x) = 0
+answer_code (Err a) = code_of a

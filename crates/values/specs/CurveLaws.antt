@@ -1,9 +1,8 @@
 -- Laws of curves: what follows from the definitions of Curve.
-use Rattle.std.specs.Prelude.{◌≡◌, refl, Bool, true, false, cond, ℕ, ℤ, pos, negsuc}
+use Rattle.std.specs.Prelude.{◌≡◌, refl, Bool, true, false, cond, ℤ, pos, negsuc, Result, Ok, Err}
 use Rattle.std.proofs.Common.{ap, le_refl, arith, ltb-false, le-ltb}
-use Rattle.values.specs.Codes.{out_of_range}
-use Rattle.values.specs.declared.arithmetic.Worked.{Worked}
-use Rattle.values.specs.declared.arithmetic.Worked.TheVariants.{Value, Alarm}
+use Rattle.values.specs.declared.codes.Alarm.{Alarm}
+use Rattle.values.specs.declared.codes.Alarm.TheVariants.{OutOfRange}
 use Rattle.values.specs.declared.curve.Curve.{Curve}
 use Rattle.values.specs.Value.{in_range, valued, sum_of, product_of, less_than}
 use Rattle.values.specs.Numbers.{clash}
@@ -33,12 +32,12 @@ abbrev pub Between : ℤ → ℤ → ℤ → Type 0
 Between l u y = (less_than y l ≡ false) × (less_than u y ≡ false)
 
 -- what holds of a curve's value is shown of the polynomial's, held between the limits
-limits-holds : (P : ℤ → Type 0) (c : Curve) (w : Worked) (y : ℤ) → limits c w ≡ Value y → ((v : ℤ) → w ≡ Value v → P (limited_to c.lower c.upper v)) → P y
-limits-holds P c (Value v) y e f = let k : limited_to c.lower c.upper v ≡ y = cc in rw (← k) (f v refl)
-limits-holds P c (Alarm k) y e f = clash (cc)
+limits-holds : (P : ℤ → Type 0) (c : Curve) (w : Result ℤ Alarm) (y : ℤ) → limits c w ≡ Ok y → ((v : ℤ) → w ≡ Ok v → P (limited_to c.lower c.upper v)) → P y
+limits-holds P c (Ok v) y e f = let k : limited_to c.lower c.upper v ≡ y = cc in rw (← k) (f v refl)
+limits-holds P c (Err k) y e f = clash (cc)
 
 -- A CURVE'S VALUE LIES BETWEEN ITS LIMITS, where the lower one is not above the upper one
-pub curve-limited : (c : Curve) (x y : ℤ) → less_than c.upper c.lower ≡ false → curve_of c x ≡ Value y → Between c.lower c.upper y
+pub curve-limited : (c : Curve) (x y : ℤ) → less_than c.upper c.lower ≡ false → curve_of c x ≡ Ok y → Between c.lower c.upper y
 unfolding curve_of
 curve-limited c x y h e =
     limits-holds (Between l u) c (polynomial_of c x) y e
@@ -51,7 +50,7 @@ curve-limited c x y h e =
     u = c.upper
 
 -- between the limits the polynomial's value stays as it is
-pub curve-between : (c : Curve) (x y : ℤ) → polynomial_of c x ≡ Value y → Between c.lower c.upper y → curve_of c x ≡ Value y
+pub curve-between : (c : Curve) (x y : ℤ) → polynomial_of c x ≡ Ok y → Between c.lower c.upper y → curve_of c x ≡ Ok y
 unfolding curve_of limited_to
 curve-between c x y e h = rw (e, h.0, h.1)
 
@@ -64,7 +63,7 @@ neither-below (negsuc m) (pos n) p q = clash (cc)
 neither-below (negsuc m) (negsuc n) p q = let e : m ≡ n = omega (arith, ltb-false n m p, ltb-false m n q) in ap negsuc e
 
 -- with equal limits a curve is flat
-pub curve-flat : (c : Curve) (x y : ℤ) → c.upper ≡ c.lower → curve_of c x ≡ Value y → y ≡ c.lower
+pub curve-flat : (c : Curve) (x y : ℤ) → c.upper ≡ c.lower → curve_of c x ≡ Ok y → y ≡ c.lower
 unfolding curve_of
 curve-flat c x y h e =
     limits-holds (λ (z : ℤ). z ≡ c.lower) c (polynomial_of c x) y e
@@ -75,22 +74,21 @@ curve-flat c x y h e =
 -- where each of the six steps gives a value, the limits hold the last of them
 pub curve-steps :
     (c : Curve) (x p q r s t y : ℤ) →
-    product_of c.a3 x ≡ Value p →
-    sum_of p c.a2 ≡ Value q →
-    product_of q x ≡ Value r →
-    sum_of r c.a1 ≡ Value s →
-    product_of s x ≡ Value t →
-    sum_of t c.a0 ≡ Value y →
-    curve_of c x ≡ Value (limited_to c.lower c.upper y)
-unfolding curve_of polynomial_of ◌times◌ ◌plus◌
+    product_of c.a3 x ≡ Ok p →
+    sum_of p c.a2 ≡ Ok q →
+    product_of q x ≡ Ok r →
+    sum_of r c.a1 ≡ Ok s →
+    product_of s x ≡ Ok t →
+    sum_of t c.a0 ≡ Ok y →
+    curve_of c x ≡ Ok (limited_to c.lower c.upper y)
+unfolding curve_of polynomial_of
 curve-steps c x p q r s t y e3 f2 e2 f1 e1 f0 = rw (e3, f2, e2, f1, e1, f0)
 
 -- ---- the range
 
-plus-in-range : (w : Worked) (a : ℤ) → Ranged (w plus a)
-unfolding ◌plus◌
-plus-in-range (Value y) a = sum-in-range y a
-plus-in-range (Alarm k) a = λ v e. clash (cc)
+plus-in-range : (w : Result ℤ Alarm) (a : ℤ) → Ranged (w plus a)
+plus-in-range (Ok y) a = sum-in-range y a
+plus-in-range (Err k) a = λ v e. clash (cc)
 
 -- a polynomial's value is in range
 pub polynomial-in-range : (c : Curve) (x : ℤ) → Ranged (polynomial_of c x)
@@ -110,33 +108,33 @@ curve-in-range c x hl hu y e =
 -- ---- alarms
 
 -- no alarm but 30
-abbrev pub Only30 : Worked → Type 0
-Only30 w = (k : ℕ) → w ≡ Alarm k → k ≡ out_of_range
+abbrev pub Only30 : Result ℤ Alarm → Type 0
+Only30 w = (k : Alarm) → w ≡ Err k → k ≡ OutOfRange
 
 valued-30 : (z : ℤ) → Only30 (valued z)
 unfolding valued
 valued-30 z k e = by-test (in_range z) e
   where
-    by-test : (b : Bool) → cond b (Value z) (Alarm out_of_range) ≡ Alarm k → k ≡ out_of_range
+    by-test : (b : Bool) → cond b (Ok z) (Err OutOfRange) ≡ Err k → k ≡ OutOfRange
     by-test true f = clash (cc)
     by-test false f = cc
 
-times-30 : (w : Worked) (x : ℤ) → Only30 w → Only30 (w times x)
-unfolding ◌times◌ product_of
-times-30 (Value y) x h = valued-30 _
-times-30 (Alarm k) x h = h
+times-30 : (w : Result ℤ Alarm) (x : ℤ) → Only30 w → Only30 (w times x)
+unfolding product_of
+times-30 (Ok y) x h = valued-30 _
+times-30 (Err k) x h = h
 
-plus-30 : (w : Worked) (a : ℤ) → Only30 w → Only30 (w plus a)
-unfolding ◌plus◌ sum_of
-plus-30 (Value y) a h = valued-30 _
-plus-30 (Alarm k) a h = h
+plus-30 : (w : Result ℤ Alarm) (a : ℤ) → Only30 w → Only30 (w plus a)
+unfolding sum_of
+plus-30 (Ok y) a h = valued-30 _
+plus-30 (Err k) a h = h
 
-limits-30 : (c : Curve) (w : Worked) → Only30 w → Only30 (limits c w)
-limits-30 c (Value y) h = λ k e. clash (cc)
-limits-30 c (Alarm j) h = h
+limits-30 : (c : Curve) (w : Result ℤ Alarm) → Only30 w → Only30 (limits c w)
+limits-30 c (Ok y) h = λ k e. clash (cc)
+limits-30 c (Err j) h = h
 
 -- a curve raises no alarm but 30
 pub curve-alarm : (c : Curve) (x : ℤ) → Only30 (curve_of c x)
 unfolding curve_of polynomial_of
 curve-alarm c x =
-    limits-30 c _ (plus-30 _ c.a0 (times-30 _ x (plus-30 _ c.a1 (times-30 _ x (plus-30 _ c.a2 (times-30 (Value c.a3) x λ k e. clash (cc)))))))
+    limits-30 c _ (plus-30 _ c.a0 (times-30 _ x (plus-30 _ c.a1 (times-30 _ x (plus-30 _ c.a2 (times-30 (Ok c.a3) x λ k e. clash (cc)))))))

@@ -1,11 +1,10 @@
 -- Document 02's worked examples of curves, as computed theorems.
-use Rattle.std.specs.Prelude.{refl, List, [], ◌∷◌, ℤ, pos, negsuc}
-use Rattle.values.specs.Codes.{out_of_range}
-use Rattle.values.specs.declared.arithmetic.Worked.TheVariants.{Value, Alarm}
+use Rattle.std.specs.Prelude.{refl, List, [], ◌∷◌, ℤ, pos, negsuc, Ok, Err}
+use Rattle.values.specs.declared.codes.Alarm.TheVariants.{OutOfRange}
 use Rattle.values.specs.declared.curve.Curve.{Curve}
 use Rattle.values.specs.Value.{in_range, valued, sum_of, product_of, less_than}
 use Rattle.values.specs.ValueTable.{Case, Holds}
-use Rattle.values.specs.Curve.{◌times◌, ◌plus◌, polynomial_of, limited_to, curve_of}
+use Rattle.values.specs.Curve.{polynomial_of, limited_to, curve_of}
 
 -- a straight line between two limits
 abbrev straight : ℤ → ℤ → ℤ → ℤ → Curve
@@ -23,24 +22,24 @@ steep = straight (negsuc 99999) (pos 100000) (pos 500000) (negsuc 99999)
 unfoldable pub curve_cases : List Case
 curve_cases =
     -- 100 at 30
-    record { gives = curve_of falling (pos 30000); says = Value (pos 100000) }
+    record { gives = curve_of falling (pos 30000); says = Ok (pos 100000) }
     -- 0 at 80
-    ∷ record { gives = curve_of falling (pos 80000); says = Value (pos 0) }
+    ∷ record { gives = curve_of falling (pos 80000); says = Ok (pos 0) }
     -- 120 at 10, held by the upper limit
-    ∷ record { gives = curve_of falling (pos 10000); says = Value (pos 120000) }
+    ∷ record { gives = curve_of falling (pos 10000); says = Ok (pos 120000) }
     -- 0 at 5
-    ∷ record { gives = curve_of steep (pos 5000); says = Value (pos 0) }
+    ∷ record { gives = curve_of steep (pos 5000); says = Ok (pos 0) }
     -- -100 at 6
-    ∷ record { gives = curve_of steep (pos 6000); says = Value (negsuc 99999) }
+    ∷ record { gives = curve_of steep (pos 6000); says = Ok (negsuc 99999) }
     -- -100 at 7, held by the lower limit
-    ∷ record { gives = curve_of steep (pos 7000); says = Value (negsuc 99999) }
+    ∷ record { gives = curve_of steep (pos 7000); says = Ok (negsuc 99999) }
     -- a step beyond the range gives 30, though the limits would hold it (reading D22)
-    ∷ record { gives = curve_of steep (pos 1000000000); says = Alarm out_of_range }
+    ∷ record { gives = curve_of steep (pos 1000000000); says = Err OutOfRange }
     -- limits that are equal leave one value (reading D25)
-    ∷ record { gives = curve_of (straight (pos 7000) (pos 7000) (pos 0) (pos 1000)) (pos 9000); says = Value (pos 7000) }
+    ∷ record { gives = curve_of (straight (pos 7000) (pos 7000) (pos 0) (pos 1000)) (pos 9000); says = Ok (pos 7000) }
     ∷ []
 
 -- document 02's examples hold
 pub curve-table : Holds curve_cases
-unfolding Holds curve_cases curve_of polynomial_of ◌times◌ ◌plus◌ limited_to less_than valued in_range sum_of product_of
+unfolding Holds curve_cases curve_of polynomial_of limited_to less_than valued in_range sum_of product_of
 curve-table = (refl, (refl, (refl, (refl, (refl, (refl, (refl, (refl, tt))))))))

@@ -1,11 +1,10 @@
 -- Laws of the cut: the size cut, with the sign put back, is the cut toward zero of Value.
-use Rattle.std.specs.Prelude.{◌≡◌, refl, cond, ℕ, zero, suc, ◌*◌, eqb, ℤ, pos, negsuc, nat_abs, neg_ℤ, ◌*ℤ◌}
+use Rattle.std.specs.Prelude.{◌≡◌, refl, cond, ℕ, zero, suc, ◌*◌, eqb, ℤ, pos, negsuc, nat_abs, neg_ℤ, ◌*ℤ◌, Err}
 use Rattle.std.proofs.Common.{sym, ap}
 use Rattle.std.proofs.Math.Nat.{zero-div}
 use Rattle.std.specs.Int.Signed.{quot_z}
-use Rattle.values.specs.Codes.{zero_divisor}
+use Rattle.values.specs.declared.codes.Alarm.TheVariants.{ZeroDivisor}
 use Rattle.values.specs.Size.{is_negative, signed_number}
-use Rattle.values.specs.declared.arithmetic.Worked.TheVariants.{Alarm}
 use Rattle.values.specs.Value.{unit, valued, product_of, quotient_of}
 use Rattle.values.specs.SizeLaws.{negative-quotient}
 use Rattle.values.specs.Cut.{cut_size, differ, product_by_size, quotient_by_size}
@@ -36,4 +35,4 @@ product-by-size a b = ap valued (product-cut a b)
 
 pub quotient-by-size : (a b : ℤ) → quotient_by_size a b ≡ quotient_of a b
 unfolding quotient_by_size quotient_of
-quotient-by-size a b = ap (λ (z : ℤ). cond (eqb (nat_abs b) 0) (Alarm zero_divisor) (valued z)) (quotient-cut a b)
+quotient-by-size a b = ap (λ (z : ℤ). cond (eqb (nat_abs b) 0) (Err ZeroDivisor) (valued z)) (quotient-cut a b)

@@ -1,29 +1,14 @@
 -- FIFOs: the first places of a part of sixteen, oldest first (document 01, "Values and time").
 -- A definition takes the part and the count; ..Answer is what the call answers, the name beside it the part afterwards.
 -- Definitions only; FifoLaws tells them on the FIFO's contents.
-use Rattle.std.specs.Prelude.{◌≡◌, Bool, cond, ◌&&◌, List, [], ◌∷◌, ◌++◌, ℕ, zero, suc, ◌+◌, ◌-◌, ◌*◌, ◌≤◌, eqb, leb, ℤ, pos, ◌+ℤ◌, length, take, drop, get_or, set, replicate}
-use Rattle.values.specs.Codes.{unsound, fifo_empty, fifo_full, not_allowed}
-use Rattle.values.specs.declared.arithmetic.Worked.{Worked}
-use Rattle.values.specs.declared.arithmetic.Worked.TheVariants as W
+use Rattle.std.specs.Prelude.{◌≡◌, Bool, cond, ◌&&◌, List, [], ◌∷◌, ◌++◌, ℕ, zero, suc, ◌+◌, ◌-◌, ◌*◌, ◌≤◌, eqb, leb, ℤ, pos, ◌+ℤ◌, length, take, drop, get_or, set, replicate, Result, Ok, Err}
+use Rattle.values.specs.declared.codes.Alarm.{Alarm}
+use Rattle.values.specs.declared.codes.Alarm.TheVariants.{FifoEmpty, FifoFull, NotAllowed, Unsound}
 use Rattle.values.specs.declared.fifo.Moved.{Moved}
-use Rattle.values.specs.declared.fifo.Moved.TheVariants as M
-use Rattle.values.specs.declared.fifo.FifoValue.{FifoValue}
-use Rattle.values.specs.declared.fifo.FifoValue.TheVariants as S
-use Rattle.values.specs.Value.{unit, code_of, equal_to, valued}
+use Rattle.values.specs.Value.{unit, equal_to, valued}
 
 abbrev pub places : ℕ
 places = 16
-
--- document 01's code of an answer
-abbrev pub moved_code : Moved → ℕ
-moved_code (M.Done v n) = 0
-moved_code (M.Alarm k) = k
-moved_code M.Unfit = unsound
-
-abbrev pub fifo_value_code : FifoValue → ℕ
-fifo_value_code (S.Value v) = 0
-fifo_value_code (S.Alarm k) = k
-fifo_value_code S.Unfit = unsound
 
 -- the values of a FIFO, oldest first
 abbrev pub contents : List ℤ → ℕ → List ℤ
@@ -33,19 +18,22 @@ contents xs n = take n xs
 abbrev pub Unused : List ℤ → ℕ → Type 0
 Unused xs n = (i : ℕ) → n ≤ i → get_or xs i (pos 0) ≡ pos 0
 
+-- a change that was done: the value that went in or out, and the new count
+abbrev pub change_of : ℤ → ℕ → Result Moved Alarm
+change_of v n = Ok (record { value = v; count = n })
+
 -- the count after a change: the new one where it was done
-abbrev pub count_after : Moved → ℕ → ℕ
-count_after (M.Done v k) n = k
-count_after (M.Alarm a) n = n
-count_after M.Unfit n = n
+abbrev pub count_after : Result Moved Alarm → ℕ → ℕ
+count_after (Ok m) n = m.count
+count_after (Err a) n = n
 
 -- so many places with so many in use are a FIFO
 unfoldable pub fits : ℕ → ℕ → Bool
 fits size n = eqb size places && leb n places
 
 -- writing [0] appends; a full FIFO gives alarm 33
-unfoldable pub append_answer : List ℤ → ℕ → ℤ → Moved
-append_answer xs n v = cond (fits (length xs) n) (cond (eqb n places) (M.Alarm fifo_full) (M.Done v (n + 1))) M.Unfit
+unfoldable pub append_answer : List ℤ → ℕ → ℤ → Result Moved Alarm
+append_answer xs n v = cond (fits (length xs) n) (cond (eqb n places) (Err FifoFull) (change_of v (n + 1))) (Err Unsound)
 
 unfoldable pub appended : List ℤ → ℕ → ℤ → List ℤ
 appended xs n v = cond (fits (length xs) n) (cond (eqb n places) xs (set xs n v)) xs
@@ -55,21 +43,21 @@ unfoldable pub shifted : List ℤ → ℕ → List ℤ
 shifted xs n = take (n - 1) (drop 1 xs) ++ (pos 0 ∷ drop n xs)
 
 -- reading [0] gives the oldest and removes it; an empty FIFO gives alarm 32
-unfoldable pub remove_answer : List ℤ → ℕ → Moved
-remove_answer xs n = cond (fits (length xs) n) (cond (eqb n 0) (M.Alarm fifo_empty) (M.Done (get_or xs 0 (pos 0)) (n - 1))) M.Unfit
+unfoldable pub remove_answer : List ℤ → ℕ → Result Moved Alarm
+remove_answer xs n = cond (fits (length xs) n) (cond (eqb n 0) (Err FifoEmpty) (change_of (get_or xs 0 (pos 0)) (n - 1))) (Err Unsound)
 
 unfoldable pub removed : List ℤ → ℕ → List ℤ
 removed xs n = cond (fits (length xs) n) (cond (eqb n 0) xs (shifted xs n)) xs
 
 -- the value at a place; an empty FIFO gives alarm 32
-abbrev pub value_at : List ℤ → ℕ → ℕ → FifoValue
-value_at xs n i = cond (fits (length xs) n) (cond (eqb n 0) (S.Alarm fifo_empty) (S.Value (get_or xs i (pos 0)))) S.Unfit
+abbrev pub value_at : List ℤ → ℕ → ℕ → Result ℤ Alarm
+value_at xs n i = cond (fits (length xs) n) (cond (eqb n 0) (Err FifoEmpty) (Ok (get_or xs i (pos 0)))) (Err Unsound)
 
 -- [1] reads the oldest, [2] the newest
-unfoldable pub oldest_of : List ℤ → ℕ → FifoValue
+unfoldable pub oldest_of : List ℤ → ℕ → Result ℤ Alarm
 oldest_of xs n = value_at xs n 0
 
-unfoldable pub newest_of : List ℤ → ℕ → FifoValue
+unfoldable pub newest_of : List ℤ → ℕ → Result ℤ Alarm
 newest_of xs n = value_at xs n (n - 1)
 
 -- the exact sum of the first n places
@@ -82,25 +70,21 @@ unfoldable pub sum_all : List ℤ → ℤ
 sum_all [] = pos 0
 sum_all (x ∷ xs) = x +ℤ sum_all xs
 
-abbrev pub as_fifo_value : Worked → FifoValue
-as_fifo_value (W.Value v) = S.Value v
-as_fifo_value (W.Alarm k) = S.Alarm (code_of (W.Alarm k))
-
 -- [3] reads the exact sum, alarm 30 if it is out of range
-unfoldable pub total_of : List ℤ → ℕ → FifoValue
-total_of xs n = cond (fits (length xs) n) (as_fifo_value (valued (sum_first xs n))) S.Unfit
+unfoldable pub total_of : List ℤ → ℕ → Result ℤ Alarm
+total_of xs n = cond (fits (length xs) n) (valued (sum_first xs n)) (Err Unsound)
 
 -- [4] reads the count, as a value: in whole units
-unfoldable pub count_of : List ℤ → ℕ → FifoValue
-count_of xs n = cond (fits (length xs) n) (S.Value (pos (n * unit))) S.Unfit
+unfoldable pub count_of : List ℤ → ℕ → Result ℤ Alarm
+count_of xs n = cond (fits (length xs) n) (Ok (pos (n * unit))) (Err Unsound)
 
 -- every place 0
 unfoldable pub cleared : List ℤ → List ℤ
 cleared xs = replicate (length xs) (pos 0)
 
 -- writing 0 to [4] empties; another value there gives alarm 34
-unfoldable pub empty_answer : List ℤ → ℕ → ℤ → Moved
-empty_answer xs n v = cond (fits (length xs) n) (cond (equal_to v (pos 0)) (M.Done (pos 0) 0) (M.Alarm not_allowed)) M.Unfit
+unfoldable pub empty_answer : List ℤ → ℕ → ℤ → Result Moved Alarm
+empty_answer xs n v = cond (fits (length xs) n) (cond (equal_to v (pos 0)) (change_of (pos 0) 0) (Err NotAllowed)) (Err Unsound)
 
 unfoldable pub emptied : List ℤ → ℕ → ℤ → List ℤ
 emptied xs n v = cond (fits (length xs) n) (cond (equal_to v (pos 0)) (cleared xs) xs) xs

@@ -1,5 +1,5 @@
 -- Laws of FIFOs: the definitions of Fifo told on a FIFO's contents, and what every change keeps.
-use Rattle.std.specs.Prelude.{◌≡◌, Bool, cond, ◌&&◌, List, [], ◌∷◌, ◌++◌, leb, ℤ, pos, ◌+ℤ◌, take, set, replicate}
+use Rattle.std.specs.Prelude.{◌≡◌, Bool, cond, ◌&&◌, List, [], ◌∷◌, ◌++◌, leb, ℤ, pos, ◌+ℤ◌, take, set, replicate, Result, Ok, Err}
 use Rattle.std.proofs.Math.Path.{refl, ap}
 use Rattle.std.proofs.Common.{sym, ◌∙◌, add-one, length-append, length-take, length-drop, length-set, length-take-le, take_at, take-suc, take-suc-set, get_or-set_same, get_or-set_other}
 use Rattle.std.proofs.Math.Bool.{true, false}
@@ -12,15 +12,12 @@ use Rattle.std.proofs.Math.ListN.{length, drop, get_or, get_or-append, get_or-eq
 use Rattle.std.proofs.lemmas.List.{length-replicate, get_or-replicate}
 use Rattle.std.proofs.Math.Seq.{get_or_at, get_or-take, get_or-drop, get_or-append-add, set_out}
 use borrow.Author.Tests.{eq-eqb, ne_eqb, le-leb, eqb-true, eqb-false, leb-true}
-use Rattle.values.specs.Codes.{fifo_empty, fifo_full, not_allowed}
-use Rattle.values.specs.declared.fifo.Moved.TheVariants as M
-use Rattle.values.specs.declared.fifo.FifoValue.{FifoValue}
-use Rattle.values.specs.declared.fifo.FifoValue.TheVariants as S
-use Rattle.values.specs.declared.arithmetic.Worked.{Worked}
-use Rattle.values.specs.declared.arithmetic.Worked.TheVariants as W
-use Rattle.values.specs.Value.{unit, in_range, equal_to, valued}
+use Rattle.values.specs.declared.codes.Alarm.{Alarm}
+use Rattle.values.specs.declared.codes.Alarm.TheVariants.{FifoEmpty, FifoFull, NotAllowed, Unsound}
+use Rattle.values.specs.declared.fifo.Moved.{Moved}
+use Rattle.values.specs.Value.{unit, in_range, equal_to}
 use Rattle.values.specs.ValueLaws.{Ranged, valued-in-range, abs-range}
-use Rattle.values.specs.Fifo.{places, contents, Unused, count_after, fits, append_answer, appended, shifted, remove_answer, removed, value_at, oldest_of, newest_of, sum_first, sum_all, as_fifo_value, total_of, count_of, cleared, empty_answer, emptied}
+use Rattle.values.specs.Fifo.{places, contents, Unused, change_of, count_after, fits, append_answer, appended, shifted, remove_answer, removed, value_at, oldest_of, newest_of, sum_first, sum_all, total_of, count_of, cleared, empty_answer, emptied}
 use Rattle.values.specs.Numbers.{clash}
 
 -- ---- a part of sixteen places with at most sixteen in use
@@ -47,7 +44,7 @@ module _ (P : List ℤ → ℕ → Type 0) (xs : List ℤ) (n : ℕ) (same : P x
   unfolding appended append_answer
   append_cases v done = by_tests_lem (fits (length xs) n) (eqb n places) refl refl
     where
-      by_tests_lem : (a b : Bool) → fits (length xs) n ≡ a → eqb n places ≡ b → P (cond a (cond b xs (set xs n v)) xs) (count_after (cond a (cond b (M.Alarm fifo_full) (M.Done v (n + 1))) M.Unfit) n)
+      by_tests_lem : (a b : Bool) → fits (length xs) n ≡ a → eqb n places ≡ b → P (cond a (cond b xs (set xs n v)) xs) (count_after (cond a (cond b (Err FifoFull) (change_of v (n + 1))) (Err Unsound)) n)
       by_tests_lem false b p q = same
       by_tests_lem true true p q = same
       by_tests_lem true false p q = let f = fits-bounds (length xs) n p in done f.0 (omega (arith, f.1, eqb-false n places q))
@@ -57,7 +54,7 @@ module _ (P : List ℤ → ℕ → Type 0) (xs : List ℤ) (n : ℕ) (same : P x
   unfolding removed remove_answer
   remove-cases done = by_tests_lem (fits (length xs) n) (eqb n 0) refl refl
     where
-      by_tests_lem : (a b : Bool) → fits (length xs) n ≡ a → eqb n 0 ≡ b → P (cond a (cond b xs (shifted xs n)) xs) (count_after (cond a (cond b (M.Alarm fifo_empty) (M.Done (get_or xs 0 (pos 0)) (n - 1))) M.Unfit) n)
+      by_tests_lem : (a b : Bool) → fits (length xs) n ≡ a → eqb n 0 ≡ b → P (cond a (cond b xs (shifted xs n)) xs) (count_after (cond a (cond b (Err FifoEmpty) (change_of (get_or xs 0 (pos 0)) (n - 1))) (Err Unsound)) n)
       by_tests_lem false b p q = same
       by_tests_lem true true p q = same
       by_tests_lem true false p q = let f = fits-bounds (length xs) n p in done f.0 (omega (arith, eqb-false n 0 q)) f.1
@@ -67,7 +64,7 @@ module _ (P : List ℤ → ℕ → Type 0) (xs : List ℤ) (n : ℕ) (same : P x
   unfolding emptied empty_answer
   empty-cases v done = by_tests_lem (fits (length xs) n) (equal_to v (pos 0))
     where
-      by_tests_lem : (a b : Bool) → P (cond a (cond b (cleared xs) xs) xs) (count_after (cond a (cond b (M.Done (pos 0) 0) (M.Alarm not_allowed)) M.Unfit) n)
+      by_tests_lem : (a b : Bool) → P (cond a (cond b (cleared xs) xs) xs) (count_after (cond a (cond b (change_of (pos 0) 0) (Err NotAllowed)) (Err Unsound)) n)
       by_tests_lem false b = same
       by_tests_lem true true = done
       by_tests_lem true false = same
@@ -244,74 +241,70 @@ sum-contents xs (suc n) h =
     ∙ ap sum_all (sym (take-suc xs n (pos 0) h))
 
 module _ (xs : List ℤ) (n : ℕ) (e : length xs ≡ places) (l : 0 < n) (h : n ≤ places) where
-  value-contents : (i : ℕ) → i < n → value_at xs n i ≡ S.Value (get_or (contents xs n) i (pos 0))
+  value-contents : (i : ℕ) → i < n → value_at xs n i ≡ Ok (get_or (contents xs n) i (pos 0))
   value-contents i m = rw (fits-holds xs n e h, ne_eqb n 0 (λ q. omega arith), get_or-take n xs i (pos 0) m)
 
   -- the oldest is the first of the contents
-  pub oldest-contents : oldest_of xs n ≡ S.Value (get_or (contents xs n) 0 (pos 0))
+  pub oldest-contents : oldest_of xs n ≡ Ok (get_or (contents xs n) 0 (pos 0))
   unfolding oldest_of
   oldest-contents = value-contents 0 l
 
   -- the newest is the last of the contents
-  pub newest-contents : newest_of xs n ≡ S.Value (get_or (contents xs n) (n - 1) (pos 0))
+  pub newest-contents : newest_of xs n ≡ Ok (get_or (contents xs n) (n - 1) (pos 0))
   unfolding newest_of
   newest-contents = value-contents (n - 1) (omega arith)
 
 -- ---- what is read is in range
 
--- what a reading gives is in range whenever it is a value
-abbrev pub FifoValueRanged : FifoValue → Type 0
-FifoValueRanged s = (v : ℤ) → s ≡ S.Value v → in_range v ≡ true
-
-value-ranged : (z : ℤ) → in_range z ≡ true → FifoValueRanged (S.Value z)
+value-ranged : (z : ℤ) → in_range z ≡ true → Ranged (Ok z)
 value-ranged z h v e = let q : z ≡ v = cc in rw (← q) h
 
-alarm-ranged : (k : ℕ) → FifoValueRanged (S.Alarm k)
+alarm-ranged : (k : Alarm) → Ranged (Err k)
 alarm-ranged k v e = clash (cc)
 
 -- where part and count are no FIFO there is no value
-fit-ranged : (b : Bool) (s : FifoValue) → (b ≡ true → FifoValueRanged s) → FifoValueRanged (cond b s S.Unfit)
+fit-ranged : (b : Bool) (s : Result ℤ Alarm) → (b ≡ true → Ranged s) → Ranged (cond b s (Err Unsound))
 fit-ranged true s r v e = r refl v e
 fit-ranged false s r v e = clash (cc)
 
-place-ranged : (b : Bool) (z : ℤ) → in_range z ≡ true → FifoValueRanged (cond b (S.Alarm fifo_empty) (S.Value z))
-place-ranged true z h = alarm-ranged fifo_empty
+place-ranged : (b : Bool) (z : ℤ) → in_range z ≡ true → Ranged (cond b (Err FifoEmpty) (Ok z))
+place-ranged true z h = alarm-ranged FifoEmpty
 place-ranged false z h = value-ranged z h
 
 -- the value at a place, the oldest and the newest, where the places are
-value-at-ranged : (xs : List ℤ) (n i : ℕ) → PlacesRanged xs → FifoValueRanged (value_at xs n i)
+value-at-ranged : (xs : List ℤ) (n i : ℕ) → PlacesRanged xs → Ranged (value_at xs n i)
 value-at-ranged xs n i r = fit-ranged (fits (length xs) n) _ (λ p. place-ranged (eqb n 0) (get_or xs i (pos 0)) (r i))
 
-pub oldest-in-range : (xs : List ℤ) (n : ℕ) → PlacesRanged xs → FifoValueRanged (oldest_of xs n)
+pub oldest-in-range : (xs : List ℤ) (n : ℕ) → PlacesRanged xs → Ranged (oldest_of xs n)
 unfolding oldest_of
 oldest-in-range xs n = value-at-ranged xs n 0
 
-pub newest-in-range : (xs : List ℤ) (n : ℕ) → PlacesRanged xs → FifoValueRanged (newest_of xs n)
+pub newest-in-range : (xs : List ℤ) (n : ℕ) → PlacesRanged xs → Ranged (newest_of xs n)
 unfolding newest_of
 newest-in-range xs n = value-at-ranged xs n (n - 1)
 
-asked-ranged : (w : Worked) → Ranged w → FifoValueRanged (as_fifo_value w)
-asked-ranged (W.Value z) r = value-ranged z (r z refl)
-asked-ranged (W.Alarm k) r = alarm-ranged k
-
 -- the sum
-pub total-in-range : (xs : List ℤ) (n : ℕ) → FifoValueRanged (total_of xs n)
+pub total-in-range : (xs : List ℤ) (n : ℕ) → Ranged (total_of xs n)
 unfolding total_of
-total-in-range xs n = fit-ranged (fits (length xs) n) _ (λ p. asked-ranged (valued (sum_first xs n)) (valued-in-range (sum_first xs n)))
+total-in-range xs n = fit-ranged (fits (length xs) n) _ (λ p. valued-in-range (sum_first xs n))
 
 -- the count
-pub count-in-range : (xs : List ℤ) (n : ℕ) → FifoValueRanged (count_of xs n)
+pub count-in-range : (xs : List ℤ) (n : ℕ) → Ranged (count_of xs n)
 unfolding count_of
 count-in-range xs n =
     fit-ranged (fits (length xs) n) _
     (λ p. value-ranged (pos (n * unit)) (abs-range (pos (n * unit)) (omega (arith, (fits-bounds (length xs) n p).1))))
 
+-- two changes that are the same moved the same value
+pub change-value : {u v : ℤ} {j k : ℕ} → change_of u j ≡ change_of v k → u ≡ v
+change-value {u} {v} {j} {k} e = let m : ◌≡◌ {A = Moved} (record { value = u; count = j }) (record { value = v; count = k }) = cc in ap (λ (x : Moved). x.value) m
+
 -- what is removed, where the places are
-pub removed-in-range : (xs : List ℤ) (n : ℕ) (v : ℤ) (k : ℕ) → PlacesRanged xs → remove_answer xs n ≡ M.Done v k → in_range v ≡ true
+pub removed-in-range : (xs : List ℤ) (n : ℕ) (v : ℤ) (k : ℕ) → PlacesRanged xs → remove_answer xs n ≡ change_of v k → in_range v ≡ true
 unfolding remove_answer
 removed-in-range xs n v k r = by_tests_lem (fits (length xs) n) (eqb n 0)
   where
-    by_tests_lem : (a b : Bool) → cond a (cond b (M.Alarm fifo_empty) (M.Done (get_or xs 0 (pos 0)) (n - 1))) M.Unfit ≡ M.Done v k → in_range v ≡ true
-    by_tests_lem true false e = let q : get_or xs 0 (pos 0) ≡ v = cc in rw (← q) (r 0)
+    by_tests_lem : (a b : Bool) → cond a (cond b (Err FifoEmpty) (change_of (get_or xs 0 (pos 0)) (n - 1))) (Err Unsound) ≡ change_of v k → in_range v ≡ true
+    by_tests_lem true false e = rw (← change-value e) (r 0)
     by_tests_lem true true e = clash (cc)
     by_tests_lem false b e = clash (cc)

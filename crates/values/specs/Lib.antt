@@ -1,5 +1,6 @@
 -- What the promises mean: values, curves, time, FIFOs and the two's complement, document 01's codes, a list written into an array, and the laws that follow from them.
 pub mod Codes
+pub mod CodeLaws
 pub mod Size
 pub mod Value
 pub mod Choice

@@ -1,8 +1,7 @@
 -- Laws of what a marker takes (document 02, Req 02): the nearest whole unit, halves away from zero; it is whole, and in range.
-use Rattle.std.specs.Prelude.{◌≡◌, refl, Bool, true, false, ℕ, zero, suc, ◌+◌, ◌*◌, ◌/◌, ◌-◌, ◌≤◌, ℤ, pos, negsuc, nat_abs, neg_ℤ, ◌-ℤ◌, ◌*ℤ◌}
+use Rattle.std.specs.Prelude.{◌≡◌, refl, Bool, true, false, ℕ, zero, suc, ◌+◌, ◌*◌, ◌/◌, ◌-◌, ◌≤◌, ℤ, pos, negsuc, nat_abs, neg_ℤ, ◌-ℤ◌, ◌*ℤ◌, Ok}
 use Rattle.std.proofs.Common.{sym, ap, ◌∙◌, arith}
 use Rattle.std.specs.Int.Signed.{quot_z}
-use Rattle.values.specs.declared.arithmetic.Worked.TheVariants.{Value}
 use Rattle.values.specs.Size.{is_negative, signed_number}
 use Rattle.values.specs.Value.{unit, half, in_range, whole_units, nearest_size, nearest_units, marker_of}
 use Rattle.values.specs.Numbers.{clash, abs-mul, abs-quot}
@@ -72,11 +71,11 @@ nearest-in-range v h = abs-range _ (omega (arith, range-abs v h, signed-size (is
 -- ---- what a marker takes
 
 -- of a value no alarm comes
-pub marker-in-range : (v : ℤ) → in_range v ≡ true → marker_of v ≡ Value (nearest_units v)
+pub marker-in-range : (v : ℤ) → in_range v ≡ true → marker_of v ≡ Ok (nearest_units v)
 unfolding marker_of
 marker-in-range v h = rw h
 
-marker-told : (v w : ℤ) → marker_of v ≡ Value w → (in_range v ≡ true) × (w ≡ nearest_units v)
+marker-told : (v w : ℤ) → marker_of v ≡ Ok w → (in_range v ≡ true) × (w ≡ nearest_units v)
 unfolding marker_of
 marker-told v w e = by-test (in_range v) refl
   where
@@ -85,7 +84,7 @@ marker-told v w e = by-test (in_range v) refl
     by-test false p = let f = rw p at e in clash (cc)
 
 -- it is whole
-pub marker-whole : (v w : ℤ) → marker_of v ≡ Value w → whole_units w ≡ w
+pub marker-whole : (v w : ℤ) → marker_of v ≡ Ok w → whole_units w ≡ w
 marker-whole v w e = rw (marker-told v w e).1 (nearest-whole v)
 
 -- and in range

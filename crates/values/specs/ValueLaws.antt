@@ -1,11 +1,10 @@
 -- Laws of values: what follows from the definitions of Value.
-use Rattle.std.specs.Prelude.{◌≡◌, refl, Bool, true, false, cond, ◌||◌, ◌⊎◌, ◌≤◌, eqb, ℤ, pos, negsuc, nat_abs, neg_ℤ, ◌-ℤ◌}
+use Rattle.std.specs.Prelude.{◌≡◌, refl, Bool, true, false, cond, ◌||◌, ◌⊎◌, ◌≤◌, eqb, ℤ, pos, negsuc, nat_abs, neg_ℤ, ◌-ℤ◌, Result, Ok, Err}
 use Rattle.std.proofs.Common.{◌∙◌, inl, inr, arith, SFits, eqb-true, eq-eqb, ne_eqb, leb-true, le-leb}
 use Rattle.std.proofs.Math.IntN.{+ℤ_invr}
 use Rattle.std.specs.Int.{w32}
-use Rattle.values.specs.Codes.{zero_divisor, not_allowed}
-use Rattle.values.specs.declared.arithmetic.Worked.{Worked}
-use Rattle.values.specs.declared.arithmetic.Worked.TheVariants.{Value, Alarm}
+use Rattle.values.specs.declared.codes.Alarm.{Alarm}
+use Rattle.values.specs.declared.codes.Alarm.TheVariants.{ZeroDivisor, NotAllowed}
 use Rattle.values.specs.Value.{top, unit, in_range, valued, sum_of, difference_of, product_of, quotient_of, negation_of, less_than, equal_to, output_of, feed_of, sign_of}
 use Rattle.values.specs.Numbers.{clash, abs_neg, no_difference, fits-abs}
 
@@ -43,11 +42,11 @@ pub range-fits : (z : ℤ) → in_range z ≡ true → SFits w32 z
 range-fits z h = fits-abs w32 z (omega (arith, range-abs z h))
 
 -- what working gives is in range whenever it is a value
-abbrev pub Ranged : Worked → Type 0
-Ranged w = (v : ℤ) → w ≡ Value v → in_range v ≡ true
+abbrev pub Ranged : Result ℤ Alarm → Type 0
+Ranged w = (v : ℤ) → w ≡ Ok v → in_range v ≡ true
 
 -- a number in range is its own value
-pub valued-value : (z : ℤ) → in_range z ≡ true → valued z ≡ Value z
+pub valued-value : (z : ℤ) → in_range z ≡ true → valued z ≡ Ok z
 unfolding valued
 valued-value z h = rw h
 
@@ -75,7 +74,7 @@ pub product-in-range : (a b : ℤ) → Ranged (product_of a b)
 unfolding product_of
 product-in-range a b = valued-in-range _
 
-divided : (b : Bool) (z : ℤ) → Ranged (cond b (Alarm zero_divisor) (valued z))
+divided : (b : Bool) (z : ℤ) → Ranged (cond b (Err ZeroDivisor) (valued z))
 divided true z v e = clash (cc)
 divided false z v e = valued-in-range z v e
 
@@ -90,23 +89,23 @@ unfolding negation_of
 negation-in-range a = valued-in-range _
 
 -- the negative of a value in range never alarms
-pub negation-value : (a : ℤ) → in_range a ≡ true → negation_of a ≡ Value (neg_ℤ a)
+pub negation-value : (a : ℤ) → in_range a ≡ true → negation_of a ≡ Ok (neg_ℤ a)
 unfolding negation_of
 negation-value a h = valued-value (neg_ℤ a) (abs-range (neg_ℤ a) (rw (abs_neg a) (range-abs a h)))
 
 -- ---- what the targets make of a value
 
-taken-same : (b : Bool) (v w : ℤ) → cond b (Value v) (Alarm not_allowed) ≡ Value w → w ≡ v
+taken-same : (b : Bool) (v w : ℤ) → cond b (Ok v) (Err NotAllowed) ≡ Ok w → w ≡ v
 taken-same true v w e = cc
 taken-same false v w e = clash (cc)
 
 -- an output that takes a value takes it as it is
-pub output-same : (v w : ℤ) → output_of v ≡ Value w → w ≡ v
+pub output-same : (v w : ℤ) → output_of v ≡ Ok w → w ≡ v
 unfolding output_of
 output-same v w = taken-same (equal_to v (pos 0) || equal_to v (pos unit)) v w
 
 -- an output takes only 0 and 1
-pub output-either : (v w : ℤ) → output_of v ≡ Value w → (w ≡ pos 0) ⊎ (w ≡ pos unit)
+pub output-either : (v w : ℤ) → output_of v ≡ Ok w → (w ≡ pos 0) ⊎ (w ≡ pos unit)
 unfolding output_of
 output-either v w e = by_tests_lem (equal_to v (pos 0)) (equal_to v (pos unit)) refl refl
   where
@@ -116,7 +115,7 @@ output-either v w e = by_tests_lem (equal_to v (pos 0)) (equal_to v (pos unit)) 
     by_tests_lem false false p q = let f = rw (p, q) at e in clash (cc)
 
 -- FA takes a value as it is
-pub feed-same : (v w : ℤ) → feed_of v ≡ Value w → w ≡ v
+pub feed-same : (v w : ℤ) → feed_of v ≡ Ok w → w ≡ v
 unfolding feed_of
 feed-same v w = taken-same (less_than (pos 0) v) v w
 

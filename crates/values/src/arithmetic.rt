@@ -4,7 +4,7 @@ ghost use Rattle.values.specs.Cut.{cut_size};
 ghost use Rattle.values.specs.Size.{signed_number};
 ghost use Rattle.values.specs.Value.{in_range, valued, sum_of, difference_of, product_of, quotient_of, negation_of, less_than, equal_to, whole_units, marker_of, output_of, feed_of, sign_of};
 
-use crate::codes::{NOT_ALLOWED, OUT_OF_RANGE, ZERO_DIVISOR};
+use crate::codes::Alarm;
 
 // The greatest value, one million units; the least is its negative.
 pub const TOP: i32 = 1000000000;
@@ -12,13 +12,6 @@ pub const TOP: i32 = 1000000000;
 pub const UNIT: i32 = 1000;
 // Half a unit.
 const HALF: u64 = 500;
-
-// What working gives: a value, or the number of an alarm.
-#[derive(Clone, Copy)]
-pub enum Worked {
-    Value(i32),
-    Alarm(u8),
-}
 
 // Whether a number of thousandths is a value.
 pub fn in_range(v: i32) -> bool
@@ -34,16 +27,16 @@ pub fn in_range(v: i32) -> bool
 }
 
 // An exact number of thousandths as a value, or alarm 30.
-pub(crate) fn value_of(x: i64) -> Worked
+pub(crate) fn value_of(x: i64) -> Result<i32, Alarm>
     ensures { result ≡ valued x }
 {
     if x < -(TOP as i64) {
-        return Worked::Alarm(OUT_OF_RANGE);
+        return Err(Alarm::OutOfRange);
     }
     if (TOP as i64) < x {
-        return Worked::Alarm(OUT_OF_RANGE);
+        return Err(Alarm::OutOfRange);
     }
-    Worked::Value(x as i32)
+    Ok(x as i32)
 }
 
 // The size of a number, without its sign.
@@ -57,26 +50,26 @@ fn size_of(v: i32) -> u64
 }
 
 // A size with its sign put back, as a value, or alarm 30.
-pub fn signed(negative: bool, size: u64) -> Worked
+pub fn signed(negative: bool, size: u64) -> Result<i32, Alarm>
     ensures { result ≡ valued (signed_number negative size) }
 {
     if (TOP as u64) < size {
-        return Worked::Alarm(OUT_OF_RANGE);
+        return Err(Alarm::OutOfRange);
     }
     let v = size as i32;
     if negative {
-        return Worked::Value(-v);
+        return Ok(-v);
     }
-    Worked::Value(v)
+    Ok(v)
 }
 
-pub fn sum(a: i32, b: i32) -> Worked
+pub fn sum(a: i32, b: i32) -> Result<i32, Alarm>
     ensures { result ≡ sum_of a b }
 {
     value_of(a as i64 + b as i64)
 }
 
-pub fn difference(a: i32, b: i32) -> Worked
+pub fn difference(a: i32, b: i32) -> Result<i32, Alarm>
     ensures { result ≡ difference_of a b }
 {
     value_of(a as i64 - b as i64)
@@ -90,7 +83,7 @@ fn cut(size: u64, by: u64) -> u64
     size / by
 }
 
-pub fn product(a: i32, b: i32) -> Worked
+pub fn product(a: i32, b: i32) -> Result<i32, Alarm>
     ensures { result ≡ product_of a b }
 {
     let negative = (a < 0) ^ (b < 0);
@@ -98,18 +91,18 @@ pub fn product(a: i32, b: i32) -> Worked
     signed(negative, size)
 }
 
-pub fn quotient(a: i32, b: i32) -> Worked
+pub fn quotient(a: i32, b: i32) -> Result<i32, Alarm>
     ensures { result ≡ quotient_of a b }
 {
     if b == 0 {
-        return Worked::Alarm(ZERO_DIVISOR);
+        return Err(Alarm::ZeroDivisor);
     }
     let negative = (a < 0) ^ (b < 0);
     let size = cut(size_of(a) * UNIT as u64, size_of(b));
     signed(negative, size)
 }
 
-pub fn negation(a: i32) -> Worked
+pub fn negation(a: i32) -> Result<i32, Alarm>
     ensures { result ≡ negation_of a }
 {
     value_of(-(a as i64))
@@ -135,37 +128,37 @@ pub fn whole_units(v: i32) -> i32
 }
 
 // What a marker takes: the nearest whole unit, halves away from zero; of a number that is no value alarm 30.
-pub fn marker(v: i32) -> Worked
+pub fn marker(v: i32) -> Result<i32, Alarm>
     ensures { result ≡ marker_of v }
 {
     if !in_range(v) {
-        return Worked::Alarm(OUT_OF_RANGE);
+        return Err(Alarm::OutOfRange);
     }
     let units = (size_of(v) + HALF) / UNIT as u64;
     signed(v < 0, units * UNIT as u64)
 }
 
 // What an output takes: 0 or 1, else alarm 34.
-pub fn output(v: i32) -> Worked
+pub fn output(v: i32) -> Result<i32, Alarm>
     ensures { result ≡ output_of v }
 {
     if v == 0 {
-        return Worked::Value(v);
+        return Ok(v);
     }
     if v == UNIT {
-        return Worked::Value(v);
+        return Ok(v);
     }
-    Worked::Alarm(NOT_ALLOWED)
+    Err(Alarm::NotAllowed)
 }
 
 // What FA takes: a feed above 0, else alarm 34.
-pub fn feed(v: i32) -> Worked
+pub fn feed(v: i32) -> Result<i32, Alarm>
     ensures { result ≡ feed_of v }
 {
     if 0 < v {
-        return Worked::Value(v);
+        return Ok(v);
     }
-    Worked::Alarm(NOT_ALLOWED)
+    Err(Alarm::NotAllowed)
 }
 
 // What MOV makes of a value: its sign.

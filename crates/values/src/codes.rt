@@ -1,4 +1,6 @@
-// The codes of documents 01 and 02, each named once; 0 is success.
+// The codes of documents 01 and 02, each named once; 0 is success. Those of working are an enum, the others numbers.
+ghost use Rattle.std.specs.Prelude.{◌≡◌};
+ghost use Rattle.values.specs.Codes.{code_of, alarm_with};
 
 // Text above 4,096 bytes.
 pub const TOO_LONG: u8 = 1;
@@ -57,20 +59,45 @@ pub const FAULTY_CHANNEL: u8 = 23;
 // Print buffer under 4,096 bytes, or too short for the print.
 pub const SHORT_PRINT: u8 = 24;
 
-// A result outside the values.
-pub(crate) const OUT_OF_RANGE: u8 = 30;
-
-// A zero divisor.
-pub(crate) const ZERO_DIVISOR: u8 = 31;
-
-// A reading of an empty FIFO.
-pub(crate) const FIFO_EMPTY: u8 = 32;
-
-// A value more than a FIFO holds.
-pub(crate) const FIFO_FULL: u8 = 33;
-
-// A value that the target does not take.
-pub(crate) const NOT_ALLOWED: u8 = 34;
-
 // Host names a line not in the set, or cancelled.
 pub const UNKNOWN_LINE: u8 = 40;
+
+// What ends the working of a line, by its code.
+#[derive(Clone, Copy, Debug, PartialEq, Eq)]
+pub enum Alarm {
+    // A result outside the values.
+    OutOfRange = 30,
+    // A zero divisor.
+    ZeroDivisor = 31,
+    // A reading of an empty FIFO.
+    FifoEmpty = 32,
+    // A value more than a FIFO holds.
+    FifoFull = 33,
+    // A value that the target does not take.
+    NotAllowed = 34,
+    // Set or state not sound.
+    Unsound = 22,
+}
+
+impl Alarm {
+    // The code of an alarm.
+    pub fn code(self) -> u8
+        ensures { result ≡ code_of self }
+    {
+        self as u8
+    }
+
+    // The alarm with a code; Unsound where none has it.
+    pub fn with_code(code: u8) -> Alarm
+        ensures { result ≡ alarm_with code }
+    {
+        match code {
+            30 => Alarm::OutOfRange,
+            31 => Alarm::ZeroDivisor,
+            32 => Alarm::FifoEmpty,
+            33 => Alarm::FifoFull,
+            34 => Alarm::NotAllowed,
+            _ => Alarm::Unsound,
+        }
+    }
+}

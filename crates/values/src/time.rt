@@ -23,22 +23,22 @@ pub struct Timer {
 }
 
 // The time that a number of beats takes, at most the top: the only place that turns beats into milliseconds.
+#[tactic(auto, unfolding(crate::specs::Time::millis_of))]
 fn millis_of(beats: Beats) -> Millis
     ensures { result ≡ millis_of beats }
 {
-    let n = beats.0;
-    if TOP as u32 / BEAT_MILLIS < n {
+    if TOP as u32 / BEAT_MILLIS < beats.0 {
         return Millis(TOP);
     }
-    Millis((n * BEAT_MILLIS) as i32)
+    Millis((beats.0 * BEAT_MILLIS) as i32)
 }
 
 // A timer at the start of a beat: one that runs has grown by the time of one beat, never beyond the top.
+#[tactic(auto, unfolding(crate::specs::Time::grown_timer, crate::specs::Time::millis_of, crate::specs::Value::less_than))]
 pub fn grown(timer: Timer) -> Timer
     ensures { result ≡ grown_timer timer }
 {
-    let runs = timer.runs;
-    if !runs {
+    if !timer.runs {
         return timer;
     }
     let time = timer.time.0;
@@ -56,13 +56,13 @@ pub fn grown(timer: Timer) -> Timer
 }
 
 // A timer after a value was written to it: 0 or more sets it and makes it run, a negative one stops it and keeps its time.
+#[tactic(auto, unfolding(crate::specs::Time::written_timer, crate::specs::Value::less_than))]
 pub fn written(timer: Timer, v: i32) -> Timer
     ensures { result ≡ written_timer timer v }
 {
     if v < 0 {
-        let time = timer.time;
         return Timer {
-            time: time,
+            time: timer.time,
             runs: false,
         };
     }

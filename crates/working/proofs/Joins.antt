@@ -7,7 +7,8 @@ use borrow.Author.Tests.{ne_eqb}
 use lib.IntN.{ℤ}
 use mir.Syntax.{w32}
 use mir.Val.{SFits, to_z, of_z}
-use Rattle.values.specs.declared.arithmetic.Worked.{Worked}
+use Rattle.values.specs.declared.codes.Alarm.{Alarm}
+use Rattle.std.specs.Prelude.{Result}
 use Rattle.values.specs.Value.{sum_of, difference_of, product_of, quotient_of}
 use Rattle.values.specs.SignedLaws.{both}
 use Rattle.tokens.specs.Token.{room, SAME, OTHER, LESS, MORE, ATMOST, ATLEAST, PLUS, MINUS, TIMES, OVER, AND, XOR, is_factor, is_term, is_compare, is_logic}
@@ -56,7 +57,7 @@ module _ (o : ℕ) (a b : ℤ) where
 -- a, the operator o, and the value v that the pair w says behind it, up to i
 module _ (o : ℕ) (a : ℤ) (w : ℕ) {v : ℤ} {i : ℕ} (e : i ≡ next_of w) (ne : i ≡ 0 → ⊥) (g : v ≡ value_of w) where
   -- f works them: r says what it gave
-  pub join-worked : (f : ℤ → ℤ → Worked) {x : Worked} {r : Read ℤ} → SFits w32 a → SFits w32 v → x ≡ f (to_z w32 (of_z w32 a)) (to_z w32 (of_z w32 v)) → ((0 < i) × (i < room) → r ≡ up_to (from_worked x) i) → join_values o a v ≡ from_worked (f a v) → r ≡ then (said w) (λ z q. up_to (join_values o a z) q)
+  pub join-worked : (f : ℤ → ℤ → Result ℤ Alarm) {x : Result ℤ Alarm} {r : Read ℤ} → SFits w32 a → SFits w32 v → x ≡ f (to_z w32 (of_z w32 a)) (to_z w32 (of_z w32 v)) → ((0 < i) × (i < room) → r ≡ up_to (from_worked x) i) → join_values o a v ≡ from_worked (f a v) → r ≡ then (said w) (λ z q. up_to (join_values o a z) q)
   join-worked f ha hv h s j = pair.enters w e g (λ z q. up_to (join_values o a z) q) ne (pair.gives i (s (omega (arith, ne), pair.in-room w e)) (h ∙ both f ha hv) j)
 
   -- they give the yes/no u: y is its pair

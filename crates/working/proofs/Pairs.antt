@@ -9,7 +9,10 @@ use mir.Syntax.{w32}
 use mir.Val.{SFits, to_z, of_z}
 use borrow.Author.Tests.{eq-eqb, ne_eqb}
 use Rattle.tokens.specs.Token.{set_size, room}
-use Rattle.values.specs.declared.arithmetic.Worked.{Worked}
+use Rattle.values.specs.declared.codes.Alarm.{Alarm}
+use Rattle.values.specs.Codes.{code_of}
+use Rattle.values.specs.CodeLaws.{code-byte}
+use Rattle.std.specs.Prelude.{Result}
 use Rattle.values.specs.SignedLaws.{back}
 use Rattle.values.specs.Complement.{twos_complement, signed}
 use Rattle.values.specs.ComplementLaws.{signed_back}
@@ -67,11 +70,14 @@ pair-said {v} p h l m =
     let e : p ≡ (n * room + p % room) % room = omega arith in
     said-value (pair_of v p) e (sym (ap signed b ∙ signed_back h)) (λ z. omega arith)
 
-pub alarm-said : (k : ℕ) → k < 256 → said (alarm_of k) ≡ ends k
-alarm-said k l =
-    let b : k * room / room % 256 ≡ k = omega arith in
-    let e : 0 ≡ k * room % room = omega arith in
-    said-stop (alarm_of k) e refl ∙ ap ends b
+pub alarm-said : (a : Alarm) → said (alarm_of (code_of a)) ≡ ends (code_of a)
+alarm-said a = by_code (code_of a) (code-byte a)
+  where
+    by_code : (k : ℕ) → k < 256 → said (alarm_of k) ≡ ends k
+    by_code k l =
+        let b : k * room / room % 256 ≡ k = omega arith in
+        let e : 0 ≡ k * room % room = omega arith in
+        said-stop (alarm_of k) e refl ∙ ap ends b
 
 -- one more is the next place
 pub next-said : (w : ℕ) {i : ℕ} → i ≡ next_of w → i < set_size → said (w + 1) ≡ read (value_of w) (i + 1)
@@ -86,5 +92,5 @@ pub pairs : {x : ℕ} {v z : ℤ} (p : ℕ) → x ≡ pair_of (to_z w32 (of_z w3
 pairs p e h f l m = ap said (e ∙ ap (λ (u : ℤ). pair_of u p) (back w32 h)) ∙ pair-said p h l m ∙ ap (λ (u : ℤ). read u p) f
 
 -- x is what a working gives, and that is an answer
-pub gives : {x : Read ℤ} {v w : Worked} {y : Answer ℤ} (q : ℕ) → x ≡ up_to (from_worked v) q → v ≡ w → y ≡ from_worked w → x ≡ up_to y q
-gives q e f g = e ∙ ap (λ (u : Worked). up_to (from_worked u) q) f ∙ ap (λ (u : Answer ℤ). up_to u q) (sym g)
+pub gives : {x : Read ℤ} {v w : Result ℤ Alarm} {y : Answer ℤ} (q : ℕ) → x ≡ up_to (from_worked v) q → v ≡ w → y ≡ from_worked w → x ≡ up_to y q
+gives q e f g = e ∙ ap (λ (u : Result ℤ Alarm). up_to (from_worked u) q) f ∙ ap (λ (u : Answer ℤ). up_to u q) (sym g)

@@ -6,9 +6,10 @@ use Prim.Native.Nat.{ℕ, ◌+◌, ◌<◌}
 use native.Mathlib.Omega.{arith}
 use lib.IntN.{ℤ}
 use Rattle.values.specs.Choice.{chosen, refused}
-use Rattle.values.specs.Codes.{unsound}
-use Rattle.values.specs.declared.arithmetic.Worked.{Worked}
-use Rattle.values.specs.declared.arithmetic.Worked.TheVariants.{Value, Alarm}
+use Rattle.std.specs.Prelude.{Result, Ok, Err}
+use Rattle.values.specs.CodeLaws.{alarm-back}
+use Rattle.values.specs.declared.codes.Alarm.{Alarm}
+use Rattle.values.specs.declared.codes.Alarm.TheVariants.{Unsound}
 use Rattle.tokens.specs.Token.{IN, IM, NUMBER, is_variable}
 use Rattle.tokens.specs.Descent.{token, up_to, is_indexed, read_variable, read_operand}
 use Rattle.tokens.specs.BetweenLaws.{inside}
@@ -17,12 +18,12 @@ use Rattle.working.specs.Operators.{from_worked}
 use Rattle.working.specs.Working.{worked, value_over, variable_at}
 
 -- a working goes into a place and out of it again
-worked-back : (w : Worked) (q : ℕ) → worked (up_to (from_worked w) q) ≡ w
-worked-back (Value v) q = refl
-worked-back (Alarm k) q = refl
+worked-back : (w : Result ℤ Alarm) (q : ℕ) → worked (up_to (from_worked w) q) ≡ w
+worked-back (Ok v) q = refl
+worked-back (Err a) q = ap Err (alarm-back a)
 
 module _ (s : List ℕ) (r c : List ℤ) (p : ℕ) where
-  pub not-variable : is_variable (token s p) ≡ false → Alarm unsound ≡ variable_at s r c p
+  pub not-variable : is_variable (token s p) ≡ false → Err Unsound ≡ variable_at s r c p
   unfolding variable_at
   not-variable h = simp (variable_at, h)
 

@@ -1,15 +1,15 @@
 -- What each operator makes of two values, and how yes and no stand among values (document 01, "Values and time"). Yes is 1 and no is 0. Definitions only.
-use Rattle.std.specs.Prelude.{Bool, true, false, not, ◌&&◌, ◌||◌, ℕ, eqb, ℤ, pos}
-use Rattle.values.specs.Value.{code_of, sum_of, difference_of, product_of, quotient_of, less_than, equal_to}
-use Rattle.values.specs.declared.arithmetic.Worked.{Worked}
-use Rattle.values.specs.declared.arithmetic.Worked.TheVariants as W
+use Rattle.std.specs.Prelude.{Bool, true, false, not, ◌&&◌, ◌||◌, ℕ, eqb, ℤ, pos, Result, Ok, Err}
+use Rattle.values.specs.Codes.{code_of}
+use Rattle.values.specs.Value.{sum_of, difference_of, product_of, quotient_of, less_than, equal_to}
+use Rattle.values.specs.declared.codes.Alarm.{Alarm}
 use Rattle.tokens.specs.Token.{SAME, OTHER, LESS, MORE, ATMOST, ATLEAST, PLUS, MINUS, TIMES, OVER, AND, OR}
 use Rattle.tokens.specs.Descent.{Answer, good, stop}
 
 -- an alarm ends the working with its code
-abbrev pub from_worked : Worked → Answer ℤ
-from_worked (W.Value v) = good v
-from_worked (W.Alarm k) = stop (code_of (W.Alarm k))
+abbrev pub from_worked : Result ℤ Alarm → Answer ℤ
+from_worked (Ok v) = good v
+from_worked (Err a) = stop (code_of a)
 
 abbrev pub yes_no : Bool → ℤ
 yes_no true = pos 1

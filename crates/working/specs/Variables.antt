@@ -1,13 +1,10 @@
 -- The variables that a line can read: where they lie, and what each reads (document 01, "Values and time"). Definitions only.
 -- R lies in a list of its own. The others lie in one list of cells: inputs, analogues and positions of the beat, then outputs, markers, parameters,
 -- timers, and the counts of the four FIFOs.
-use Rattle.std.specs.Prelude.{true, false, cond, List, ℕ, ◌+◌, ◌-◌, ◌*◌, eqb, leb, ℤ, pos, negsuc, take, drop, get_or}
-use Rattle.values.specs.Codes.{unsound}
-use Rattle.values.specs.Fifo.{places, fifo_value_code, oldest_of, newest_of, total_of, count_of}
-use Rattle.values.specs.declared.arithmetic.Worked.{Worked}
-use Rattle.values.specs.declared.arithmetic.Worked.TheVariants.{Value, Alarm}
-use Rattle.values.specs.declared.fifo.FifoValue.{FifoValue}
-use Rattle.values.specs.declared.fifo.FifoValue.TheVariants as S
+use Rattle.std.specs.Prelude.{true, false, cond, List, ℕ, ◌+◌, ◌-◌, ◌*◌, eqb, leb, ℤ, pos, negsuc, take, drop, get_or, Result, Ok, Err}
+use Rattle.values.specs.Fifo.{places, oldest_of, newest_of, total_of, count_of}
+use Rattle.values.specs.declared.codes.Alarm.{Alarm}
+use Rattle.values.specs.declared.codes.Alarm.TheVariants.{Unsound}
 use Rattle.tokens.specs.Token.{INA, OUT, MARKER, PARAM, R, TIMER, FIFO1, IM, is_fifo}
 use Rattle.tokens.specs.Index.{first_index, is_inside}
 
@@ -97,39 +94,34 @@ beat_count c k = as_count (get_or c (input_count + count_at + k) (pos 0))
 
 -- ---- what they read
 
-abbrev pub from_fifo_value : FifoValue → Worked
-from_fifo_value (S.Value v) = Value v
-from_fifo_value (S.Alarm k) = Alarm (fifo_value_code (S.Alarm k))
-from_fifo_value S.Unfit = Alarm (fifo_value_code S.Unfit)
-
 -- [1] the oldest, [2] the newest, [3] the sum, [4] the count; [0] is not read here, so that no condition changes anything
-unfoldable pub fifo_value : List ℤ → ℕ → ℕ → Worked
+unfoldable pub fifo_value : List ℤ → ℕ → ℕ → Result ℤ Alarm
 fifo_value xs n i =
     elim (eqb i 1) [
-      | true ↦ from_fifo_value (oldest_of xs n)
+      | true ↦ oldest_of xs n
       | false ↦
           elim (eqb i 2) [
-            | true ↦ from_fifo_value (newest_of xs n)
+            | true ↦ newest_of xs n
             | false ↦
                 elim (eqb i 3) [
-                  | true ↦ from_fifo_value (total_of xs n)
-                  | false ↦ elim (eqb i 4) [ true ↦ from_fifo_value (count_of xs n) | false ↦ Alarm unsound ]
+                  | true ↦ total_of xs n
+                  | false ↦ elim (eqb i 4) [ true ↦ count_of xs n | false ↦ Err Unsound ]
                 ]
           ]
     ]
 
 -- the FIFO of the word w, over R and the cells
-unfoldable pub fifo_at : List ℤ → List ℤ → ℕ → ℕ → Worked
+unfoldable pub fifo_at : List ℤ → List ℤ → ℕ → ℕ → Result ℤ Alarm
 fifo_at r c w i = fifo_value (run r (fifo_of w)) (beat_count c (fifo_of w)) i
 
 -- the variable w[i], over R and the cells
-unfoldable pub variable_value : List ℤ → List ℤ → ℕ → ℕ → Worked
+unfoldable pub variable_value : List ℤ → List ℤ → ℕ → ℕ → Result ℤ Alarm
 variable_value r c w i =
     elim (is_inside w i) [
       | true ↦
           elim (eqb w R) [
-            | true ↦ Value (get_or r i (pos 0))
-            | false ↦ elim (is_fifo w) [ true ↦ fifo_at r c w i | false ↦ Value (get_or c (cell_of w i) (pos 0)) ]
+            | true ↦ Ok (get_or r i (pos 0))
+            | false ↦ elim (is_fifo w) [ true ↦ fifo_at r c w i | false ↦ Ok (get_or c (cell_of w i) (pos 0)) ]
           ]
-      | false ↦ Alarm unsound
+      | false ↦ Err Unsound
     ]

@@ -8,4 +8,4 @@ mod pair;
 pub mod variables;
 mod walk;
 
-pub use walk::{ValueOrAlarm, condition, right_side, variable_at};
+pub use walk::{Reached, condition, right_side, variable_at};

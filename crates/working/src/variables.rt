@@ -4,13 +4,12 @@
 // parameters, timers, and the counts of the four FIFOs. The same table stands in specs/Variables.
 ghost use Rattle.std.specs.Prelude.{◌≡◌, true};
 ghost use Rattle.tokens.specs.Token.{is_fifo};
-ghost use Rattle.working.specs.Variables.{cell_of, cell_start, as_count, from_fifo_value, fifo_value, fifo_at, variable_value};
+ghost use Rattle.working.specs.Variables.{cell_of, cell_start, as_count, fifo_value, fifo_at, variable_value};
 
 use tokens::index::{first_index, is_inside};
 use tokens::token::{FIFO1, IM, INA, MARKER, OUT, PARAM, R, TIMER, is_fifo};
-use values::arithmetic::Worked;
-use values::codes::UNSOUND;
-use values::fifo::{FifoValue, PLACES};
+use values::codes::Alarm;
+use values::fifo::{PLACES, count_value, newest, oldest, total};
 
 pub const TIMERS: usize = 8;
 
@@ -97,37 +96,23 @@ pub fn count_of(cell: i32) -> u8
     cell as u8
 }
 
-fn from_fifo_value(s: FifoValue) -> Worked
-    ensures { result ≡ from_fifo_value s }
-{
-    match s {
-        FifoValue::Value(v) => Worked::Value(v),
-        FifoValue::Alarm(k) => Worked::Alarm(k),
-        FifoValue::Unfit => Worked::Alarm(UNSOUND),
-    }
-}
-
 // What a FIFO, its part of R and its count, reads at [1] to [4].
-fn fifo_value(part: &[i32], count: u8, i: u32) -> Worked
+#[tactic(auto, unfolding(crate::specs::Variables::fifo_value))]
+fn fifo_value(part: &[i32], count: u8, i: u32) -> Result<i32, Alarm>
     ensures { result ≡ fifo_value part.now count i }
 {
-    if i == 1 {
-        return from_fifo_value(values::fifo::oldest(part, count));
+    match i {
+        1 => oldest(part, count),
+        2 => newest(part, count),
+        3 => total(part, count),
+        4 => count_value(part, count),
+        _ => Err(Alarm::Unsound),
     }
-    if i == 2 {
-        return from_fifo_value(values::fifo::newest(part, count));
-    }
-    if i == 3 {
-        return from_fifo_value(values::fifo::total(part, count));
-    }
-    if i == 4 {
-        return from_fifo_value(values::fifo::count_value(part, count));
-    }
-    Worked::Alarm(UNSOUND)
 }
 
 // What the FIFO of the word w reads, over R and the cells.
-fn fifo_at(r: &[i32; RS], cells: &[i32; CELLS], w: u32, i: u32) -> Worked
+#[tactic(auto, unfolding(crate::specs::Variables::fifo_at, crate::specs::Variables::beat_count))]
+fn fifo_at(r: &[i32; RS], cells: &[i32; CELLS], w: u32, i: u32) -> Result<i32, Alarm>
     requires { is_fifo w ≡ true }
     ensures { result ≡ fifo_at r.now cells.now w i }
 {
@@ -135,24 +120,22 @@ fn fifo_at(r: &[i32; RS], cells: &[i32; CELLS], w: u32, i: u32) -> Worked
     let start = RUN_AT + PLACES * k;
     let end = start + PLACES;
     let count = count_of(cells[COUNT_CELLS + k]);
-    let all = &r[..];
-    fifo_value(&all[start..end], count, i)
+    fifo_value(&r[start..end], count, i)
 }
 
 // What the variable w[i] reads.
-pub fn variable_value(r: &[i32; RS], cells: &[i32; CELLS], w: u32, i: u32) -> Worked
+#[tactic(auto, unfolding(crate::specs::Variables::variable_value))]
+pub fn variable_value(r: &[i32; RS], cells: &[i32; CELLS], w: u32, i: u32) -> Result<i32, Alarm>
     ensures { result ≡ variable_value r.now cells.now w i }
 {
     if !is_inside(w, i) {
-        return Worked::Alarm(UNSOUND);
+        return Err(Alarm::Unsound);
     }
     if w == R {
-        let at = i as usize;
-        return Worked::Value(r[at]);
+        return Ok(r[i as usize]);
     }
     if is_fifo(w) {
         return fifo_at(r, cells, w, i);
     }
-    let at = cell_of(w, i);
-    Worked::Value(cells[at])
+    Ok(cells[cell_of(w, i)])
 }

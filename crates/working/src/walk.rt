@@ -16,13 +16,11 @@ use tokens::token::{
     is_factor, is_indexed, is_logic, is_row, is_term, is_variable, token_at,
 };
 use values::arithmetic;
-use values::arithmetic::Worked;
-use values::codes::UNSOUND;
+use values::codes::Alarm;
 
-// What working gives: a value and the place behind it; or, where it is not good, the number of an alarm.
+// What working reached: a value, and the place behind what it was worked from.
 #[derive(Clone, Copy)]
-pub struct ValueOrAlarm {
-    pub good: bool,
+pub struct Reached {
     pub value: i32,
     pub next: usize,
 }
@@ -112,7 +110,7 @@ fn closed(set: &[u32; SIZE], r: &[i32; RS], cells: &[i32; CELLS], a: u64) -> u64
         return a;
     }
     if token_at(set, i) != CLOSE {
-        return alarm_of(UNSOUND);
+        return alarm_of(Alarm::Unsound);
     }
     a + 1
 }
@@ -122,7 +120,7 @@ fn variable(set: &[u32; SIZE], r: &[i32; RS], cells: &[i32; CELLS], w: u32, at: 
     ensures { said result ≡ read_variable set.now (value_over r.now cells.now) w at }
 {
     if !is_indexed(set, w, at) {
-        return alarm_of(UNSOUND);
+        return alarm_of(Alarm::Unsound);
     }
     worked_pair(variable_value(r, cells, w, index_at(set, w, at)), at + 4)
 }
@@ -138,7 +136,7 @@ fn truth(set: &[u32; SIZE], r: &[i32; RS], cells: &[i32; CELLS], t: u32, at: usi
     if t == FALSE {
         return pair_of(0, at + 1);
     }
-    alarm_of(UNSOUND)
+    alarm_of(Alarm::Unsound)
 }
 
 // ---- the walk
@@ -148,7 +146,7 @@ fn operand(set: &[u32; SIZE], r: &[i32; RS], cells: &[i32; CELLS], at: usize, le
     ensures { said result ≡ read_operand set.now (value_over r.now cells.now) left at }
 {
     if left == 0 {
-        return alarm_of(UNSOUND);
+        return alarm_of(Alarm::Unsound);
     }
     let t = token_at(set, at);
     if NUMBER <= t {
@@ -293,55 +291,66 @@ fn expression(set: &[u32; SIZE], r: &[i32; RS], cells: &[i32; CELLS], at: usize,
 // ---- what the layers above call
 
 // What a pair says, to the layers above.
-fn value_or_alarm(w: u64) -> ValueOrAlarm
+fn reached_in(w: u64) -> Result<Reached, Alarm>
     ensures { result ≡ told (said w) }
 {
     let i = next_of(w);
     if i == 0 {
-        return ValueOrAlarm {
-            good: false,
-            value: alarm_in(w) as i32,
-            next: 0,
-        };
+        return Err(alarm_in(w));
     }
-    ValueOrAlarm {
-        good: true,
+    Ok(Reached {
         value: value_of(w),
         next: i,
-    }
+    })
 }
 
 // The value of the condition that begins at place `at`: yes is 1, no is 0.
-pub fn condition(set: &[u32; SIZE], r: &[i32; RS], cells: &[i32; CELLS], at: usize) -> ValueOrAlarm
+#[tactic(auto, unfolding(crate::specs::Working::condition_value))]
+pub fn condition(
+    set: &[u32; SIZE],
+    r: &[i32; RS],
+    cells: &[i32; CELLS],
+    at: usize,
+) -> Result<Reached, Alarm>
     ensures { result ≡ condition_value set.now r.now cells.now at }
 {
-    value_or_alarm(expression(set, r, cells, at, SIZE))
+    reached_in(expression(set, r, cells, at, SIZE))
 }
 
 // The value of the right side that begins at place `at`.
-pub fn right_side(set: &[u32; SIZE], r: &[i32; RS], cells: &[i32; CELLS], at: usize) -> ValueOrAlarm
+#[tactic(auto, unfolding(crate::specs::Working::right_value))]
+pub fn right_side(
+    set: &[u32; SIZE],
+    r: &[i32; RS],
+    cells: &[i32; CELLS],
+    at: usize,
+) -> Result<Reached, Alarm>
     ensures { result ≡ right_value set.now r.now cells.now at }
 {
-    value_or_alarm(sum(set, r, cells, at, SIZE))
+    reached_in(sum(set, r, cells, at, SIZE))
 }
 
 // What a pair says, without its place.
-fn worked_in(w: u64) -> Worked
+fn worked_in(w: u64) -> Result<i32, Alarm>
     ensures { result ≡ worked (said w) }
 {
-    let i = next_of(w);
-    if i == 0 {
-        return Worked::Alarm(alarm_in(w));
+    if next_of(w) == 0 {
+        return Err(alarm_in(w));
     }
-    Worked::Value(value_of(w))
+    Ok(value_of(w))
 }
 
 // What the variable that begins at place `at` reads. It is read as an operand, so that the walk is the one caller of `variable`.
-pub fn variable_at(set: &[u32; SIZE], r: &[i32; RS], cells: &[i32; CELLS], at: usize) -> Worked
+pub fn variable_at(
+    set: &[u32; SIZE],
+    r: &[i32; RS],
+    cells: &[i32; CELLS],
+    at: usize,
+) -> Result<i32, Alarm>
     ensures { result ≡ variable_at set.now r.now cells.now at }
 {
     if !is_variable(token_at(set, at)) {
-        return Worked::Alarm(UNSOUND);
+        return Err(Alarm::Unsound);
     }
     worked_in(operand(set, r, cells, at, 1))
 }

@@ -9,13 +9,14 @@ pub fn check(tree: &Tree, report: &mut Report) {
     for library in tree.crates.iter().filter(|one| one.is_library()) {
         report.test(unread(library));
         for (module, function) in public_calls(library) {
-            let name = format!("{}::{module}{}", library.name, function.name);
+            let of = function.of.as_ref().map_or(String::new(), |of| format!("{of}::"));
+            let name = format!("{}::{module}{of}{}", library.name, function.name);
             report.test(faults(&function).into_iter().map(|fault| format!("{name}: {fault}")).collect());
         }
     }
 }
 
-/// The functions that another crate can call: those of the root, those of modules that it shows whole, and those that it passes on by `pub use`.
+/// The functions that another crate can call: those of the root, those of modules that it shows whole, and those that it passes on by `pub use`, with the methods of what it passes on.
 pub fn public_calls(library: &Crate) -> Vec<(String, Function)> {
     let mut calls = Vec::new();
     let root = &library.files["src/lib.rt"].text;
@@ -26,20 +27,26 @@ pub fn public_calls(library: &Crate) -> Vec<(String, Function)> {
     for (module, item) in passed {
         let Some(file) = library.files.get(&format!("src/{module}.rt")) else { continue };
         calls.extend(
-            functions(&file.text).into_iter().filter(|one| one.name == item).map(|one| (String::new(), one)),
+            functions(&file.text)
+                .into_iter()
+                .filter(|one| match &one.of {
+                    Some(of) => one.public && *of == item,
+                    None => one.name == item,
+                })
+                .map(|one| (String::new(), one)),
         );
     }
     calls
 }
 
-/// What this program would not see: a `pub use` that is not of items of one file of the crate, methods, and traits.
+/// What this program would not see: a `pub use` that is not of items of one file of the crate, traits, and their methods.
 fn unread(library: &Crate) -> Vec<String> {
     let mut faults = Vec::new();
     for file in library.within("src/", ".rt") {
-        let methods = file
-            .text
-            .lines()
-            .filter(|line| ["impl", "trait ", "pub trait "].iter().any(|it| line.starts_with(it)));
+        let methods = file.text.lines().filter(|line| {
+            let of_trait = line.starts_with("impl") && line.contains(" for ");
+            of_trait || line.starts_with("trait ") || line.starts_with("pub trait ")
+        });
         for line in shows(&file.text).into_iter().chain(methods.map(String::from)) {
             let passed = passed_on(&line).filter(|_| file.path.ends_with("/lib.rt"));
             if !passed.is_some_and(|all| all.iter().all(|(module, item)| has(library, module, item))) {
@@ -53,7 +60,7 @@ fn unread(library: &Crate) -> Vec<String> {
 /// Whether a module of the crate has this function or item.
 fn has(library: &Crate, module: &str, item: &str) -> bool {
     library.files.get(&format!("src/{module}.rt")).is_some_and(|source| {
-        functions(&source.text).iter().any(|one| one.name == item)
+        functions(&source.text).iter().any(|one| one.of.is_none() && one.name == item)
             || items(&source.text).any(|one| one == item)
     })
 }

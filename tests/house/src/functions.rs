@@ -1,8 +1,9 @@
 //! The functions of a file of Rattle: each with its signature and its contract, as text.
 
-/// A function: its name, whether it is marked `pub`, its parameters, whether it answers something, what it asks and what it promises.
+/// A function: its name, the type whose method it is, whether it is marked `pub`, its parameters, whether it answers something, what it asks and what it promises.
 pub struct Function {
     pub name: String,
+    pub of: Option<String>,
     pub public: bool,
     /// Names of the parameters that are lent to be written.
     pub written: Vec<String>,
@@ -11,22 +12,37 @@ pub struct Function {
     pub ensures: Vec<String>,
 }
 
-/// The functions of a text, in its order. A head begins with `fn` at the start of a line and ends at the line `{` or at a `{` that is no contract's.
+/// The functions of a text, in its order, and the methods of its types. A head begins with `fn` at the start of a line, or four places in within an `impl`, and ends at the line `{` or at a `{` that is no contract's.
 pub fn functions(text: &str) -> Vec<Function> {
     let mut found = Vec::new();
+    let mut of = None;
     let lines: Vec<&str> = text.lines().collect();
     for (at, line) in lines.iter().enumerate() {
-        let words = line.trim_start_matches("pub(crate) ").trim_start_matches("pub ");
+        if line.starts_with("impl") {
+            of = of_type(line);
+        } else if *line == "}" {
+            of = None;
+        }
+        let head = if of.is_some() { line.strip_prefix("    ").unwrap_or(line) } else { line };
+        let words = head.trim_start_matches("pub(crate) ").trim_start_matches("pub ");
         let words = words.trim_start_matches("extern \"C\" ");
-        if line.starts_with(' ') || !words.starts_with("fn ") {
+        if head.starts_with(' ') || !words.starts_with("fn ") {
             continue;
         }
-        found.push(function(line.starts_with("pub fn") || line.starts_with("pub extern"), &lines[at..]));
+        let public = head.starts_with("pub fn") || head.starts_with("pub extern");
+        found.push(function(public, of.clone(), &lines[at..]));
     }
     found
 }
 
-fn function(public: bool, lines: &[&str]) -> Function {
+/// The type whose methods follow; those of a trait are not looked at.
+fn of_type(line: &str) -> Option<String> {
+    let head = line.strip_suffix(" {")?;
+    let name = head.rsplit(' ').next()?.split('<').next()?;
+    (!head.contains(" for ")).then(|| name.into())
+}
+
+fn function(public: bool, of: Option<String>, lines: &[&str]) -> Function {
     let mut signature = String::new();
     let (mut requires, mut ensures) = (Vec::new(), Vec::new());
     let mut lines = lines.iter().map(|line| line.trim());
@@ -63,10 +79,12 @@ fn function(public: bool, lines: &[&str]) -> Function {
     let parameters = signature
         .split_once('(')
         .map_or("", |(_, rest)| rest.rsplit_once(')').map_or("", |(inside, _)| inside));
-    let named = |part: &str| part.split(':').next().map(|name| name.trim().to_string());
+    let named =
+        |part: &str| part.split(':').next().map(|name| name.trim().trim_start_matches("&mut ").to_string());
     let written = parameters.split(',').filter(|part| is_lent(part)).filter_map(named).collect();
     Function {
         name: name.split('<').next().unwrap_or_default().into(),
+        of,
         public,
         written,
         answers,

@@ -10,7 +10,7 @@ use mathlib.Core.Bool.{true, false, not}
 use lib.Ieee.{Float, nan, inf, fin, binary32, fits, is_nan, ne, to_bits, of_fields}
 use lib.Ieee.Compare.{differs_from_itself, nan_differs}
 use Rattle.couplers.specs.Conversion.{thousandths_of, signed_thousandths, nearest_even}
-use Rattle.couplers.specs.declared.reading.Converted.TheVariants.{Fault}
+use Rattle.std.specs.Prelude.{None}
 use Rattle.couplers.specs.ConversionLaws.{too_small, too-great, between, by-fields}
 use Rattle.couplers.proofs.reading.convert.Statement.{statement}
 use Rattle.couplers.proofs.reading.convert.Tie as tie
@@ -37,7 +37,7 @@ no_nan nan h = let z : true ≡ false = sym nan_differs ∙ h in subst T z tt
 no_nan (inf s) h = tt
 no_nan (fin s m e) h = tt
 
-nan-converted : (x : Float) → ne x x ≡ true → Fault ≡ thousandths_of x
+nan-converted : (x : Float) → ne x x ≡ true → None ≡ thousandths_of x
 unfolding thousandths_of
 nan-converted x h = rw (differs_from_itself x (subst T (sym h) tt))
 

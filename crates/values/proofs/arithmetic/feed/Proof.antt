@@ -2,7 +2,7 @@
 use mathlib.Core.Path.{ap}
 use mir.Syntax.{w32}
 use Rattle.values.specs.Value.{less_than, feed_of}
-use Rattle.values.specs.declared.arithmetic.Worked.TheVariants.{Value}
+use Rattle.std.specs.Prelude.{Ok}
 use Rattle.values.specs.SignedLaws.{back}
 use Rattle.values.proofs.arithmetic.feed.Statement.{statement}
 use Rattle.values.proofs.arithmetic.feed.Tie as tie
@@ -12,5 +12,5 @@ unfolding less_than feed_of
 feed_spec =
     tie.close
     (tie.spec
-    (λ c. let b = back w32 c.ranges.v in rw (rw b at c.if-v-gt0.true) (ap Value b))
+    (λ c. let b = back w32 c.ranges.v in rw (rw b at c.if-v-gt0.true) (ap Ok b))
     (λ c. rw (rw (back w32 c.ranges.v) at c.if-v-gt0.false)))

@@ -3,7 +3,7 @@ use mathlib.Core.Path.{ap}
 use lib.IntN.{pos}
 use mir.Syntax.{w32}
 use Rattle.values.specs.Value.{unit, output_of}
-use Rattle.values.specs.declared.arithmetic.Worked.TheVariants.{Value}
+use Rattle.std.specs.Prelude.{Ok}
 use Rattle.values.specs.SignedLaws.{back, zero-fits, unit-fits, bits-equal, bits-other}
 use Rattle.values.proofs.arithmetic.output.Statement.{statement}
 use Rattle.values.proofs.arithmetic.output.Tie as tie
@@ -12,7 +12,7 @@ returns-2 : tie.Need-returns-then-v-eq-UNIT
 unfolding output_of
 returns-2 c =
     let s = c.before.before in
-    rw (bits-other s.args.v (pos 0) c.if-v-eq0.false, bits-equal s.ranges.v unit-fits c.if-v-eq-UNIT.true) (ap Value (back w32 s.ranges.v))
+    rw (bits-other s.args.v (pos 0) c.if-v-eq0.false, bits-equal s.ranges.v unit-fits c.if-v-eq-UNIT.true) (ap Ok (back w32 s.ranges.v))
 
 returns-3 : tie.Need-returns
 unfolding output_of
@@ -25,6 +25,6 @@ unfolding output_of
 output_spec =
     tie.close
     (tie.spec
-    (λ c. let f = c.ranges.v in rw (bits-equal f zero-fits c.if-v-eq0.true) (ap Value (back w32 f)))
+    (λ c. let f = c.ranges.v in rw (bits-equal f zero-fits c.if-v-eq0.true) (ap Ok (back w32 f)))
     returns-2
     returns-3)

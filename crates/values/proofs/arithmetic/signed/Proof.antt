@@ -6,7 +6,7 @@ use mathlib.Core.Bool.{true}
 use Prim.Native.Nat.{◌≤◌, ◌<◌}
 use native.Mathlib.Omega.{arith}
 use Rattle.values.specs.Value.{top, in_range, valued}
-use Rattle.values.specs.declared.arithmetic.Worked.TheVariants.{Value}
+use Rattle.std.specs.Prelude.{Ok}
 use Rattle.values.specs.SizeLaws.{signed-size}
 use Rattle.values.specs.SignedLaws.{size_back, negative_fits, negative_back}
 use Rattle.values.proofs.arithmetic.signed.Statement.{statement}
@@ -27,5 +27,5 @@ signed_spec =
     (λ c. let a = c.args in rw (signed-size a.negative a.size, lt-leb _ _ c.if-size.true))
     (λ c. search rules)
     (λ c. negative_fits _ (fitting c.before))
-    (λ c. let s = small c.before in rw (c.if-negative.true, signed-size true c.args.size, le-leb _ _ s) (ap Value (negative_back _ (fitting c.before))))
-    (λ c. let s = small c.before in rw (c.if-negative.false, le-leb _ _ s) (ap Value (size_back _ (fitting c.before)))))
+    (λ c. let s = small c.before in rw (c.if-negative.true, signed-size true c.args.size, le-leb _ _ s) (ap Ok (negative_back _ (fitting c.before))))
+    (λ c. let s = small c.before in rw (c.if-negative.false, le-leb _ _ s) (ap Ok (size_back _ (fitting c.before)))))

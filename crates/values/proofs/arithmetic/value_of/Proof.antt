@@ -5,7 +5,7 @@ use mathlib.Core.Bool.{true}
 use mir.Syntax.{w32, w64}
 use Rattle.values.specs.Value.{in_range, valued}
 use Rattle.values.specs.ValueLaws.{range-fits}
-use Rattle.values.specs.declared.arithmetic.Worked.TheVariants.{Value}
+use Rattle.std.specs.Prelude.{Ok}
 use Rattle.values.specs.SignedLaws.{back, too-low, too-high, between}
 use Rattle.values.proofs.arithmetic.value_of.Statement.{statement}
 use Rattle.values.proofs.arithmetic.value_of.Tie as tie
@@ -27,4 +27,4 @@ value_of_spec =
     (λ c. search rules)
     (λ c. rw (too-high _ (rw (back w64 c.ranges.x) at c.if-x-2.true)))
     cast-x
-    (λ c. rw (inside c) (ap Value (back w32 (cast-x c) ∙ back w64 c.ranges.x))))
+    (λ c. rw (inside c) (ap Ok (back w32 (cast-x c) ∙ back w64 c.ranges.x))))

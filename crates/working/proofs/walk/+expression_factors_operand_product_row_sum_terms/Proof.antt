@@ -7,6 +7,7 @@ use native.Mathlib.Omega.{arith}
 use lib.IntN.{ℤ}
 use mir.Syntax.{w32}
 use mir.ValLaws.{to_z_pos}
+use Rattle.values.specs.declared.codes.Alarm.TheVariants.{Unsound}
 use Rattle.values.specs.Choice.{both}
 use Rattle.values.specs.SignedLaws.{back}
 use Rattle.tokens.specs.Token.{SAME, ATLEAST, IN, IM, is_factor, is_term}
@@ -127,7 +128,7 @@ unfolding value_over sum_at expression_at
     -- operand
     (λ t. operand-lts.spec (_, alarm-of.Learnt, _, token-at.Learnt, _, pair_of.Learnt, _, is-variable.Learnt, _, variable.Learnt, _, expression.Post, _, closed.Learnt, _, operand.Post, _, negated-pair.Learnt, _, inverted-pair.Learnt, _, truth.Learnt) _ operand.Post
     (λ c κs. search rules)
-    (λ c. ap said c.alarm_of.ensures ∙ alarm-said _ (omega arith) ∙ sym (spent _ _ _ _ c.if-left-eq0.true))
+    (λ c. ap said c.alarm_of.ensures ∙ alarm-said Unsound ∙ sym (spent _ _ _ _ c.if-left-eq0.true))
     (λ c κs. search rules)
     (λ c. search rules)
     (λ c. omega (arith, lies-inside c.args.set.now c.args.at c.token_at-t.ensures (λ e. omega arith)))

@@ -2,6 +2,7 @@
 use borrow.Author.Rules.{rules}
 use mathlib.Core.Path.{refl, sym, ap, ◌∙◌}
 use native.Mathlib.Omega.{arith}
+use Rattle.values.specs.declared.codes.Alarm.TheVariants.{Unsound}
 use Rattle.tokens.specs.Descent.{read_close}
 use Rattle.working.specs.Pair.{said}
 use Rattle.working.specs.Working.{value_over}
@@ -25,7 +26,7 @@ closed_spec =
     let n = d.before.before.before in
     let a = n.args in
     enters _ n.next_of-i.ensures refl (read_close a.set.now (value_over a.r.now a.cells.now)) d.if-i-eq0.false
-    (ap said c.alarm_of.ensures ∙ alarm-said _ (omega arith) ∙ sym (closes-not _ _ _ _ _ d.token_at.ensures c.if-token_at-ne-CLOSE.true)))
+    (ap said c.alarm_of.ensures ∙ alarm-said Unsound ∙ sym (closes-not _ _ _ _ _ d.token_at.ensures c.if-token_at-ne-CLOSE.true)))
     (λ c. let d = c.before in record { fits = omega (arith, d.next_of-i.ensures, lies-inside d.args.set.now d.next_of-i.result d.token_at.ensures (λ e. omega arith)) })
     (λ c.
     let d = c.before in

@@ -3,6 +3,7 @@ use borrow.Author.Rules.{rules}
 use mathlib.Core.Path.{sym, ap, ◌∙◌}
 use native.Mathlib.Omega.{arith}
 use lib.Dec.{lit<}
+use Rattle.values.specs.declared.codes.Alarm.TheVariants.{Unsound}
 use Rattle.working.specs.Pair.{said}
 use Rattle.working.specs.Working.{value_over}
 use Rattle.tokens.specs.ArmLaws.{yes-truth, no_truth, not-truth}
@@ -26,4 +27,4 @@ truth_spec =
     let l = c.requires (λ e. omega arith) in
     ap said c.pair_of-then-t-eq-FALSE.ensures ∙ pair-said _ (record { sfits = lit< tt }) (omega arith) (omega (arith, l)) ∙ sym (no_truth _ _ _ _ c.if-t-eq-FALSE.true))
     (λ c κs. search rules)
-    (λ c. ap said c.alarm_of.ensures ∙ alarm-said _ (omega arith) ∙ sym (not-truth _ _ _ _ c.if-t-eq-TRUE.false c.if-t-eq-FALSE.false)))
+    (λ c. ap said c.alarm_of.ensures ∙ alarm-said Unsound ∙ sym (not-truth _ _ _ _ c.if-t-eq-TRUE.false c.if-t-eq-FALSE.false)))

@@ -4,6 +4,7 @@ use borrow.Author.Tests.{not-true, not-false}
 use mathlib.Core.Path.{refl, sym, ap, ◌∙◌}
 use Prim.Native.Nat.{ℕ, ◌+◌}
 use native.Mathlib.Omega.{arith}
+use Rattle.values.specs.declared.codes.Alarm.TheVariants.{Unsound}
 use Rattle.working.specs.Pair.{said}
 use Rattle.working.specs.Variables.{variable_value}
 use Rattle.working.specs.Working.{value_over}
@@ -19,7 +20,7 @@ variable_spec =
     (tie.spec
     (λ c κs. search rules)
     (λ c κs. search rules)
-    (λ c. ap said c.alarm_of.ensures ∙ alarm-said _ (omega arith) ∙ sym (indexed-not _ _ _ _ (sym c.is_indexed.ensures ∙ not-true _ c.if-not-is_indexed.true-raw)))
+    (λ c. ap said c.alarm_of.ensures ∙ alarm-said Unsound ∙ sym (indexed-not _ _ _ _ (sym c.is_indexed.ensures ∙ not-true _ c.if-not-is_indexed.true-raw)))
     (λ c κs. search rules)
     (λ c κs. search rules)
     (λ c. search rules)

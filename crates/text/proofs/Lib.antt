@@ -1,0 +1,2 @@
+-- Laws that only proofs of functions use.
+mod PutPartLaws

@@ -1,0 +1,5 @@
+-- `digits::put_digits`: one digit fewer is left.
+use Rattle.text.proofs.digits.+put_digits.Given as goal
+
+abbrev pub decreases-put_digits : goal.decreases-put_digits
+decreases-put_digits l = l.k

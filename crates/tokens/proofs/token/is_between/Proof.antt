@@ -1,7 +1,0 @@
--- `token::is_between` meets its contract: each return by the tests that led to it.
-use borrow.Author.Tests.{le-leb, lt-leb}
-use Rattle.tokens.proofs.token.is_between.Statement.{statement}
-use Rattle.tokens.proofs.token.is_between.Tie as tie
-
-pub is_between_spec : {M : Type 1} → statement M
-is_between_spec = tie.close (tie.spec (λ c. simp (lt-leb _ _ c.if-t-low.true)) (λ c. simp (le-leb _ _ c.if-t-low.false)))

@@ -1,9 +1,0 @@
--- `beat_line::byte_at` meets its contract: the byte, or the default.
-use borrow.Author.Rules.{rules}
-use mathlib.Core.Path.{sym}
-use lib.ListN.{get_or-eq_default}
-use Rattle.transcript.proofs.beat_line.byte_at.Statement.{statement}
-use Rattle.transcript.proofs.beat_line.byte_at.Tie as tie
-
-pub byte_at_spec : {M : Type 1} → statement M
-byte_at_spec = tie.close (tie.spec (λ c. search rules) (λ c. search rules) (λ c. sym (get_or-eq_default c.args.part.now 0 c.if-at-part.false)))
