@@ -1,4 +1,4 @@
--- The operators of each level of the check's walk: what they want and give; and one step of the walk, for any level.
+-- The operators of each level of the check's walk: what they want and give; and a loop of the walk at its begin and after a round, for any level.
 use mathlib.Core.Path.{◌≡◌, refl, sym, ap, ◌∙◌}
 use mathlib.Core.Bool.{Bool, true, false, not}
 use mathlib.Core.List.{List}
@@ -9,12 +9,12 @@ use Rattle.values.specs.Choice.{both}
 use Rattle.tokens.specs.Token.{OPEN, SAME, ATLEAST, PLUS, MINUS, TIMES, OVER, AND, XOR, between, is_factor, is_term, is_arithmetic, is_compare, is_logic}
 use Rattle.tokens.specs.Descent.{Read, read, ends, then, is_row, token}
 use Rattle.tokens.specs.BetweenLaws.{inside, outside, is-inside, arithmetic-range}
-use Rattle.tokens.specs.RowLaws.{Loop, loop-goes}
+use Rattle.tokens.specs.RowLaws.{Loop, loop-begins, loop-goes}
 use Rattle.checking.specs.Fault.{Sight, sight, join_sights, lowest}
 use Rattle.checking.specs.SightNumber.{next_of, sight_of, seen}
 use Rattle.checking.specs.Brackets.{NoBracket, Counted, Onward, Joined}
 use Rattle.checking.proofs.SightNumberLaws.{sights-say}
-use Rattle.checking.proofs.BracketCountLaws.{other-above, other-below, joined-on, onward_then}
+use Rattle.checking.proofs.BracketCountLaws.{other-above, other-below, onward-same, joined-on, onward_then}
 
 -- the operators want and give yes/no (true) or numbers (false), and the count of brackets passes over them
 pub record Level (is_op : ℕ → Bool) (wanted gives : Bool) : Type 0 where
@@ -59,15 +59,20 @@ then_same : {f g : Sight → ℕ → Read Sight} (x : Read Sight) → ((y : Sigh
 then_same (read y q) h = h y q
 then_same (ends k) h = refl
 
+-- before the first round all are left
+pub begins : {is_op : ℕ → Bool} {s : List ℕ} {sub : ℕ → Read Sight} {left w : ℕ} → Loop s sight is_op sub seen left w (left - 0) w × Onward s w w
+begins {left = left} = let all : left - 0 ≡ left = omega arith in (rw all loop-begins, onward-same _ _)
+
 module _ {is_op : ℕ → Bool} {wanted gives : Bool} (level : Level is_op wanted gives) where
   -- x is a, the operator o behind it, and r
   pub level-joins : (o : ℕ) (a : Sight) {x : Read Sight} (r : Read Sight) → is_op o ≡ true → x ≡ then r (λ y q. read (record { truth = gives; fault = lowest wanted a y }) q) → x ≡ then r (λ y q. read (join_sights o a y) q)
   unfolding join_sights
   level-joins o a r h j = j ∙ then_same r (λ y q. rw (sym (level.wants o h), sym (level.yields o h)) refl)
 
-  -- a round of the loop: b is what stands behind the operator t, x is a and it joined
-  pub round : {s : List ℕ} {sub : ℕ → Read Sight} {left w k a : ℕ} → Loop s sight is_op sub seen left w k a × Onward s w a → {i t b x : ℕ} {o : Bool} → i ≡ next_of a → (i ≡ 0 → ⊥) → t ≡ token s i → o ≡ is_op t → not o ≡ false → 0 < k → (seen b ≡ sub (i + 1)) × Counted s (i + 1) b → (seen x ≡ then (seen b) (λ y q. read (record { truth = gives; fault = lowest wanted (sight_of a) y }) q)) × Joined a b x → Loop s sight is_op sub seen left w (k - 1) x × Onward s w x
+  -- a round of the loop, behind which `next` are left: b is what stands behind the operator t, x is a and it joined
+  pub round : {s : List ℕ} {sub : ℕ → Read Sight} {left w k next a : ℕ} → Loop s sight is_op sub seen left w k a × Onward s w a → {i t b x : ℕ} {o : Bool} → i ≡ next_of a → (i ≡ 0 → ⊥) → t ≡ token s i → o ≡ is_op t → not o ≡ false → next + 1 ≡ k → (seen b ≡ sub (i + 1)) × Counted s (i + 1) b → (seen x ≡ then (seen b) (λ y q. read (record { truth = gives; fault = lowest wanted (sight_of a) y }) q)) × Joined a b x → Loop s sight is_op sub seen left w next x × Onward s w x
   unfolding sight
-  round {s} {a = a} g {t = t} {b = b} {o = o} e ne q f h l m j =
+  round {s} {k = k} {next = next} {a = a} g {t = t} {b = b} {o = o} e ne q f h l m j =
       let p = sym f ∙ not-false o h in
-      (loop-goes g.0 sights-say e ne q f h l refl m.0 (level-joins t (sight_of a) (seen b) p j.0), onward_then s g.1 (joined-on s e ne q (level.no-bracket t p) m.1 j.1))
+      let fewer : k - 1 ≡ next = omega arith in
+      (rw (sym fewer) (loop-goes g.0 sights-say e ne q f h (omega arith) refl m.0 (level-joins t (sight_of a) (seen b) p j.0)), onward_then s g.1 (joined-on s e ne q (level.no-bracket t p) m.1 j.1))

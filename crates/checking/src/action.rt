@@ -1,4 +1,6 @@
 // The check of actions: the faults 5 to 10 and 14 in them.
+//
+// Most functions here are asked that their place is one of the set (`at < set_size`): a type for such places would be taken apart at each `token_at` and made anew at each step, which is no plainer.
 ghost use Rattle.std.specs.Prelude.{◌≡◌, true, ◌||◌, [], ◌+◌, ◌<◌, ◌≤◌};
 ghost use Rattle.tokens.specs.Token.{set_size, is_move, is_naming};
 ghost use Rattle.tokens.specs.Descent.{index_at};
@@ -16,7 +18,7 @@ use tokens::token::{
 };
 use values::codes::{TOO_MANY_ACTIONS, TWO_MOVES};
 
-// The axes moved are a word: bit x for axis x, 1 to 6, and bit 0 once an axis is moved twice. This is all of them.
+// The axes moved are a word: bit x for axis x, 1 to 6, and bit 0 once an axis is moved twice. `with_move` has it so, and the loop keeps it in a register. This is all of them.
 const ALL_MOVED: u64 = 127;
 
 // FIFO [0] as a whole, unbracketed right side.

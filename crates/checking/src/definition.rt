@@ -88,7 +88,7 @@ fn part_behind(set: &[u32; SIZE], before: Part, sign: u32) -> Result<Part, u8>
     part_at(set, before.fault, sign, number_place(set, before.next))
 }
 
-// The curve whose parameters stand at these places.
+// The curve whose parameters stand at these places. Seven parameters, each read once in its order: a struct of places around them would be no plainer.
 fn curve_from(
     set: &[u32; SIZE],
     lower: usize,

@@ -62,10 +62,7 @@ fn truth(set: &[u32; SIZE], t: u32, at: usize) -> u64
     requires { (t ≡ 0 → ⊥) → at < set_size }
     ensures { (seen result ≡ read_truth set.now sight t at) × ((InGrammar result → NoBracket t) × Counted set.now (at + 1) result) }
 {
-    if t == TRUE {
-        return truth_seen(0, 0, at + 1);
-    }
-    if t == FALSE {
+    if t == TRUE || t == FALSE {
         return truth_seen(0, 0, at + 1);
     }
     NOTHING
@@ -104,8 +101,7 @@ fn factors(set: &[u32; SIZE], w: u64, left: usize) -> u64
     ensures { (seen result ≡ then (seen w) (factors_behind set.now sight left)) × Onward set.now w result }
 {
     let mut a = w;
-    let mut rounds = left;
-    while 0 < rounds {
+    for _ in 0..left {
         let i = next_of(a);
         if i == 0 {
             return a;
@@ -115,7 +111,6 @@ fn factors(set: &[u32; SIZE], w: u64, left: usize) -> u64
             return a;
         }
         a = join(false, false, a, operand(set, i + 1, left));
-        rounds -= 1;
     }
     a
 }
@@ -126,8 +121,7 @@ fn terms(set: &[u32; SIZE], w: u64, left: usize) -> u64
     ensures { (seen result ≡ then (seen w) (terms_behind set.now sight left)) × Onward set.now w result }
 {
     let mut a = w;
-    let mut rounds = left;
-    while 0 < rounds {
+    for _ in 0..left {
         let i = next_of(a);
         if i == 0 {
             return a;
@@ -136,13 +130,8 @@ fn terms(set: &[u32; SIZE], w: u64, left: usize) -> u64
         if !is_term(t) {
             return a;
         }
-        a = join(
-            false,
-            false,
-            a,
-            factors(set, operand(set, i + 1, left), left),
-        );
-        rounds -= 1;
+        let product = factors(set, operand(set, i + 1, left), left);
+        a = join(false, false, a, product);
     }
     a
 }
@@ -168,8 +157,7 @@ fn row(set: &[u32; SIZE], first: u32, w: u64, left: usize) -> u64
     ensures { (seen result ≡ then (seen w) (row_behind set.now sight first left)) × Onward set.now w result }
 {
     let mut a = w;
-    let mut rounds = left;
-    while 0 < rounds {
+    for _ in 0..left {
         let i = next_of(a);
         if i == 0 {
             return a;
@@ -179,7 +167,6 @@ fn row(set: &[u32; SIZE], first: u32, w: u64, left: usize) -> u64
             return a;
         }
         a = join(true, true, a, sum(set, i + 1, left));
-        rounds -= 1;
     }
     a
 }

@@ -1,4 +1,6 @@
 // The check of a line: its lowest fault of 4 to 10, or 14, from its tokens, or where its parts lie. A fault is the documents' code: a C call hands it out as a number, and theorems speak of it so.
+//
+// What was read so far (`Counted`) is asked of a number and a set together, so it is no invariant of a type.
 ghost use Rattle.std.specs.Prelude.{◌≡◌, ◌+◌, ◌<◌, drop, Err};
 ghost use Rattle.tokens.specs.Token.{set_size};
 ghost use Rattle.tokens.specs.SingleFault.{opens_too_many};
@@ -15,7 +17,7 @@ use tokens::fault::{id_fault, opens_too_many};
 use tokens::token::{DO, EQUALS, IDS, SIZE, is_id, is_keyword, is_whole, token_at, whole_of};
 use values::codes::{NOT_IN_GRAMMAR, TOO_DEEP};
 
-// The parts of a line: its number, whether it is IDS, its keyword (0: none), where its condition and its actions begin, where it ends, and whether an action of it names a line or a curve.
+// The parts of a line: its number, whether it is IDS, its keyword (its token, 0 for none, as `tries`, `acts` and `remembers` take it), where its condition and its actions begin, where it ends, and whether an action of it names a line or a curve.
 #[derive(Clone, Copy)]
 pub struct Line {
     pub number: u8,
@@ -28,10 +30,11 @@ pub struct Line {
 }
 
 // A line's number as a byte; 0 for one above 255.
+#[tactic(auto, unfolding(crate::specs::Fault::number_of))]
 fn number_of(n: u32) -> u8
     ensures { result ≡ number_of n }
 {
-    if n <= 255 { n as u8 } else { 0 }
+    u8::try_from(n).unwrap_or(0)
 }
 
 // Whether the line at `at` opens too many brackets; `a` is what was read of it. The count goes on behind that, or, where it is too deep or nothing, is taken from the

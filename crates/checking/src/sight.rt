@@ -1,4 +1,6 @@
 // What the check makes of two sights side by side, and of one behind a sign: the steps of the check walk.
+//
+// A kind is a bool, true for yes/no, as in the definitions (`lowest`, `wanting_fault`): it is one bit of the number.
 ghost use Rattle.std.specs.Prelude.{◌≡◌};
 ghost use Rattle.tokens.specs.Descent.{read, then};
 ghost use Rattle.tokens.specs.SingleFault.{lower};

@@ -1,4 +1,4 @@
-// What the check sees, in one number of 64 bits: the walk hands it on in a register. So it is no struct: speed (docs/PERFORMANCE.md).
+// What the check sees, in one number of 64 bits: the walk hands it on in a register. So it is no struct: speed (docs/PERFORMANCE.md), and the walk's contracts say of this number what it means (`seen`).
 //
 // Its remainder by ROOM is the place behind it, 0 where it is not in the grammar; its quotient has one bit for a yes/no or, of actions, for a name, the lowest fault, and the greatest depth of
 // brackets in it, counted to nine.
@@ -66,7 +66,5 @@ pub fn depth_of(w: u64) -> u8
 pub fn deeper_of(a: u64, b: u64) -> u8
     ensures { result ≡ deeper_of a b }
 {
-    let d = depth_of(a);
-    let e = depth_of(b);
-    if d < e { e } else { d }
+    depth_of(a).max(depth_of(b))
 }

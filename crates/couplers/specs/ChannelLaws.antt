@@ -1,7 +1,9 @@
 -- Laws of channels: what a good reading and a fault make of one, on both sides of 25 faulty beats; sound ones stay sound; the values are values. Nothing is assumed.
-use Rattle.std.specs.Prelude.{◌≡◌, Bool, ◌&&◌, List, [], ◌∷◌, leb, ℤ, pos, get_or, set, Float, Option, Some, None, is_some}
+use Rattle.std.specs.Prelude.{◌≡◌, Bool, ◌&&◌, List, [], ◌∷◌, leb, ℤ, pos, get_or, set, take, Float, Option, Some, None, is_some}
 use Rattle.std.proofs.Math.Path.{refl}
-use Rattle.std.proofs.Common.{sym, ap, ◌∙◌, arith}
+use Rattle.std.proofs.Common.{sym, ap, ◌∙◌, arith, take_all}
+use Rattle.std.specs.List.{list_all}
+use Rattle.std.proofs.lemmas.List.Folds.{list_all_more}
 use Rattle.std.proofs.Math.Bool.{true, false}
 use Prim.Native.Nat.{ℕ, zero, suc, ◌+◌, ◌<◌, ◌≤◌}
 use Rattle.std.proofs.Math.Numerals.{add-one}
@@ -122,15 +124,19 @@ module _ (cs : List Channel) (rs : List Reading) where
   length-channels zero = refl
   length-channels (suc n) = length-set (channels_sampled cs rs n) n _ ∙ length-channels n
 
--- where the first i are not all sound, more are not
-pub unsound-on : (cs : List Channel) (i k : ℕ) → are_channels cs i ≡ false → are_channels cs (k + i) ≡ false
+-- the first i are sound by number as they are one by one
+pub sound-first : (cs : List Channel) (i : ℕ) → i ≤ length cs → are_channels cs i ≡ list_all is_channel (take i cs)
 unfolding are_channels
-unsound-on cs i zero h = let e : 0 + i ≡ i = omega arith in rw e h
-unsound-on cs i (suc k) h = let e : suc k + i ≡ suc (k + i) = omega arith in rw (e, unsound-on cs i k h)
+sound-first cs zero h = refl
+sound-first cs (suc i) h =
+    ap (λ (b : Bool). b && is_channel (get_or cs i no_channel)) (sound-first cs i (omega arith)) ∙
+    sym (list_all_more is_channel cs i no_channel (omega arith)) ∙
+    ap (λ (n : ℕ). list_all is_channel (take n cs)) (add-one i)
 
-pub sound-step : (cs : List Channel) (i : ℕ) (b : Bool) → b ≡ are_channels cs i → (b && is_channel (get_or cs i no_channel)) ≡ are_channels cs (i + 1)
-unfolding are_channels
-sound-step cs i b e = rw (e, add-one i)
+pub sound_all : (cs : List Channel) → length cs ≡ channel_count → are_channels cs channel_count ≡ list_all is_channel cs
+sound_all cs h =
+    sound-first cs channel_count (omega (arith, h)) ∙
+    ap (list_all is_channel) (take_all channel_count cs (omega (arith, h)))
 
 -- ---- what all channels keep, and give
 

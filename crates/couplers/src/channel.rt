@@ -25,7 +25,7 @@ pub struct Sampled {
     pub channel: Channel,
 }
 
-// What all channels give: their values and what they keep.
+// What all channels give: their values, which go into the cells of a beat as they stand, and what they keep.
 #[derive(Clone, Copy)]
 pub struct Samples {
     pub values: [i32; CHANNELS],
@@ -123,12 +123,7 @@ fn is_channel(c: Channel) -> bool
 pub fn are_channels(channels: [Channel; CHANNELS]) -> bool
     ensures { result ≡ are_channels channels channel_count }
 {
-    for c in &channels {
-        if !is_channel(*c) {
-            return false;
-        }
-    }
-    true
+    channels.iter().all(|c| is_channel(*c))
 }
 
 // The channels of power-on: never good, and 0.

@@ -50,10 +50,10 @@ fn signed_thousandths(negative: bool, size: u64) -> Option<i32>
 pub fn convert(x: f32) -> Option<i32>
     ensures { result ≡ thousandths_of x }
 {
-    if x != x {
+    if x.is_nan() {
         return None;
     }
-    let bits = f32::to_bits(x);
+    let bits = x.to_bits();
     let field = bits % SIGN / DIGITS;
     let digits = bits % DIGITS;
     let negative = SIGN <= bits;

@@ -1,5 +1,5 @@
 -- In the order in which they are read. Files ending in Answers say how the code holds what a definition gives, files ending in Laws what follows from them.
--- Set and state: Set, ReadLines, State, ActCount, Sound. The host's calls: NamedLine, Calls, Status. Orders and writes: Order, Drive, Write.
+-- Set and state: Set, State, ActCount, Sound. The host's calls: NamedLine, Calls, Status. Orders and writes: Order, Drive, Write.
 -- Actions: Action, Assigned, Actions. Turns: Keyword, Turn. The beat: Timers, Cells, Beat, Held.
 pub mod Set
 pub mod TableLaws

@@ -1,6 +1,7 @@
 // One action of a line: an assignment, SYNFCT, POS, FA, MOV, M, SETAL, LOCK or UNLOCK, each by its own rule.
 //
 // What an action writes stays written at its alarm too: a beat that ends so leaves all of it aside.
+// That a place is one of the set, and that an order fits, is asked of a place and of a count that each step makes anew: a type for them would be taken apart at each, which is no plainer.
 ghost use Rattle.std.specs.Prelude.{◌≡◌, ◌+◌, ◌<◌};
 ghost use Rattle.tokens.specs.Token.{set_size};
 ghost use Rattle.values.specs.Curve.{curve_of};

@@ -1,4 +1,6 @@
 // A state as the beats in place hold it: its cells stand behind the 30 input cells of a beat.
+//
+// A struct of its own beside `State`, for the walk finds inputs and cells in one array (`cell_of`), and the promises of `beat_over` and `beat` speak of the one and of the other (`held_of`, `state_held`).
 ghost use Rattle.std.specs.Prelude.{◌≡◌};
 ghost use Rattle.engine.specs.Held.{held_of, state_held};
 

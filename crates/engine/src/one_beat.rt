@@ -1,5 +1,5 @@
 // A beat: its checks 22, 20, 21, 23 in that order, the timers' growth, the turns by rising number, and the undoing of all by the first alarm.
-ghost use Rattle.std.specs.Prelude.{◌≡◌, ◌++◌, ◌≤◌, eqb, length, take, drop};
+ghost use Rattle.std.specs.Prelude.{◌≡◌, ◌++◌, ◌≤◌, eqb, length, take, drop, replicate};
 ghost use Rattle.working.specs.Variables.{input_count, analogue_count, position_count};
 ghost use Rattle.engine.specs.ActCount.{one_more, counted_acts};
 ghost use Rattle.engine.specs.Beat.{buffer_size, are_inputs, buffered, sound_over, beat_answer, beat_buffer};
@@ -22,7 +22,7 @@ use tokens::token::{LINES, SIZE};
 use values::codes::{FAULTY_CHANNEL, SHORT_BUFFER, UNSOUND, WRONG_NUMBERS};
 use working::variables::POSITIONS;
 
-// What a beat in place answers: its code, the count of orders in the buffer, and the word of the lines that acted, by rank.
+// What a beat in place answers: its code, the count of orders in the buffer, and the word of the lines that acted, by rank. The two are 0 with a code, which `turned_code` says and the theorems on beats ask: so this is no Result.
 #[derive(Clone, Copy)]
 pub struct BeatCode {
     pub code: u8,
@@ -103,7 +103,28 @@ fn finished(count: usize, acted: u64) -> BeatCode
     }
 }
 
+// What the turns begin with: what is held, no line that acted, no orders.
+fn world_of(held: &Held) -> World
+    ensures { result ≡ record { vars = record { r = held.now.r; cells = held.now.cells; runs = held.now.runs }; locked = held.now.locked; memory = held.now.memory; acted = 0; orders = record { bytes = replicate buffer_size 0; count = 0 } } }
+{
+    World {
+        vars: Vars {
+            r: held.r,
+            cells: held.cells,
+            runs: held.runs,
+        },
+        locked: held.locked,
+        memory: held.memory,
+        acted: 0,
+        orders: Orders {
+            bytes: [0u8; ORDERS],
+            count: 0,
+        },
+    }
+}
+
 // The turns of a beat that no check refuses, with these analogues and positions: its orders go to the buffer, and the channels keep these; at an alarm nothing is written back.
+// Mode, word, readings and positions go in one by one here, in `beat_over` and in `beat_known`, as in the public `beat`: docs/HOST.md gives a host these arguments, and its clause speaks of them (`beat_answer`).
 fn all_turns(
     set: &[u32; SIZE],
     lines: &Lines,
@@ -118,20 +139,7 @@ fn all_turns(
     requires { (lines.now.count ≤ max_lines) × ((length values.now ≡ analogue_count) × ((length lent.now ≡ position_count) × (buffer_size ≤ length orders.old))) }
     ensures { LeavesBeat (turns_held set.now lines.now held.old automatic inputs values.now lent.now) kept held.old orders.old result held.new orders.new }
 {
-    let mut world = World {
-        vars: Vars {
-            r: held.r,
-            cells: held.cells,
-            runs: held.runs,
-        },
-        locked: held.locked,
-        memory: held.memory,
-        acted: 0,
-        orders: Orders {
-            bytes: [0u8; ORDERS],
-            count: 0,
-        },
-    };
+    let mut world = world_of(held);
     begin_cells(&mut world.vars.cells, &held.runs, inputs, values, lent);
     let course = Course {
         set,

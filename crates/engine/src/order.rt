@@ -3,7 +3,6 @@ ghost use Rattle.std.specs.Prelude.{◌≡◌, ◌+◌, ◌≤◌, length};
 ghost use Rattle.engine.specs.Order.{kind_number, order_size, order_bytes, with_order};
 
 use tokens::token::{ACTIONS, LINES};
-use values::complement::twos_complement;
 
 // The bytes of an order.
 pub const ORDER_BYTES: usize = 8;

@@ -22,7 +22,8 @@ pub const CURVE_PLACE: usize = START_PLACE + LINES;
 // The place of the first line's tokens, behind the table.
 pub const FIRST_PLACE: usize = TABLE_SIZE;
 
-// The lines of a set as its tokens have them, by rising number.
+// The lines of a set as its tokens have them, by rising number. No heap: 32 places and how many are in use. The numbers stand by themselves as well, for `rank_in` and the table of names look through them alone (`set_table`).
+// Anyone may make them, with any count: so ranks and counts are asked to be at most 32 where they are used, and a beat answers 22 to more.
 #[derive(Clone, Copy)]
 pub struct Lines {
     pub count: usize,
@@ -69,12 +70,11 @@ fn put(array: &mut [u32; SIZE], at: usize, t: u32)
 fn put_tokens(set: &mut [u32; SIZE], at: u32, tokens: &[u32])
     ensures { set.new ≡ put_at set.old at (with_end (map without_mark tokens.now)) }
 {
-    let mut p = at as usize;
-    for t in tokens {
-        put(set, p, without_mark(*t));
-        p += 1;
+    let first = at as usize;
+    for (i, t) in tokens.iter().enumerate() {
+        put(set, first + i, without_mark(*t));
     }
-    put(set, p, END);
+    put(set, first + tokens.len(), END);
 }
 
 // A count of lines, at the place of the table that has it.
@@ -92,6 +92,7 @@ pub fn put_line(set: &mut [u32; SIZE], slot: usize, at: u32, tokens: &[u32])
     put_tokens(set, at, tokens);
 }
 
+// A place without a line. The definition has this name (`no_line`), and the laws on places past the last cite it.
 pub fn no_line() -> Line
     ensures { result ≡ no_line }
 {
@@ -143,7 +144,7 @@ fn place_of(numbers: &[u8], n: u32) -> Option<usize>
     numbers.iter().position(|x| *x as u32 == n)
 }
 
-// The rank of the line with a number, 32 if there is none.
+// The rank of the line with a number, 32 if there is none: a number, for the theorems on LOCK and on names say it so (`rank_in`).
 pub fn rank_in(numbers: &[u8; LINES], n: u32) -> usize
     ensures { result ≡ rank_in numbers.now n 0 }
 {
@@ -152,7 +153,7 @@ pub fn rank_in(numbers: &[u8; LINES], n: u32) -> usize
 
 // ---- curves
 
-// Where curve n begins; 0: the set has none.
+// Where curve n begins; 0, as the set's array has it, which a C host keeps: the set has none.
 fn curve_start(set: &[u32; SIZE], n: u32) -> usize
     ensures { result ≡ curve_start set.now n }
 {

@@ -1,4 +1,6 @@
 // Sound: what documents 01 and 02 ask of a set and a state, tested at every call.
+//
+// The cells are a part of those of a beat, lent as a slice whose number is asked: an array of them out of the slice would be an Option, with an answer for None that never comes, which is no plainer.
 ghost use Rattle.std.specs.Prelude.{◌≡◌, Bool, ◌&&◌, List, ◌<◌, ◌≤◌, length, drop, IfOk};
 ghost use Rattle.engine.specs.ActCount.{is_act_count, are_act_counts};
 ghost use Rattle.engine.specs.Held.{state_held};

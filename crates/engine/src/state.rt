@@ -9,6 +9,7 @@ use working::variables::{RS, STATE_CELLS, TIMERS};
 // A count of acts stays here once it is there.
 pub const ACTS_TOP: u32 = 4_000_000_000;
 
+// An array for each thing that a line has, and no array of lines: the definitions and theorems speak of each list by itself (`are_flags`, `counted_acts`), and `Held` and the beat under way keep what it has.
 #[derive(Clone, Copy)]
 pub struct State {
     pub r: [i32; RS],

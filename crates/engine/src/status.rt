@@ -26,7 +26,7 @@ pub struct LineStatus {
     pub acts: u32,
 }
 
-// The rows of the first `count` places, by rising number.
+// The rows of the first `count` places, by rising number. No heap: 32 places and how many are in use.
 #[derive(Clone, Copy)]
 pub struct Status {
     pub count: usize,

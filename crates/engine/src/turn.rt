@@ -1,4 +1,6 @@
 // The turns of a beat: each line by its rank, whether it takes its turn, tries its condition and acts.
+//
+// How far the turns have come (`BeforeTurn k`) is asked of the rank too, so it is no invariant of `World`.
 ghost use Rattle.std.specs.Prelude.{◌≡◌, ◌+◌, ◌≤◌, ◌<◌, List};
 ghost use Rattle.engine.specs.Turn.{Entry};
 ghost use Rattle.engine.specs.ActionAnswers.{world_in};

@@ -17,7 +17,7 @@ pub struct Course<'a> {
     pub automatic: bool,
 }
 
-// The orders of a beat: how many there are, and their bytes, which stand in front.
+// The orders of a beat: how many there are, and their bytes, which stand in front. No heap: room for all that a beat may have.
 #[derive(Clone, Copy)]
 pub struct Orders {
     pub bytes: [u8; ORDERS],

@@ -1,4 +1,6 @@
 // Writes to variables: a FIFO, a cell, R.
+//
+// What is asked of a word (`is_fifo w`) its caller has just tested: a type for such words would be no plainer.
 ghost use Rattle.std.specs.Prelude.{◌≡◌, true, false, ◌+◌, ◌≤◌, ◌<◌, length};
 ghost use Rattle.tokens.specs.Token as T;
 ghost use Rattle.tokens.specs.Token.{is_fifo};

@@ -16,6 +16,7 @@ const REQUESTS: u32 = 1000000;
 // Fills a buffer. Where the input ends before that, or fails, the rest of the buffer stays as it was.
 fn read_full(input: &mut impl Read, buffer: &mut [u8]) {
     let mut done = 0;
+    // A read takes as many bytes as it likes: no `for` counts them.
     while done < buffer.len() {
         match input.read(&mut buffer[done..]) {
             Ok(0) | Err(_) => return,

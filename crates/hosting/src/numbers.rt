@@ -58,7 +58,7 @@ impl Number for bool {
     }
 }
 
-// A part of an answer: the numbers that were put, one behind the other.
+// A part of an answer: the numbers that were put, one behind the other. No heap: room for the longest, and how much is in use.
 #[derive(Drop)]
 pub struct Part {
     bytes: [u8; OUT],

@@ -39,6 +39,7 @@ fn hand_over(
 {
     let mut session = first;
     let mut rest = piece;
+    // A step takes as many bytes as it likes: no `for` counts them.
     while !rest.is_empty() {
         let mut out = [0u8; OUT];
         let x = step(session, text, set, rest, &mut out);

@@ -1,4 +1,6 @@
 // A line as it is printed, token by token, at a place of a lent buffer; the answer is the place behind it.
+//
+// A buffer and the place in it stay two parameters: most calls are `at + put_..(out, at, ..)` of another layer, and the print is counted with a buffer of no bytes. A struct around them would be lent anew at each call, which is no plainer.
 ghost use Rattle.std.specs.Prelude.{◌≡◌, ◌+◌, ◌≤◌};
 ghost use Rattle.values.specs.PutAt.{IsPut};
 ghost use Rattle.print.specs.TokenText.{token_text, goes_on, is_following, is_opening, is_one_sign, needs_space, gap, line_text};
@@ -87,7 +89,7 @@ pub fn put_line(set: &[u32; SIZE], start: usize, out: &mut [u8], at: usize) -> u
     ensures put { IsPut out.old at (line_text (row_at set.now start)) out.new result }
     ensures upper_bound { result ≤ at + line_room }
 {
-    // By the token and the one behind it, each read once.
+    // By the token and the one behind it, each read once: a `for` over the places would read each twice.
     let mut p = start;
     let mut q = at;
     let mut t = token_at(set, p);

@@ -22,17 +22,17 @@ fn put_part(out: &mut [u8], at: usize, f: u32) -> usize
     }
     put(out, at, POINT);
     let tenths = at + 1;
-    put(out, tenths, 48 + (f / 100) as u8);
+    put(out, tenths, b'0' + (f / 100) as u8);
     let hundredths = tenths + 1;
     if f % 100 == 0 {
         return hundredths;
     }
-    put(out, hundredths, 48 + (f / 10 % 10) as u8);
+    put(out, hundredths, b'0' + (f / 10 % 10) as u8);
     let last = hundredths + 1;
     if f % 10 == 0 {
         return last;
     }
-    put(out, last, 48 + (f % 10) as u8);
+    put(out, last, b'0' + (f % 10) as u8);
     last + 1
 }
 

@@ -1,4 +1,6 @@
 // The print of a set: its rows, an LF between them. It is put nowhere first, which counts its bytes, and then into the buffer.
+//
+// Slots and counts are asked to be below their limits where they are used: a type for a slot would be taken apart at once.
 ghost use Rattle.std.specs.Prelude.{◌≡◌, ◌++◌, ◌+◌, ◌≤◌, ◌<◌, length};
 ghost use Rattle.values.specs.PutAt.{IsPut};
 ghost use Rattle.tokens.specs.Token.{max_lines, max_curves};

@@ -1,4 +1,6 @@
 // A line by itself, at the beginning of an array that is otherwise 0: what the checks tell of it there. The array is 0 again afterwards.
+//
+// The array is the caller's set, lent to each check in turn, so that there is no second one of its size. A struct around it would be made at each call: so each call asks that it is empty and promises it.
 ghost use Rattle.std.specs.Prelude.{◌≡◌, ◌≤◌, length, replicate};
 ghost use Rattle.values.specs.PutAt.{put_at};
 ghost use Rattle.tokens.specs.Token.{set_size};
@@ -24,9 +26,7 @@ fn wipe(row: &mut [u32; SIZE], n: usize)
     requires { n ≤ set_size }
     ensures { row.new ≡ put_at row.old 0 (replicate n 0) }
 {
-    for t in &mut row[..n] {
-        *t = 0;
-    }
+    row[..n].fill(0);
 }
 
 // What the check tells of a line.

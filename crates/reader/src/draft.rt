@@ -1,5 +1,7 @@
 // What is kept of a text while it is read: the tokens of its lines one behind the other in one array, and beside it a draft; and a line added to it.
-ghost use Rattle.std.specs.Prelude.{map, Option, is_some, ◌≡◌, true, false, ◌&&◌, [], ◌∷◌, ◌+◌, ◌<◌, ◌≤◌, eqb, length, get_or};
+//
+// What is asked of a draft (`Held`) it has only together with the array beside it, which the checks are lent too: a struct of both would be taken apart at each, which is no plainer.
+ghost use Rattle.std.specs.Prelude.{map, Option, is_some, ◌≡◌, true, false, ◌&&◌, [], ◌∷◌, ◌+◌, ◌-◌, ◌<◌, ◌≤◌, eqb, length, get_or};
 ghost use Rattle.tokens.specs.Token.{END, FCTDEF, set_size, max_lines, max_curves};
 ghost use Rattle.engine.specs.Set.{asked_table, names_known, empty_set};
 ghost use Rattle.reader.specs.declared.draft.DraftLine.{DraftLine};
@@ -27,6 +29,16 @@ pub struct Span {
     pub end: usize,
 }
 
+impl Span {
+    // How many tokens stand there.
+    pub fn size(self) -> usize
+        requires { self.start ≤ self.end }
+        ensures { result ≡ self.end - self.start }
+    {
+        self.end - self.start
+    }
+}
+
 // A numbered line that is kept: its number, where it stands in the text, and where its tokens stand.
 #[derive(Clone, Copy)]
 pub struct DraftLine {
@@ -35,7 +47,7 @@ pub struct DraftLine {
     pub tokens: Span,
 }
 
-// How many lines are kept, and the place behind their tokens; each line; and of each curve, by number, where the tokens of its line stand, if it is there.
+// How many lines are kept, and the place behind their tokens; each line; and of each curve, by number, where the tokens of its line stand, if it is there. No heap: 32 places and how many are in use.
 #[derive(Clone, Copy)]
 pub struct Draft {
     pub count: usize,
@@ -65,22 +77,14 @@ pub fn no_draft() -> Draft
 pub fn numbers_in(lines: &[DraftLine; LINES]) -> [u8; LINES]
     ensures { result ≡ map (λ (l : DraftLine). l.number) lines.now }
 {
-    let mut numbers = [0u8; LINES];
-    for k in 0..LINES {
-        numbers[k] = lines[k].number;
-    }
-    numbers
+    lines.map(|l| l.number)
 }
 
 // Which curves are there.
 pub fn curves_there(curves: &[Option<Span>; CURVES]) -> [bool; CURVES]
     ensures { result ≡ map (λ (x : Option Span). is_some x) curves.now }
 {
-    [
-        curves[0].is_some(),
-        curves[1].is_some(),
-        curves[2].is_some(),
-    ]
+    curves.map(|x| x.is_some())
 }
 
 // The line k of the text, with the number n, stands behind the others and ends before the place `end`.

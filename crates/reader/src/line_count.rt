@@ -11,7 +11,7 @@ pub fn count_lines(text: &[u8]) -> usize
     ensures { result ≡ length (token_lines text.now) }
 {
     let mut n: usize = 0;
-    // By the bounds of the line at hand: a `split` would look for its end a second time.
+    // By the bounds of the line at hand, which say where the next one begins: a `split` would look for its end a second time, and an iterator of the two loops' own would be no plainer.
     let mut i: usize = 0;
     while i <= text.len() {
         let b = line_bounds(text, i);

@@ -16,7 +16,7 @@ pub fn write_tokens(body: &[u8], s: &mut [u32; SIZE], at: usize) -> Option<usize
     ensures s_after { s.new ≡ put_at s.old at (tokens_of body.now).list }
 {
     let mut n: usize = 0;
-    // By the size of the token at hand, or a space.
+    // A token says how far it goes: no `for` counts the places.
     let mut i: usize = 0;
     while i < body.len() {
         if body[i] == SPACE {

@@ -45,7 +45,7 @@ pub fn read_lines(text: &[u8], s: &mut [u32; SIZE], row: &mut [u32; SIZE]) -> Re
 {
     let mut d = no_draft();
     let mut k: u32 = 1;
-    // By the bounds of the line at hand: a `split` would look for its end a second time.
+    // By the bounds of the line at hand, which say where the next one begins: a `split` would look for its end a second time, and an iterator of the two loops' own would be no plainer.
     let mut i: usize = 0;
     while i <= text.len() {
         let b = line_bounds(text, i);

@@ -12,7 +12,7 @@ use engine::{State, empty_set, power_on};
 use tokens::token::{LINES, SIZE, TEXT_SIZE};
 use values::codes::{NOT_IN_SET, TOO_LONG, TOO_MANY_LINES};
 
-// What loading answers: 0 and 0 if the text is taken, else a code and a line; and the state, that of power-on in each case.
+// What loading answers: 0 and 0 if the text is taken, else a code and a line; and the state, that of power-on in each case. It is there on a refusal too, and the theorems on loading speak of all three (`load_answer`): so this is no Result.
 #[derive(Clone, Copy)]
 pub struct Loaded {
     pub code: u8,

@@ -38,6 +38,7 @@ fn read_input(source: &mut impl Read, input: &mut [u8]) -> io::Result<usize>
     ensures { IfOk result (λ size. size ≤ length input.old) }
 {
     let mut size = 0;
+    // A read takes as many bytes as it likes: no `for` counts them.
     while size < input.len() {
         let n = source.read(&mut input[size..])?;
         if n == 0 {

@@ -1,4 +1,6 @@
 // Bytes written at a place of a lent buffer; what would lie past its end is left off.
+//
+// Buffer and place are two parameters: a caller may put at any place, past the end too, and no call asks that it is inside.
 ghost use Rattle.std.specs.Prelude.{◌≡◌, set};
 ghost use Rattle.values.specs.PutAt.{put_at};
 

@@ -1,4 +1,6 @@
 // Numbers in digits, written at a place of a lent buffer; the answer is how many bytes that is, those past the end too.
+//
+// Buffer and place are two parameters: a caller may put at any place, past the end too, and no call asks that it is inside.
 ghost use Rattle.std.specs.Prelude.{◌≡◌, ◌+◌, ◌≤◌, ◌<◌, length};
 ghost use Rattle.text.specs.Digits.{digits_up, decimal, signed_text};
 ghost use Rattle.values.specs.PutAt.{put_at, IsPut};

@@ -1,6 +1,6 @@
 // The faults of single things, as codes of document 01; 0 is no fault.
 //
-// They stay numbers: the theorems on what is refused speak of the codes of the document, and so does the answer that a host gets.
+// They stay numbers: the theorems on what is refused speak of the codes of the document, and so does the answer that a host gets. 0 is none, as in `lower`, by which the laws of the grammar say the lowest fault: so it is no Option.
 ghost use Rattle.std.specs.Prelude.{◌≡◌, drop};
 ghost use Rattle.tokens.specs.SingleFault.{lower, unless, opens_too_many, wanting_fault, number_fault, read_fault, is_writable, write_fault, code_fault, call_fault, id_fault, curve_fault};
 

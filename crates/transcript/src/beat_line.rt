@@ -47,7 +47,7 @@ pub enum Stage {
     RsReturn,
 }
 
-// A line so far. `value` has the digits of the field under way.
+// A line so far. A break and a short are values as well (`reading_by`), so that a byte of a field changes one number, whichever field it is. `value` has the digits of the field under way.
 // `field` stays a number: the next field is one more, and what channels send and the positions are placed by it.
 #[derive(Clone, Copy)]
 pub struct HalfLine {

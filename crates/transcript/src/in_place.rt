@@ -1,4 +1,6 @@
 // A session worked in place over a piece of input: the lines of the set that were read, and the state as it is held, which the beats and the calls write. What came in is worked and printed.
+//
+// Anyone may make a session, with any counts: `step` tests it (`is_fit`), and what is then asked inside (`FitCounts`, `KeptBeside`) is no invariant of a type.
 ghost use Rattle.std.specs.Prelude.{◌≡◌, true, List, ℕ, ◌+◌, ◌≤◌};
 ghost use Rattle.transcript.specs.Machine.{is_fit, opened, said_of, said_end, arrival_worked, line_end, worked};
 ghost use Rattle.transcript.specs.Output.{last_start, end_room, out_size};
@@ -186,7 +188,7 @@ fn line_end(
 
 // ---- a piece of input
 
-// A piece of input, line by line while there is room for what one more line may print.
+// A piece of input, line by line while there is room for what one more line may print. It ends by that room or by the input, and a line ends where its bytes say: no `for` counts it.
 pub fn work_lines(
     w: &mut Workplace,
     text: &mut [u8; KEPT],

@@ -1,4 +1,6 @@
 // The input of a session as it comes in, in parts of lines of any size: set text up to the line *, then the lines behind it. What a line's end brings is told; nothing is worked or printed here.
+//
+// Anyone may make a session, with any intake: `step` tests it, and what is then asked inside (`FitIntake`) is no invariant of a type.
 ghost use Rattle.std.specs.Prelude.{◌≡◌};
 ghost use Rattle.transcript.specs.Intake.{is_over, in_beats, no_intake, with_phase, intake_fits, bytes_taken, bytes_kept, nothing_came, text_whole, text_line_over, text_line_kept, line_read, line_over, line_kept, input_over};
 ghost use Rattle.transcript.specs.declared.intake.Phase.TheVariants.{Over};

@@ -1,4 +1,6 @@
 // The lines that a session prints, each at a place of a lent buffer; the answer is the place behind it.
+//
+// A buffer and the place in it stay two parameters: most calls are `at + put_..(out, at, ..)` of another layer. A struct around them would be lent anew at each call, which is no plainer.
 ghost use Rattle.std.specs.Prelude.{◌≡◌, cond, [], ◌∷◌, ◌++◌, ◌+◌, ◌*◌, ◌≤◌, length};
 ghost use Rattle.engine.specs.Order.{order_size, max_orders};
 ghost use Rattle.text.specs.Byte.{bytes};

@@ -1,4 +1,6 @@
 // The working with values: sum, difference, product, quotient, negation, comparison, and what the targets make of a value.
+//
+// Signs and sizes are tested in the open, not by the library's names for it: all signed arithmetic is to be seen here (docs/DECISIONS.md), and its laws go by these tests.
 ghost use Rattle.std.specs.Prelude.{◌≡◌, ◌≤◌, ◌<◌, nat_abs};
 ghost use Rattle.values.specs.Cut.{cut_size};
 ghost use Rattle.values.specs.Size.{signed_number};

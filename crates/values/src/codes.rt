@@ -1,4 +1,4 @@
-// The codes of documents 01 and 02, each named once; 0 is success. Those of working are an enum, the others numbers.
+// The codes of documents 01 and 02, each named once; 0 is success. Those of working are an enum. The others stay numbers: `taken-iff`, `refused-iff` and the other theorems on refusals say them so, and C gets them from `reader_load` and `set_line_fault`.
 ghost use Rattle.std.specs.Prelude.{◌≡◌};
 ghost use Rattle.values.specs.Codes.{code_of, alarm_with};
 

@@ -26,6 +26,7 @@ fn polynomial(curve: Curve, x: i32) -> Result<i32, Alarm>
     sum(product(second, x)?, curve.a0)
 }
 
+// No `clamp`: it stops where the lower limit is above the upper one, and no call asks of its caller that it is not.
 // A value held between two limits.
 #[tactic(auto, unfolding(crate::specs::Curve::limited_to, crate::specs::Value::less_than))]
 fn limited(lower: i32, upper: i32, y: i32) -> i32

@@ -2,6 +2,7 @@
 //
 // Every call takes that part and the number of places in use. A part of another length, and a count above sixteen, are
 // answered Unsound and change nothing.
+// They stay two parameters: the part is lent out of R and the count comes out of a cell, each by itself, and the definitions take them so (`append_answer`).
 ghost use Rattle.std.specs.Prelude.{◌≡◌, true, ◌≤◌, ◌<◌, length};
 ghost use Rattle.values.specs.Fifo.{places, fits, sum_first, shifted, append_answer, appended, remove_answer, removed, oldest_of, newest_of, total_of, count_of, empty_answer, emptied};
 

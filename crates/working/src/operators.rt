@@ -8,7 +8,7 @@ use values::arithmetic;
 pub fn yes_no(b: bool) -> i32
     ensures { result ≡ yes_no b }
 {
-    if b { 1 } else { 0 }
+    i32::from(b)
 }
 
 pub fn is_yes(v: i32) -> bool
@@ -18,39 +18,29 @@ pub fn is_yes(v: i32) -> bool
 }
 
 // AND, OR, XOR.
+#[tactic(auto, unfolding(crate::specs::Operators::join_logic))]
 pub fn join_logic(op: u32, a: bool, b: bool) -> bool
     ensures { result ≡ join_logic op a b }
 {
-    if op == AND {
-        return a & b;
+    match op {
+        AND => a & b,
+        OR => a | b,
+        _ => a ^ b,
     }
-    if op == OR {
-        return a | b;
-    }
-    a ^ b
 }
 
 // A comparison, or AND, OR, XOR.
+#[tactic(auto, unfolding(crate::specs::Operators::join_truths))]
 pub fn join_truths(op: u32, a: i32, b: i32) -> bool
     ensures { result ≡ join_truths op a b }
 {
-    if op == SAME {
-        return arithmetic::is_equal(a, b);
+    match op {
+        SAME => arithmetic::is_equal(a, b),
+        OTHER => !arithmetic::is_equal(a, b),
+        LESS => arithmetic::is_less(a, b),
+        MORE => arithmetic::is_less(b, a),
+        ATMOST => !arithmetic::is_less(b, a),
+        ATLEAST => !arithmetic::is_less(a, b),
+        _ => join_logic(op, is_yes(a), is_yes(b)),
     }
-    if op == OTHER {
-        return !arithmetic::is_equal(a, b);
-    }
-    if op == LESS {
-        return arithmetic::is_less(a, b);
-    }
-    if op == MORE {
-        return arithmetic::is_less(b, a);
-    }
-    if op == ATMOST {
-        return !arithmetic::is_less(b, a);
-    }
-    if op == ATLEAST {
-        return !arithmetic::is_less(a, b);
-    }
-    join_logic(op, is_yes(a), is_yes(b))
 }

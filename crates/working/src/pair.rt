@@ -1,4 +1,4 @@
-// A value and the place behind it, or an alarm, in one number of 64 bits: the walk hands it on in a register.
+// A value and the place behind it, or an alarm, in one number of 64 bits: the walk hands it on in a register. So it is no Result: speed (docs/PERFORMANCE.md), and the walk's contracts say of this number what it means (`said`).
 //
 // Its remainder by ROOM is the place, 0 for an alarm; its quotient has the 32 bits of the value, or the code of the alarm.
 ghost use Rattle.std.specs.Prelude.{◌≡◌, ◌<◌};

@@ -53,22 +53,15 @@ pub const COUNT_CELLS: usize = INPUTS + COUNT_AT;
 fn cell_start(w: u32) -> usize
     ensures { result ≡ cell_start w }
 {
-    if w == MARKER {
-        return MARKER_CELLS;
+    match w {
+        MARKER => MARKER_CELLS,
+        PARAM => PARAM_CELLS,
+        TIMER => TIMER_CELLS,
+        OUT => INPUTS,
+        INA => BITS,
+        IM => IM_AT,
+        _ => 0,
     }
-    if w == PARAM {
-        return PARAM_CELLS;
-    }
-    if w == TIMER {
-        return TIMER_CELLS;
-    }
-    if w == OUT {
-        return INPUTS;
-    }
-    if w == INA {
-        return BITS;
-    }
-    if w == IM { IM_AT } else { 0 }
 }
 
 // The cell of w[i].
@@ -83,7 +76,7 @@ pub fn cell_of(w: u32, i: u32) -> usize
     start + (i - first) as usize
 }
 
-// A cell as the count of a FIFO; what is no count is beyond every count.
+// A cell as the count of a FIFO; what is no count is beyond every count: no Option, for `as_count` has it so, and one test against the places is all that is made of it.
 pub fn count_of(cell: i32) -> u8
     ensures { result ≡ as_count cell }
 {

@@ -1,6 +1,7 @@
 // The working of a condition and of a right side: the value walk. All operands are worked, left first; the first alarm ends it.
 //
 // The walk goes by recursive descent over the tokens; `left` bounds the tokens left: it begins as the places of a set and falls at each bracket, minus and NOT. What each step reads it hands on as a pair.
+// Set, R and cells go through every function as three references: C lends them so (`set_condition`, `set_right_side`), and the definitions take them so (`value_over`, `condition_value`). A place is asked to be one of the set as in the check's actions.
 ghost use Rattle.std.specs.Prelude.{◌≡◌, true, ◌<◌};
 ghost use Rattle.tokens.specs.Token.{is_factor, is_term, is_compare, is_logic, set_size};
 ghost use Rattle.tokens.specs.Descent.{up_to, then, read_operand, read_close, read_variable, read_truth, factors_behind, terms_behind, row_behind, product_at, sum_at, expression_at};
@@ -42,7 +43,7 @@ fn join_factor(op: u32, a: i32, b: u64) -> u64
     worked_pair(arithmetic::quotient(a, value_of(b)), i)
 }
 
-// The same of a term.
+// The same of a term. A function for each level has the operators alone that its level lets through: one over all would test what the level has told apart, and is no plainer.
 fn join_term(op: u32, a: i32, b: u64) -> u64
     requires { is_term op ≡ true }
     ensures { said result ≡ then (said b) (λ y q. up_to (join_values op a y) q) }
@@ -173,8 +174,7 @@ fn factors(set: &[u32; SIZE], r: &[i32; RS], cells: &[i32; CELLS], w: u64, left:
     ensures { said result ≡ then (said w) (factors_behind set.now (value_over r.now cells.now) left) }
 {
     let mut a = w;
-    let mut rounds = left;
-    while 0 < rounds {
+    for _ in 0..left {
         let i = next_of(a);
         if i == 0 {
             return a;
@@ -184,7 +184,6 @@ fn factors(set: &[u32; SIZE], r: &[i32; RS], cells: &[i32; CELLS], w: u64, left:
             return a;
         }
         a = join_factor(t, value_of(a), operand(set, r, cells, i + 1, left));
-        rounds -= 1;
     }
     a
 }
@@ -209,8 +208,7 @@ fn terms(set: &[u32; SIZE], r: &[i32; RS], cells: &[i32; CELLS], w: u64, left: u
     ensures { said result ≡ then (said w) (terms_behind set.now (value_over r.now cells.now) left) }
 {
     let mut a = w;
-    let mut rounds = left;
-    while 0 < rounds {
+    for _ in 0..left {
         let i = next_of(a);
         if i == 0 {
             return a;
@@ -220,7 +218,6 @@ fn terms(set: &[u32; SIZE], r: &[i32; RS], cells: &[i32; CELLS], w: u64, left: u
             return a;
         }
         a = join_term(t, value_of(a), product(set, r, cells, i + 1, left));
-        rounds -= 1;
     }
     a
 }
@@ -253,8 +250,7 @@ fn row(
     ensures { said result ≡ then (said w) (row_behind set.now (value_over r.now cells.now) first left) }
 {
     let mut a = w;
-    let mut rounds = left;
-    while 0 < rounds {
+    for _ in 0..left {
         let i = next_of(a);
         if i == 0 {
             return a;
@@ -264,7 +260,6 @@ fn row(
             return a;
         }
         a = join_row(t, value_of(a), sum(set, r, cells, i + 1, left));
-        rounds -= 1;
     }
     a
 }
@@ -334,10 +329,7 @@ pub fn right_side(
 fn worked_in(w: u64) -> Result<i32, Alarm>
     ensures { result ≡ worked (said w) }
 {
-    if next_of(w) == 0 {
-        return Err(alarm_in(w));
-    }
-    Ok(value_of(w))
+    reached_in(w).map(|x| x.value)
 }
 
 // What the variable that begins at place `at` reads. It is read as an operand, so that the walk is the one caller of `variable`.

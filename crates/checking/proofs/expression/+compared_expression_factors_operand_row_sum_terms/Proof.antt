@@ -1,9 +1,9 @@
--- The walk of `expression`, operand to expression, meets its contracts: each arm of an operand by its law of Arms, that of - by SignLaws, each level and each loop by those of Rows, a round of a loop by LevelLaws, an operand with no operator behind it by SumLaws;
+-- The walk of `expression`, operand to expression, meets its contracts: each arm of an operand by its law of Arms, that of - by SignLaws, each level and each loop by those of Rows, a loop's first and next round by LevelLaws, an operand with no operator behind it by SumLaws;
 -- the measure is eight times the tokens left, and the level.
 use borrow.Author.Rules.{rules}
 use mathlib.Core.Path.{refl, sym, ◌∙◌}
 use mathlib.Core.Bool.{true, false}
-use Prim.Native.Nat.{◌+◌, ◌*◌, ◌<◌}
+use Prim.Native.Nat.{◌+◌, ◌-◌, ◌*◌, ◌<◌}
 use native.Mathlib.Omega.{arith}
 use Rattle.tokens.specs.Token.{room, SAME, ATLEAST, IN, IM, is_factor, is_term}
 use Rattle.tokens.specs.Descent.{is_row, read_close, read_sum, read_expression, read_operand, product_at, sum_at, expression_at}
@@ -13,11 +13,11 @@ use Rattle.checking.specs.Brackets.{Onward}
 use Rattle.tokens.specs.ReadStepLaws.{stepped}
 use Rattle.tokens.specs.ArmLaws.{spent, number-arm, variable-arm, open-arm, not-arm, truth-arm}
 use Rattle.tokens.specs.BetweenLaws.{no_end, lies-inside}
-use Rattle.tokens.specs.RowLaws.{Loop, loop-begins, loop-spent, loop-inside, loop-stops, loop-ends, product_is, sum_is, expression-is, expression-stops, rest-compares, rest-rows, rest-none}
+use Rattle.tokens.specs.RowLaws.{Loop, loop-spent, loop-inside, loop-stops, loop-ends, product_is, sum_is, expression-is, expression-stops, rest-compares, rest-rows, rest-none}
 use Rattle.checking.proofs.SignLaws.{signs-arm}
 use Rattle.checking.proofs.SightNumberLaws.{passes, seen_nothing, seen-stop, seen_read, sights-say, number-made, seen-number}
 use Rattle.checking.proofs.BracketCountLaws.{other-above, other-below, other-high, counts-signs, counted_none, counted-nothing, counted-behind, counted-token, onward-same, same-end-on, joined-on}
-use Rattle.checking.proofs.LevelLaws.{factor-level, term-level, compare-level, row-level, level-joins, round}
+use Rattle.checking.proofs.LevelLaws.{factor-level, term-level, compare-level, row-level, begins, level-joins, round}
 use Rattle.checking.proofs.SumLaws.{sum-stops, sum-single, expression-closes}
 use Rattle.tokens.proofs.fault.number_fault.Reads as number-fault
 use Rattle.tokens.proofs.token.is_arithmetic.Reads as is-arithmetic
@@ -53,14 +53,14 @@ use Rattle.checking.proofs.expression.+compared_expression_factors_operand_row_s
 use Rattle.checking.proofs.expression.+compared_expression_factors_operand_row_sum_terms.{statement}
 use Rattle.checking.proofs.expression.+compared_expression_factors_operand_row_sum_terms.Tie.{close}
 
-abbrev factors-Inv : factors-lts.invariant-loop-rounds
-factors-Inv tokens w left a₀ rounds₀ a rounds = Loop tokens sight is_factor (read_operand tokens sight left) seen left w rounds a × Onward tokens w a
+abbrev factors-Inv : factors-lts.invariant-loop
+factors-Inv tokens w left a₀ gone₀ a gone = Loop tokens sight is_factor (read_operand tokens sight left) seen left w (left - gone) a × Onward tokens w a
 
-abbrev terms-Inv : terms-lts.invariant-loop-rounds
-terms-Inv tokens w left a₀ rounds₀ a rounds = Loop tokens sight is_term (product_at tokens sight left) seen left w rounds a × Onward tokens w a
+abbrev terms-Inv : terms-lts.invariant-loop
+terms-Inv tokens w left a₀ gone₀ a gone = Loop tokens sight is_term (product_at tokens sight left) seen left w (left - gone) a × Onward tokens w a
 
-abbrev row-Inv : row-lts.invariant-loop-rounds
-row-Inv tokens first w left a₀ rounds₀ a rounds = Loop tokens sight (is_row first) (read_sum tokens sight (read_operand tokens sight left) left) seen left w rounds a × Onward tokens w a
+abbrev row-Inv : row-lts.invariant-loop
+row-Inv tokens first w left a₀ gone₀ a gone = Loop tokens sight (is_row first) (read_sum tokens sight (read_operand tokens sight left) left) seen left w (left - gone) a × Onward tokens w a
 
 pub +compared_expression_factors_operand_row_sum_terms_spec : {M : Type 1} → statement M
 unfolding sight sum_at expression_at
@@ -137,18 +137,18 @@ unfolding sight sum_at expression_at
       c.compared-2.ensures.1.goes _ (c.terms.ensures.1.goes _ (f.factors.ensures.1.goes _ o.1)),
     )))
     -- factors
-    (λ t. factors-lts.spec (_, next-of.Learnt, _, token-at.Learnt, _, is-factor.Learnt, _, operand.Post, _, join.Learnt) _ factors.Post factors-Inv (λ tokens w left a₀ rounds₀ a rounds. rounds)
-    (λ c. (loop-begins, onward-same _ _))
+    (λ t. factors-lts.spec (_, next-of.Learnt, _, token-at.Learnt, _, is-factor.Learnt, _, operand.Post, _, join.Learnt) _ factors.Post factors-Inv (λ tokens w left a₀ gone₀ a gone. left - gone)
+    (λ c. begins)
     (λ c κs. search rules)
-    (λ c. let i = c.loop-rounds.invariant in (loop-stops i.0 sights-say c.next_of-i.ensures c.if-i-eq0.true, i.1))
+    (λ c. let i = c.loop.invariant in (loop-stops i.0 sights-say c.next_of-i.ensures c.if-i-eq0.true, i.1))
     (λ c κs. search rules)
     (λ c κs. search rules)
     (λ c.
     let d = c.before.before in
     let n = d.before.before.before in
-    let i = n.loop-rounds.invariant in
+    let i = n.loop.invariant in
     (loop-ends i.0 sights-say n.next_of-i.ensures d.if-i-eq0.false d.token_at-t.ensures c.is_factor.ensures c.if-not-is_factor.true-raw, i.1))
-    (λ c. let d = c.before.before in omega (arith, loop-inside d.loop-rounds.invariant.0 refl d.token_at-t.ensures c.is_factor.ensures c.if-not-is_factor.false-raw))
+    (λ c. let d = c.before.before in omega (arith, loop-inside d.loop.invariant.0 refl d.token_at-t.ensures c.is_factor.ensures c.if-not-is_factor.false-raw))
     (λ c κs. omega arith)
     (λ c κs. search rules)
     (λ c. omega arith)
@@ -157,8 +157,8 @@ unfolding sight sum_at expression_at
     let e = c.before.before in
     let d = e.before.before in
     let n = d.before.before.before in
-    round factor-level n.loop-rounds.invariant n.next_of-i.ensures d.if-i-eq0.false d.token_at-t.ensures e.is_factor.ensures e.if-not-is_factor.false-raw (omega arith) c.operand.ensures c.join-a.ensures)
-    (λ c. let i = c.loop-rounds.invariant in (loop-spent i.0 (omega arith), i.1)))
+    round factor-level n.loop.invariant n.next_of-i.ensures d.if-i-eq0.false d.token_at-t.ensures e.is_factor.ensures e.if-not-is_factor.false-raw (omega arith) c.operand.ensures c.join-a.ensures)
+    (λ c. let i = c.loop.invariant in (loop-spent i.0 (omega arith), i.1)))
     -- operand
     (λ t. operand-lts.spec (_, token-at.Learnt, _, number-fault.Learnt, _, number-seen.Learnt, _, is-variable.Learnt, _, variable.Learnt, _, expression.Post, _, closed.Learnt, _, signs-behind.Learnt, _, operand.Post, _, as_wanted.Learnt, _, truth.Learnt) _ operand.Post
     (λ c. (seen_nothing ∙ sym (spent _ _ _ _ c.if-left-eq0.true), counted-nothing _ _ refl))
@@ -225,18 +225,18 @@ unfolding sight sum_at expression_at
       counted-token _ _ t c.truth.ensures.1.0 c.truth.ensures.1.1,
     )))
     -- row
-    (λ t. row-lts.spec (_, next-of.Learnt, _, token-at.Learnt, _, is_row.Learnt, _, sum.Post, _, join.Learnt) _ row.Post row-Inv (λ tokens first w left a₀ rounds₀ a rounds. rounds)
-    (λ c. (loop-begins, onward-same _ _))
+    (λ t. row-lts.spec (_, next-of.Learnt, _, token-at.Learnt, _, is_row.Learnt, _, sum.Post, _, join.Learnt) _ row.Post row-Inv (λ tokens first w left a₀ gone₀ a gone. left - gone)
+    (λ c. begins)
     (λ c κs. search rules)
-    (λ c. let i = c.loop-rounds.invariant in (loop-stops i.0 sights-say c.next_of-i.ensures c.if-i-eq0.true, i.1))
+    (λ c. let i = c.loop.invariant in (loop-stops i.0 sights-say c.next_of-i.ensures c.if-i-eq0.true, i.1))
     (λ c κs. search rules)
     (λ c κs. search rules)
     (λ c.
     let d = c.before.before in
     let n = d.before.before.before in
-    let i = n.loop-rounds.invariant in
+    let i = n.loop.invariant in
     (loop-ends i.0 sights-say n.next_of-i.ensures d.if-i-eq0.false d.token_at-t.ensures c.is_row.ensures c.if-not-is_row.true-raw, i.1))
-    (λ c. let d = c.before.before in omega (arith, loop-inside d.loop-rounds.invariant.0 refl d.token_at-t.ensures c.is_row.ensures c.if-not-is_row.false-raw))
+    (λ c. let d = c.before.before in omega (arith, loop-inside d.loop.invariant.0 refl d.token_at-t.ensures c.is_row.ensures c.if-not-is_row.false-raw))
     (λ c κs. omega arith)
     (λ c κs. search rules)
     (λ c. omega arith)
@@ -245,8 +245,8 @@ unfolding sight sum_at expression_at
     let e = c.before.before in
     let d = e.before.before in
     let n = d.before.before.before in
-    round (row-level _) n.loop-rounds.invariant n.next_of-i.ensures d.if-i-eq0.false d.token_at-t.ensures e.is_row.ensures e.if-not-is_row.false-raw (omega arith) c.sum.ensures c.join-a.ensures)
-    (λ c. let i = c.loop-rounds.invariant in (loop-spent i.0 (omega arith), i.1)))
+    round (row-level _) n.loop.invariant n.next_of-i.ensures d.if-i-eq0.false d.token_at-t.ensures e.is_row.ensures e.if-not-is_row.false-raw (omega arith) c.sum.ensures c.join-a.ensures)
+    (λ c. let i = c.loop.invariant in (loop-spent i.0 (omega arith), i.1)))
     -- sum
     (λ t. sum-lts.spec (_, operand.Post, _, next-of.Learnt, _, token-at.Learnt, _, is-arithmetic.Learnt, _, factors.Post, _, terms.Post) _ sum.Post
     (λ c κs. omega arith)
@@ -266,18 +266,18 @@ unfolding sight sum_at expression_at
     let f = c.factors.ensures in
     (sum_is _ _ _ _ _ (product_is _ _ _ _ _ o.0 f.0) c.terms.ensures.0, c.terms.ensures.1.goes _ (f.1.goes _ o.1))))
     -- terms
-    λ t. terms-lts.spec (_, next-of.Learnt, _, token-at.Learnt, _, is-term.Learnt, _, operand.Post, _, factors.Post, _, join.Learnt) _ terms.Post terms-Inv (λ tokens w left a₀ rounds₀ a rounds. rounds)
-    (λ c. (loop-begins, onward-same _ _))
+    λ t. terms-lts.spec (_, next-of.Learnt, _, token-at.Learnt, _, is-term.Learnt, _, operand.Post, _, factors.Post, _, join.Learnt) _ terms.Post terms-Inv (λ tokens w left a₀ gone₀ a gone. left - gone)
+    (λ c. begins)
     (λ c κs. search rules)
-    (λ c. let i = c.loop-rounds.invariant in (loop-stops i.0 sights-say c.next_of-i.ensures c.if-i-eq0.true, i.1))
+    (λ c. let i = c.loop.invariant in (loop-stops i.0 sights-say c.next_of-i.ensures c.if-i-eq0.true, i.1))
     (λ c κs. search rules)
     (λ c κs. search rules)
     (λ c.
     let d = c.before.before in
     let n = d.before.before.before in
-    let i = n.loop-rounds.invariant in
+    let i = n.loop.invariant in
     (loop-ends i.0 sights-say n.next_of-i.ensures d.if-i-eq0.false d.token_at-t.ensures c.is_term.ensures c.if-not-is_term.true-raw, i.1))
-    (λ c. let d = c.before.before in omega (arith, loop-inside d.loop-rounds.invariant.0 refl d.token_at-t.ensures c.is_term.ensures c.if-not-is_term.false-raw))
+    (λ c. let d = c.before.before in omega (arith, loop-inside d.loop.invariant.0 refl d.token_at-t.ensures c.is_term.ensures c.if-not-is_term.false-raw))
     (λ c κs. omega arith)
     (λ c κs. omega arith)
     (λ c κs. search rules)
@@ -288,6 +288,6 @@ unfolding sight sum_at expression_at
     let d = e.before.before in
     let n = d.before.before.before in
     let o = c.operand.ensures in
-    let f = c.factors.ensures in
-    round term-level n.loop-rounds.invariant n.next_of-i.ensures d.if-i-eq0.false d.token_at-t.ensures e.is_term.ensures e.if-not-is_term.false-raw (omega arith) (product_is _ _ _ _ _ o.0 f.0, f.1.goes _ o.1) c.join-a.ensures)
-    (λ c. let i = c.loop-rounds.invariant in (loop-spent i.0 (omega arith), i.1))
+    let f = c.factors-product.ensures in
+    round term-level n.loop.invariant n.next_of-i.ensures d.if-i-eq0.false d.token_at-t.ensures e.is_term.ensures e.if-not-is_term.false-raw (omega arith) (product_is _ _ _ _ _ o.0 f.0, f.1.goes _ o.1) c.join-a.ensures)
+    (λ c. let i = c.loop.invariant in (loop-spent i.0 (omega arith), i.1))

@@ -1,23 +1,12 @@
--- One that is not sound is enough; the next is behind the others.
-use mathlib.Core.Path.{◌≡◌, refl, sym, ◌∙◌}
-use mathlib.Core.Bool.{true, false}
-use Prim.Native.Nat.{◌+◌, ◌-◌}
-use native.Mathlib.Omega.{arith}
-use Rattle.couplers.specs.Channel.{channel_count, are_channels}
-use Rattle.couplers.specs.ChannelLaws.{sound-step, unsound-on}
+-- Each channel is sound.
+use Rattle.std.proofs.Common.{sym, ◌∙◌, rules, tests}
+use Rattle.std.proofs.lemmas.Iterator.{YieldsList-from_slice}
+use Rattle.std.proofs.lemmas.Iterator.Search.{all_from_yields_List}
+use Rattle.couplers.specs.Channel.{is_channel}
+use Rattle.couplers.specs.ChannelLaws.{sound_all}
 use Rattle.couplers.proofs.channel.are_channels.Goals as goal
 
-pub loop-c-init : goal.loop-c-init
-unfolding are_channels
-loop-c-init c = refl
-
-pub returns-then-not-is_channel : goal.returns-then-not-is_channel
-returns-then-not-is_channel c =
-    let cs = c.args.channels in
-    let i = c.loop-c.c-index in
-    let f : are_channels cs (i + 1) ≡ false = sym (sound-step cs i true (sym c.loop-c.invariant)) ∙ sym c.is_channel.ensures ∙ c.if-not-is_channel.true in
-    let n : channel_count - (i + 1) + (i + 1) ≡ channel_count = omega arith in
-    sym (rw n at (unsound-on cs (i + 1) (channel_count - (i + 1)) f))
-
-pub loop-c-preserved : goal.loop-c-preserved
-loop-c-preserved c = sym (sound-step c.args.channels c.loop-c.c-index true (sym c.loop-c.invariant)) ∙ sym c.is_channel.ensures ∙ c.if-not-is_channel.false
+pub returns : goal.returns
+returns c =
+    all_from_yields_List is_channel _ _ c.all.result c.all.ensures.ran (YieldsList-from_slice c.args.channels (cc)) (λ x b q k. search (rules, tests)) ∙
+    sym (sound_all c.args.channels (search rules))

@@ -1,8 +1,9 @@
 -- The walk of `work`, operand to expression, meets its contracts: each arm of an operand by its law of Arms, each level and each loop by those of Rows; the measure is eight times the tokens left, and the level.
+use Rattle.std.specs.Prelude.{Bool, List}
 use borrow.Author.Rules.{rules}
 use borrow.Author.Tests.{not-false}
-use mathlib.Core.Path.{refl, sym, ap, ◌∙◌}
-use Prim.Native.Nat.{◌+◌, ◌*◌}
+use mathlib.Core.Path.{◌≡◌, refl, sym, ap, subst, ◌∙◌}
+use Prim.Native.Nat.{ℕ, ◌+◌, ◌*◌, ◌-◌}
 use native.Mathlib.Omega.{arith}
 use lib.IntN.{ℤ}
 use mir.Syntax.{w32}
@@ -11,7 +12,7 @@ use Rattle.values.specs.declared.codes.Alarm.TheVariants.{Unsound}
 use Rattle.values.specs.Choice.{both}
 use Rattle.values.specs.SignedLaws.{back}
 use Rattle.tokens.specs.Token.{SAME, ATLEAST, IN, IM, is_factor, is_term}
-use Rattle.tokens.specs.Descent.{is_row, read_close, read_sum, read_operand, product_at, sum_at, expression_at}
+use Rattle.tokens.specs.Descent.{Read, Meaning, is_row, read_close, read_sum, read_operand, product_at, sum_at, expression_at}
 use Rattle.working.specs.Pair.{pair_of, said}
 use Rattle.working.specs.Working.{value_over, negated, inverted}
 use Rattle.tokens.specs.ReadStepLaws.{stepped}
@@ -56,14 +57,18 @@ use Rattle.working.proofs.walk.+expression_factors_operand_product_row_sum_terms
 use Rattle.working.proofs.walk.+expression_factors_operand_product_row_sum_terms.{statement}
 use Rattle.working.proofs.walk.+expression_factors_operand_product_row_sum_terms.Tie.{close}
 
-abbrev factors-Inv : factors-lts.invariant-loop-rounds
-factors-Inv tokens r cells w left a₀ rounds₀ a rounds = Loop tokens (value_over r cells) is_factor (read_operand tokens (value_over r cells) left) said left w rounds a
+-- what is joined so far says the same of n rounds left as of k, where n is k
+same-left : {s : List ℕ} {A : Type 0} {𝓜 : Meaning A} {is_op : ℕ → Bool} {sub said : ℕ → Read A} {left w k n a : ℕ} → Loop s 𝓜 is_op sub said left w k a → n ≡ k → Loop s 𝓜 is_op sub said left w n a
+same-left {s} {A} {𝓜} {is_op} {sub} {said} {left} {w} {k} {n} {a} l e = subst (λ j. Loop s 𝓜 is_op sub said left w j a) (sym e) l
 
-abbrev terms-Inv : terms-lts.invariant-loop-rounds
-terms-Inv tokens r cells w left a₀ rounds₀ a rounds = Loop tokens (value_over r cells) is_term (product_at tokens (value_over r cells) left) said left w rounds a
+abbrev factors-Inv : factors-lts.invariant-loop
+factors-Inv tokens r cells w left a₀ n₀ a n = Loop tokens (value_over r cells) is_factor (read_operand tokens (value_over r cells) left) said left w (left - n) a
 
-abbrev row-Inv : row-lts.invariant-loop-rounds
-row-Inv tokens r cells first w left a₀ rounds₀ a rounds = Loop tokens (value_over r cells) (is_row first) (read_sum tokens (value_over r cells) (read_operand tokens (value_over r cells) left) left) said left w rounds a
+abbrev terms-Inv : terms-lts.invariant-loop
+terms-Inv tokens r cells w left a₀ n₀ a n = Loop tokens (value_over r cells) is_term (product_at tokens (value_over r cells) left) said left w (left - n) a
+
+abbrev row-Inv : row-lts.invariant-loop
+row-Inv tokens r cells first w left a₀ n₀ a n = Loop tokens (value_over r cells) (is_row first) (read_sum tokens (value_over r cells) (read_operand tokens (value_over r cells) left) left) said left w (left - n) a
 
 pub +expression_factors_operand_product_row_sum_terms_spec : {M : Type 1} → statement M
 unfolding value_over sum_at expression_at
@@ -106,15 +111,15 @@ unfolding value_over sum_at expression_at
     let n = d.before.before.before in
     expression-is _ _ _ _ _ n.sum-a.ensures (rest-rows _ _ _ _ (said-value _ n.next_of-i.ensures refl d.if-i-eq0.false) d.token_at-t.ensures e.is_compare.ensures e.if-is_compare.false c.row.ensures)))
     -- factors
-    (λ t. factors-lts.spec (_, next-of.Learnt, _, token-at.Learnt, _, is-factor.Learnt, _, value_of_lem.Learnt, _, operand.Post, _, join-factor.Learnt) _ factors.Post factors-Inv (λ tokens r cells w left a₀ rounds₀ a rounds. rounds)
-    (λ c. loop-begins)
+    (λ t. factors-lts.spec (_, next-of.Learnt, _, token-at.Learnt, _, is-factor.Learnt, _, value_of_lem.Learnt, _, operand.Post, _, join-factor.Learnt) _ factors.Post factors-Inv (λ tokens r cells w left a₀ n₀ a n. left - n)
+    (λ c. same-left loop-begins (omega arith))
     (λ c κs. search rules)
-    (λ c. loop-stops c.loop-rounds.invariant pairs-say c.next_of-i.ensures c.if-i-eq0.true)
+    (λ c. loop-stops c.loop.invariant pairs-say c.next_of-i.ensures c.if-i-eq0.true)
     (λ c κs. search rules)
     (λ c κs. search rules)
-    (λ c. let d = c.before.before in let n = d.before.before.before in loop-ends n.loop-rounds.invariant pairs-say n.next_of-i.ensures d.if-i-eq0.false d.token_at-t.ensures c.is_factor.ensures c.if-not-is_factor.true-raw)
+    (λ c. let d = c.before.before in let n = d.before.before.before in loop-ends n.loop.invariant pairs-say n.next_of-i.ensures d.if-i-eq0.false d.token_at-t.ensures c.is_factor.ensures c.if-not-is_factor.true-raw)
     (λ c κs. search rules)
-    (λ c. let d = c.before.before.before in omega (arith, loop-inside d.loop-rounds.invariant refl d.token_at-t.ensures c.is_factor.ensures c.if-not-is_factor.false-raw))
+    (λ c. let d = c.before.before.before in omega (arith, loop-inside d.loop.invariant refl d.token_at-t.ensures c.is_factor.ensures c.if-not-is_factor.false-raw))
     (λ c κs. omega arith)
     (λ c κs. sym c.is_factor.ensures ∙ not-false _ c.if-not-is_factor.false-raw)
     (λ c. omega arith)
@@ -123,8 +128,8 @@ unfolding value_over sum_at expression_at
     let v = c.before.before in
     let d = v.before.before.before in
     let n = d.before.before.before in
-    loop-goes n.loop-rounds.invariant pairs-say n.next_of-i.ensures d.if-i-eq0.false d.token_at-t.ensures v.is_factor.ensures v.if-not-is_factor.false-raw (omega arith) (back w32 (record { sfits = v.value_of.type_inv }) ∙ v.value_of.ensures) c.operand.ensures c.join_factor-a.ensures)
-    (λ c. loop-spent c.loop-rounds.invariant (omega arith)))
+    same-left (loop-goes n.loop.invariant pairs-say n.next_of-i.ensures d.if-i-eq0.false d.token_at-t.ensures v.is_factor.ensures v.if-not-is_factor.false-raw (omega arith) (back w32 (record { sfits = v.value_of.type_inv }) ∙ v.value_of.ensures) c.operand.ensures c.join_factor-a.ensures) (omega arith))
+    (λ c. loop-spent c.loop.invariant (omega arith)))
     -- operand
     (λ t. operand-lts.spec (_, alarm-of.Learnt, _, token-at.Learnt, _, pair_of.Learnt, _, is-variable.Learnt, _, variable.Learnt, _, expression.Post, _, closed.Learnt, _, operand.Post, _, negated-pair.Learnt, _, inverted-pair.Learnt, _, truth.Learnt) _ operand.Post
     (λ c κs. search rules)
@@ -182,15 +187,15 @@ unfolding value_over sum_at expression_at
     (λ c κs. omega arith)
     (λ c. product_is _ _ _ _ _ c.operand-a.ensures c.factors.ensures))
     -- row
-    (λ t. row-lts.spec (_, next-of.Learnt, _, token-at.Learnt, _, is_row.Learnt, _, value_of_lem.Learnt, _, sum.Post, _, join-row.Learnt) _ row.Post row-Inv (λ tokens r cells first w left a₀ rounds₀ a rounds. rounds)
-    (λ c. loop-begins)
+    (λ t. row-lts.spec (_, next-of.Learnt, _, token-at.Learnt, _, is_row.Learnt, _, value_of_lem.Learnt, _, sum.Post, _, join-row.Learnt) _ row.Post row-Inv (λ tokens r cells first w left a₀ n₀ a n. left - n)
+    (λ c. same-left loop-begins (omega arith))
     (λ c κs. search rules)
-    (λ c. loop-stops c.loop-rounds.invariant pairs-say c.next_of-i.ensures c.if-i-eq0.true)
+    (λ c. loop-stops c.loop.invariant pairs-say c.next_of-i.ensures c.if-i-eq0.true)
     (λ c κs. search rules)
     (λ c κs. search rules)
-    (λ c. let d = c.before.before in let n = d.before.before.before in loop-ends n.loop-rounds.invariant pairs-say n.next_of-i.ensures d.if-i-eq0.false d.token_at-t.ensures c.is_row.ensures c.if-not-is_row.true-raw)
+    (λ c. let d = c.before.before in let n = d.before.before.before in loop-ends n.loop.invariant pairs-say n.next_of-i.ensures d.if-i-eq0.false d.token_at-t.ensures c.is_row.ensures c.if-not-is_row.true-raw)
     (λ c κs. search rules)
-    (λ c. let d = c.before.before.before in omega (arith, loop-inside d.loop-rounds.invariant refl d.token_at-t.ensures c.is_row.ensures c.if-not-is_row.false-raw))
+    (λ c. let d = c.before.before.before in omega (arith, loop-inside d.loop.invariant refl d.token_at-t.ensures c.is_row.ensures c.if-not-is_row.false-raw))
     (λ c κs. omega arith)
     (λ c κs. (both _ _ (sym c.is_row.ensures ∙ not-false _ c.if-not-is_row.false-raw)).0)
     (λ c. omega arith)
@@ -199,8 +204,8 @@ unfolding value_over sum_at expression_at
     let v = c.before.before in
     let d = v.before.before.before in
     let n = d.before.before.before in
-    loop-goes n.loop-rounds.invariant pairs-say n.next_of-i.ensures d.if-i-eq0.false d.token_at-t.ensures v.is_row.ensures v.if-not-is_row.false-raw (omega arith) (back w32 (record { sfits = v.value_of.type_inv }) ∙ v.value_of.ensures) c.sum.ensures c.join_row-a.ensures)
-    (λ c. loop-spent c.loop-rounds.invariant (omega arith)))
+    same-left (loop-goes n.loop.invariant pairs-say n.next_of-i.ensures d.if-i-eq0.false d.token_at-t.ensures v.is_row.ensures v.if-not-is_row.false-raw (omega arith) (back w32 (record { sfits = v.value_of.type_inv }) ∙ v.value_of.ensures) c.sum.ensures c.join_row-a.ensures) (omega arith))
+    (λ c. loop-spent c.loop.invariant (omega arith)))
     -- sum
     (λ t. sum-lts.spec (_, product.Post, _, next-of.Learnt, _, token-at.Learnt, _, is-term.Learnt, _, terms.Post) _ sum.Post
     (λ c κs. omega arith)
@@ -215,15 +220,15 @@ unfolding value_over sum_at expression_at
     (λ c κs. omega arith)
     (λ c. sum_is _ _ _ _ _ c.product-a.ensures c.terms.ensures))
     -- terms
-    λ t. terms-lts.spec (_, next-of.Learnt, _, token-at.Learnt, _, is-term.Learnt, _, value_of_lem.Learnt, _, product.Post, _, join-term.Learnt) _ terms.Post terms-Inv (λ tokens r cells w left a₀ rounds₀ a rounds. rounds)
-    (λ c. loop-begins)
+    λ t. terms-lts.spec (_, next-of.Learnt, _, token-at.Learnt, _, is-term.Learnt, _, value_of_lem.Learnt, _, product.Post, _, join-term.Learnt) _ terms.Post terms-Inv (λ tokens r cells w left a₀ n₀ a n. left - n)
+    (λ c. same-left loop-begins (omega arith))
     (λ c κs. search rules)
-    (λ c. loop-stops c.loop-rounds.invariant pairs-say c.next_of-i.ensures c.if-i-eq0.true)
+    (λ c. loop-stops c.loop.invariant pairs-say c.next_of-i.ensures c.if-i-eq0.true)
     (λ c κs. search rules)
     (λ c κs. search rules)
-    (λ c. let d = c.before.before in let n = d.before.before.before in loop-ends n.loop-rounds.invariant pairs-say n.next_of-i.ensures d.if-i-eq0.false d.token_at-t.ensures c.is_term.ensures c.if-not-is_term.true-raw)
+    (λ c. let d = c.before.before in let n = d.before.before.before in loop-ends n.loop.invariant pairs-say n.next_of-i.ensures d.if-i-eq0.false d.token_at-t.ensures c.is_term.ensures c.if-not-is_term.true-raw)
     (λ c κs. search rules)
-    (λ c. let d = c.before.before.before in omega (arith, loop-inside d.loop-rounds.invariant refl d.token_at-t.ensures c.is_term.ensures c.if-not-is_term.false-raw))
+    (λ c. let d = c.before.before.before in omega (arith, loop-inside d.loop.invariant refl d.token_at-t.ensures c.is_term.ensures c.if-not-is_term.false-raw))
     (λ c κs. omega arith)
     (λ c κs. sym c.is_term.ensures ∙ not-false _ c.if-not-is_term.false-raw)
     (λ c. omega arith)
@@ -232,5 +237,5 @@ unfolding value_over sum_at expression_at
     let v = c.before.before in
     let d = v.before.before.before in
     let n = d.before.before.before in
-    loop-goes n.loop-rounds.invariant pairs-say n.next_of-i.ensures d.if-i-eq0.false d.token_at-t.ensures v.is_term.ensures v.if-not-is_term.false-raw (omega arith) (back w32 (record { sfits = v.value_of.type_inv }) ∙ v.value_of.ensures) c.product.ensures c.join_term-a.ensures)
-    (λ c. loop-spent c.loop-rounds.invariant (omega arith))
+    same-left (loop-goes n.loop.invariant pairs-say n.next_of-i.ensures d.if-i-eq0.false d.token_at-t.ensures v.is_term.ensures v.if-not-is_term.false-raw (omega arith) (back w32 (record { sfits = v.value_of.type_inv }) ∙ v.value_of.ensures) c.product.ensures c.join_term-a.ensures) (omega arith))
+    (λ c. loop-spent c.loop.invariant (omega arith))
