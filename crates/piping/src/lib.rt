@@ -3,7 +3,8 @@
 // Where reading or writing fails it says so on standard error, by the program's name, and stops, without what stands at the end.
 #![tactic(auto)]
 
-ghost use Rattle.std.specs.Prelude.{IfOk};
+ghost use Rattle.std.specs.Prelude.{IfOk, ◌≡◌, not};
+ghost use Rattle.transcript.specs.Intake.{is_over};
 ghost use Rattle.transcript.specs.Machine.{LeadsTo};
 ghost use Rattle.transcript.specs.SessionAnswers.{machine_of};
 
@@ -22,6 +23,13 @@ enum PipeError {
     Output,
 }
 
+// A session behind a piece of input, and whether more of its input is wanted.
+#[derive(Clone, Copy)]
+struct Next {
+    session: Session,
+    more: bool,
+}
+
 // Writes what was printed.
 fn write(output: &impl Print, part: &[u8]) -> Result<(), PipeError> {
     output.write_all(part).map_err(|_| PipeError::Output)
@@ -34,8 +42,9 @@ fn hand_over(
     text: &mut [u8; KEPT],
     set: &mut [u32; SIZE],
     piece: &[u8],
-) -> Result<Session, PipeError>
-    ensures leads_to { IfOk result (λ next. LeadsTo (machine_of text.old set.old first) piece.now (machine_of text.new set.new next)) }
+) -> Result<Next, PipeError>
+    ensures leads_to { IfOk result (λ next. LeadsTo (machine_of text.old set.old first) piece.now (machine_of text.new set.new next.session)) }
+    ensures more_value { IfOk result (λ next. next.more ≡ not (is_over next.session.intake)) }
 {
     let mut session = first;
     let mut rest = piece;
@@ -47,7 +56,10 @@ fn hand_over(
         session = x.session;
         rest = rest.split_at(x.taken).1;
     }
-    Ok(session)
+    Ok(Next {
+        session,
+        more: !is_over(session),
+    })
 }
 
 // All of the input through a session of this view, up to its end.
@@ -62,8 +74,9 @@ fn pipe(mut input: impl Read + Drop, output: &impl Print, view: View) -> Result<
         if n == 0 {
             break;
         }
-        session = hand_over(output, session, &mut text, &mut set, &piece[..n])?;
-        if is_over(session) {
+        let next = hand_over(output, session, &mut text, &mut set, &piece[..n])?;
+        session = next.session;
+        if !next.more {
             break;
         }
     }

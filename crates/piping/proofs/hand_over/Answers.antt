@@ -1,5 +1,5 @@
 -- Of a piece that is not used up a step takes something, and no more than there is; what it printed fits in the buffer; and it leads on from before it.
-use Rattle.std.proofs.Common.{◌≡◌, ◌≤◌, ℕ, [], length, sym, arith, length-take-le}
+use Rattle.std.proofs.Common.{◌≡◌, ◌≤◌, ℕ, [], ap, length, not, sym, arith, length-take-le}
 use Rattle.std.proofs.lemmas.Grind.{common_steps}
 use lib.ListN.{length-replicate}
 use Rattle.transcript.specs.Output.{out_size}
@@ -32,4 +32,4 @@ loop-rest-preserved g c x l =
 pub returns : goal.returns
 returns g c =
     let e : c.loop-rest.rest.now ≡ [] = grind (arith, common_steps) in
-    record { leads_to = c.loop-rest.invariant _ (rw e (at_end (machine_of c.loop-rest.text c.loop-rest.set c.loop-rest.session))) }
+    record { leads_to = c.loop-rest.invariant _ (rw e (at_end (machine_of c.loop-rest.text c.loop-rest.set c.loop-rest.session))); more_value = ap not c.is_over.ensures }
