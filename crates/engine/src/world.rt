@@ -26,7 +26,7 @@ pub struct Orders {
 
 impl Orders {
     // One order goes behind the others.
-    pub fn add(&mut self, order: Order)
+    pub(crate) fn add(&mut self, order: Order)
         requires { self.old.count < max_orders }
         ensures bytes { orders_in self.new ≡ orders_in self.old ++ order_bytes order }
         ensures count { self.new.count ≡ self.old.count + 1 }

@@ -66,7 +66,7 @@ impl Vars {
     }
 
     // The oldest value of the FIFO with the word w is removed.
-    pub fn take_oldest(&mut self, w: u32) -> Result<i32, Alarm>
+    pub(crate) fn take_oldest(&mut self, w: u32) -> Result<i32, Alarm>
         requires { is_fifo w ≡ true }
         ensures value { IsChanged result self.new (change_fifo self.old.r self.old.cells Change.Remove w) }
         ensures same_runs { self.new.runs ≡ self.old.runs }
@@ -125,7 +125,7 @@ impl Vars {
 
     // The variable w[i] is written.
     #[tactic(auto, unfolding(crate::specs::Write::write_to, crate::specs::Write::write_inside))]
-    pub fn write(&mut self, w: u32, i: u32, v: i32) -> Result<(), Alarm>
+    pub(crate) fn write(&mut self, w: u32, i: u32, v: i32) -> Result<(), Alarm>
         ensures { IsWritten result self.new (write_to self.old w i v) }
     {
         if !is_inside(w, i) {

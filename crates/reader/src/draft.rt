@@ -31,7 +31,7 @@ pub struct Span {
 
 impl Span {
     // How many tokens stand there.
-    pub fn size(self) -> usize
+    pub(crate) fn size(self) -> usize
         requires { self.start ≤ self.end }
         ensures { result ≡ self.end - self.start }
     {

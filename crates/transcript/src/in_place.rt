@@ -42,7 +42,7 @@ pub struct Piece {
 
 impl Workplace {
     // A session to be worked over this set.
-    pub fn new(session: Session, set: &[u32; SIZE]) -> Workplace
+    pub(crate) fn new(session: Session, set: &[u32; SIZE]) -> Workplace
         ensures same { session_at result ≡ session }
         ensures beside { KeptBeside set.now result }
     {

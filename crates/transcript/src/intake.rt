@@ -89,7 +89,7 @@ impl Intake {
 
     // Bytes of a line, no LF among them.
     #[tactic(auto, unfolding(crate::specs::Intake::bytes_taken, crate::specs::Intake::bytes_kept))]
-    pub fn take_in(self, text: &mut [u8; KEPT], part: &[u8]) -> Intake
+    pub(crate) fn take_in(self, text: &mut [u8; KEPT], part: &[u8]) -> Intake
         requires { FitIntake self }
         ensures value { result ≡ bytes_taken self part.now }
         ensures text_after { text.new ≡ bytes_kept self text.old part.now }
@@ -168,7 +168,7 @@ impl Intake {
 
     // An LF.
     #[tactic(auto, unfolding(crate::specs::Intake::line_over, crate::specs::Intake::line_kept))]
-    pub fn end_line(self, text: &mut [u8; KEPT]) -> Arrived
+    pub(crate) fn end_line(self, text: &mut [u8; KEPT]) -> Arrived
         requires { FitIntake self }
         ensures value { result ≡ line_over self }
         ensures text_after { text.new ≡ line_kept self text.old }

@@ -87,7 +87,7 @@ impl Place {
 
     // Bytes of a line, no LF among them, in set text.
     #[tactic(auto, unfolding(crate::specs::SetText::place_on))]
-    pub fn on(self, part: &[u8]) -> Place
+    pub(crate) fn on(self, part: &[u8]) -> Place
         requires { self.size ≤ kept_size }
         ensures { result ≡ place_on self part.now }
     {
@@ -100,7 +100,7 @@ impl Place {
 
     // The LF of a line of set text.
     #[tactic(auto, unfolding(crate::specs::SetText::place_end))]
-    pub fn end(self) -> Place
+    pub(crate) fn end(self) -> Place
         requires { self.size ≤ kept_size }
         ensures { result ≡ place_end self }
     {

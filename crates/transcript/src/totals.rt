@@ -64,7 +64,7 @@ impl Counts {
     }
 
     // A line and its beat are counted, of this code and so many orders.
-    pub fn count(&mut self, code: u8, orders: u32)
+    pub(crate) fn count(&mut self, code: u8, orders: u32)
         requires { FitCounts self.old × (orders ≤ max_orders) }
         ensures { self.new ≡ counting self.old code orders }
     {
@@ -75,7 +75,7 @@ impl Counts {
     }
 
     // A line that is no beat is counted.
-    pub fn count_call(&mut self)
+    pub(crate) fn count_call(&mut self)
         requires { FitCounts self.old }
         ensures { self.new ≡ calling self.old }
     {

@@ -16,36 +16,39 @@ pub fn check(tree: &Tree, report: &mut Report) {
     }
 }
 
-/// The functions that another crate can call: those of the root, those of modules that it shows whole, and those that it passes on by `pub use`, with the methods of what it passes on.
+/// The functions that another crate can call: those of the root, those of modules that it shows whole, those that it passes on by `pub use`, and each `pub` method of a type, wherever it stands: another crate may hold the type, as a field of one that is passed on.
 pub fn public_calls(library: &Crate) -> Vec<(String, Function)> {
     let mut calls = Vec::new();
     let root = &library.files["src/lib.rt"].text;
-    calls.extend(functions(root).into_iter().filter(|one| one.public).map(|one| (String::new(), one)));
+    calls.extend(functions(root).into_iter().filter(is_call).map(|one| (String::new(), one)));
     shown(library, "", root, &mut calls);
     let passed: BTreeSet<(String, String)> =
         shows(root).iter().filter_map(|one| passed_on(one)).flatten().collect();
     for (module, item) in passed {
         let Some(file) = library.files.get(&format!("src/{module}.rt")) else { continue };
-        calls.extend(
-            functions(&file.text)
-                .into_iter()
-                .filter(|one| match &one.of {
-                    Some(of) => one.public && *of == item,
-                    None => one.name == item,
-                })
-                .map(|one| (String::new(), one)),
-        );
+        let all = functions(&file.text).into_iter();
+        calls.extend(all.filter(|one| one.of.is_none() && one.name == item).map(|one| (String::new(), one)));
+    }
+    for file in library.within("src/", ".rt") {
+        let all = functions(&file.text).into_iter();
+        calls.extend(all.filter(|one| one.of.is_some() && one.public).map(|one| (String::new(), one)));
     }
     calls
 }
 
-/// What this program would not see: a `pub use` that is not of items of one file of the crate, traits, and their methods.
+/// Whether it is shown by itself, as no method.
+fn is_call(one: &Function) -> bool {
+    one.of.is_none() && one.public
+}
+
+/// What this program would not see: a `pub use` that is not of items of one file of the crate, traits and their methods, and an `impl` whose type doesn't end its line.
 fn unread(library: &Crate) -> Vec<String> {
     let mut faults = Vec::new();
     for file in library.within("src/", ".rt") {
         let methods = file.text.lines().filter(|line| {
-            let of_trait = line.starts_with("impl") && line.contains(" for ");
-            of_trait || line.starts_with("trait ") || line.starts_with("pub trait ")
+            let of_type = line.ends_with(" {") && !line.contains(" for ");
+            let unread = line.starts_with("impl") && !of_type;
+            unread || line.starts_with("trait ") || line.starts_with("pub trait ")
         });
         for line in shows(&file.text).into_iter().chain(methods.map(String::from)) {
             let passed = passed_on(&line).filter(|_| file.path.ends_with("/lib.rt"));
@@ -98,9 +101,7 @@ fn shown(library: &Crate, folder: &str, text: &str, calls: &mut Vec<(String, Fun
         };
         let Some(file) = library.files.get(&format!("src/{folder}{module}.rt")) else { continue };
         let path = format!("{}{module}::", folder.replace('/', "::"));
-        calls.extend(
-            functions(&file.text).into_iter().filter(|one| one.public).map(|one| (path.clone(), one)),
-        );
+        calls.extend(functions(&file.text).into_iter().filter(is_call).map(|one| (path.clone(), one)));
         shown(library, &format!("{folder}{module}/"), &file.text, calls);
     }
 }
