@@ -2,6 +2,9 @@
 //
 // `left` bounds the tokens left: it begins as the places of a set and falls at each bracket and sign. An operand with no operator behind it is handed up at once, first of
 // all before a ), and what joins stands apart: so a bracket costs two calls.
+//
+// The levels `factors`, `terms` and `row` are one loop three times: they differ in their test, in what they join and in the level below, and call each other in a cycle.
+// With the level below as a closure each would have to state its bound again, and one loop over three parameters is no plainer.
 ghost use Rattle.std.specs.Prelude.{◌≡◌, ◌+◌, ◌<◌, ◌≤◌};
 ghost use Rattle.tokens.specs.Token.{set_size};
 ghost use Rattle.tokens.specs.Descent.{then, read_operand, read_close, read_variable, read_truth, factors_behind, terms_behind, row_behind, rest_behind, sum_at, expression_at};

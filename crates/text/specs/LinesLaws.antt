@@ -203,6 +203,13 @@ pub return-within : (l : List ℕ) → length (without_return l) ≤ length l
 return-within l = part-within (without_return l) l (part-of-return l)
 
 module _ (t : List ℕ) (at : ℕ) where
+  -- what is kept there, of a line or of more, has no body that reaches beyond the end of the text
+  pub kept-fits : (kept : List ℕ) (b : ℕ) → b ≡ 0 + run in_body (drop 0 kept) → at ≤ length t → length kept ≤ length (drop at t) → at + b ≤ length t
+  kept-fits kept b w l k =
+      let d = length-drop at t in
+      let r = run-within in_body kept in
+      omega arith
+
   pub bounds-none : length t ≤ at → record { end = at; body = at } ≡ bounds_at at (drop at t)
   unfolding bounds_at first_body without_comment run
   bounds-none h = let z : at + 0 ≡ at = omega arith in rw (drop_of_length-le t h, z)
@@ -241,14 +248,6 @@ module _ (t : List ℕ) (at : ℕ) where
           let s = comment-length (without_return (take (run in_line u) u)) in
           let q = ap (λ (x : List ℕ). run in_body x) a in
           bounds b (omega arith ∙ ap length (sym (first_more u m)))
-
-      -- nor beyond the end of the text
-      pub kept-fits : at < length t → length kept ≤ length line → at + b ≤ length t
-      kept-fits l k =
-          let d = length-drop at t in
-          let n = length-take (e - at) (drop at t) in
-          let r = run-within in_body kept in
-          omega arith
 
 -- ---- only spaces
 

@@ -559,6 +559,7 @@ impl HalfLine {
     {
         let mut x = self;
         let mut rest = part;
+        // A run says how many bytes it read: no `for` counts them.
         while let Some((b, behind)) = rest.split_first() {
             let run = x.read_byte(*b).read_run(behind);
             x = run.half;

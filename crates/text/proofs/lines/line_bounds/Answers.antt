@@ -1,5 +1,5 @@
 -- `lines::line_bounds`: what is kept of the line is the line, or the line without a CR; LinesLaws has the laws.
-use Rattle.std.proofs.Common.{ap, ◌∙◌, List, ℕ, Bor, ◌≤◌, length, arith}
+use Rattle.std.proofs.Common.{ap, ◌∙◌, List, ℕ, Bor, ◌≤◌, ◌-◌, length, drop, length-take, arith}
 use Rattle.text.specs.Byte.{in_line}
 use Rattle.text.specs.ByteLaws.{run_fits}
 use Rattle.text.specs.LinesLaws.{bounds-none, bounds-last, bounds-more, kept-fits, return-within, line}
@@ -24,7 +24,7 @@ overflow_add-result c =
       | then-end-text w ↦ omega (arith, ap (λ (b : Bor (List ℕ)). length b.now) w.kept-is)
       | else-end-text w ↦ omega (arith, ap (λ (b : Bor (List ℕ)). length b.now) w.kept-is, ap (λ (l : List ℕ). length l) w.without_return-kept.ensures, return-within (line t at e h))
     ] in
-    omega (arith, kept-fits t at e h k c.run_end-size.result c.run_end-size.ensures (omega arith) w)
+    omega (arith, kept-fits t at k c.run_end-size.result c.run_end-size.ensures (omega arith) (omega (arith, w, length-take (e - at) (drop at t))))
 
 pub returns : goal.returns
 returns c =
