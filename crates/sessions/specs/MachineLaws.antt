@@ -13,7 +13,7 @@ use Rattle.transcript.specs.declared.set_text.Star.{Star}
 use Rattle.transcript.specs.declared.beat_line.HalfLine.{HalfLine}
 use Rattle.transcript.specs.declared.intake.Intake.{Intake}
 use Rattle.transcript.specs.declared.intake.Phase.{Phase}
-use Rattle.transcript.specs.declared.intake.Phase.TheVariants.{Text, Beats, Over}
+use Rattle.transcript.specs.declared.intake.Phase.TheVariants.{Text, Beats}
 use Rattle.reader.specs.Load.{load_answer}
 use Rattle.transcript.specs.HalfLine.{read_byte, read_on}
 use Rattle.transcript.specs.Totals.{last_line}
@@ -21,10 +21,10 @@ use Rattle.transcript.specs.Tally.{said_counted}
 use Rattle.transcript.specs.declared.intake.Arrival.{Arrival}
 use Rattle.transcript.specs.declared.intake.Arrival.TheVariants.{Nothing, WholeText, LineCame}
 use Rattle.transcript.specs.Intake.{with_place, with_half_line, bytes_kept, text_line_kept, line_over, line_kept}
-use Rattle.transcript.specs.IntakeLaws.{text-bytes, text-bytes-kept, beats-bytes, beats-bytes-kept}
+use Rattle.transcript.specs.IntakeLaws.{text-bytes, text-bytes-kept, beats-bytes, beats-bytes-kept, else-bytes, else-bytes-kept}
 use Rattle.transcript.specs.Machine.{Machine, Fed, opened, said_of, said_end, arrival_worked, keeping, chunk, line_end, behind, fed_lines}
 use Rattle.transcript.specs.SetText.{kept_size, star_after, star_on, star_ends, place_on}
-use Rattle.transcript.specs.SessionRoomLaws.{by_code, over-chunk}
+use Rattle.transcript.specs.SessionRoomLaws.{by_code}
 
 -- ---- bytes of a line, in two parts
 
@@ -72,11 +72,15 @@ module _ (m : Machine) (l : List ℕ) where
   unfolding chunk
   chunk-beats h = let x = m.session.intake in rw (beats-bytes x h l, beats-bytes-kept x h m.text l)
 
+  pub chunk-else : (m.session.intake.phase ≡ Text → ⊥) → (m.session.intake.phase ≡ Beats → ⊥) → chunk m l ≡ m
+  unfolding chunk
+  chunk-else h g = let x = m.session.intake in rw (else-bytes x h g l, else-bytes-kept x h m.text l)
+
 -- what holds in each phase
-pub by_phase : (P : Type 0) (p : Phase) → (p ≡ Text → P) → (p ≡ Beats → P) → (p ≡ Over → P) → P
+pub by_phase : (P : Type 0) (p : Phase) → (p ≡ Text → P) → (p ≡ Beats → P) → ((p ≡ Text → ⊥) → (p ≡ Beats → ⊥) → P) → P
 by_phase P Text f g h = f refl
 by_phase P Beats f g h = g refl
-by_phase P Over f g h = h refl
+by_phase P _ f g h = h (λ e. cc) (λ e. cc)
 
 -- bytes of a line in two parts are taken as the whole
 pub chunk-append : (m : Machine) (l k : List ℕ) → Held m → chunk m (l ++ k) ≡ chunk (chunk m l) k
@@ -86,7 +90,7 @@ chunk-append m l k h =
     by_phase (chunk m (l ++ k) ≡ chunk (chunk m l) k) m.session.intake.phase
     (λ e. chunk-text m (l ++ k) e ∙ in-text ∙ sym (ap on (chunk-text m l e) ∙ chunk-text (text_on m l) k e))
     (λ e. chunk-beats m (l ++ k) e ∙ in-beats ∙ sym (ap on (chunk-beats m l e) ∙ chunk-beats (beats_on m l) k e))
-    (λ e. over-chunk m (l ++ k) e ∙ sym (over-chunk m k e) ∙ sym (ap on (over-chunk m l e)))
+    (λ e g. chunk-else m (l ++ k) e g ∙ sym (chunk-else m k e g) ∙ sym (ap on (chunk-else m l e g)))
   where
     in-text : text_on m (l ++ k) ≡ text_on (text_on m l) k
     in-text = let x = m.session.intake in λ i. keeping m (text-append m.text x.place.size l k h i) (with_place x (place-append x.place l k i))

@@ -20,9 +20,9 @@ use Rattle.transcript.specs.IntakeLaws.{FitIntake}
 use Rattle.transcript.specs.Machine.{Machine, Fed, begun, is_fit, standing, keeping, chunk, line_end, behind, fed_lines, finished, finished_text, Work, work_from, worked}
 use Rattle.transcript.specs.SetText.{kept_size, place_on, star_on}
 use Rattle.transcript.specs.HalfLine.{read_on}
-use Rattle.transcript.specs.SessionRoomLaws.{over-chunk, fit_parts, fit-whole, LiveTotals, Lives, fit-lives, chunk-lives, line-lives}
+use Rattle.transcript.specs.SessionRoomLaws.{fit_parts, fit-whole, LiveTotals, Lives, fit-lives, chunk-lives, line-lives}
 use Rattle.transcript.specs.BeatTakenLaws.{taken-some}
-use Rattle.sessions.specs.MachineLaws.{Held, chunk-text, chunk-beats, by_phase, fed-line, fed-held, pieces}
+use Rattle.sessions.specs.MachineLaws.{Held, chunk-text, chunk-beats, chunk-else, by_phase, fed-line, fed-held, pieces}
 use Rattle.sessions.specs.SessionLaws.{prints, over-fed, over-finished, starting, session-prints}
 
 -- ---- no bytes of a line change nothing
@@ -39,7 +39,7 @@ fit-chunk m f =
     by_phase (chunk m [] ≡ m) m.session.intake.phase
     (λ e. chunk-text m [] e ∙ ap (λ (p : Place). keeping m m.text (with_place m.session.intake p)) (same_place m.session.intake.place f.size))
     (chunk-beats m [])
-    (over-chunk m [])
+    (chunk-else m [])
 
 pub nothing-fed : (m : Machine) → Lives m.session → fed_lines m (text_lines []) ≡ standing m
 unfolding split fed_lines

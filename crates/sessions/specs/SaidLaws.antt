@@ -10,7 +10,7 @@ use Rattle.text.specs.Lines.{without_return}
 use Rattle.text.specs.Word.{same_bytes}
 use Rattle.transcript.specs.declared.beat_line.HalfLine.{HalfLine}
 use Rattle.transcript.specs.declared.beat_line.Stage.{Stage}
-use Rattle.transcript.specs.declared.beat_line.Stage.TheVariants.{Empty, Open, Endable, Ill, Return, PRead, PeRead, PeReturn, RRead, RsRead, RsReturn}
+use Rattle.transcript.specs.declared.beat_line.Stage.TheVariants.{Empty, Open, Endable, Ill, Return, PRead, PeRead, PeReturn, RRead, RsRead, RsReturn, Unknown}
 use Rattle.transcript.specs.declared.beat_line.Said.TheVariants.{ProgramEnd, ControlReset}
 use Rattle.transcript.specs.BeatLine.{is_hex, hex_digit, says_beat, line_lent, line_said}
 use Rattle.transcript.specs.HalfLine.{no_half_line, is_empty, is_endable, is_past, ill_formed, with_stage, closed, space_after, letter_stage, followed, call_stage, mode_byte, minus_byte, digit_byte, number_byte, is_reading, reading_stage, digits_so_far, hex_byte, reading_byte, field_byte, read_byte, read_on, is_untouched, without_cr, read_lent, read_said}
@@ -32,12 +32,13 @@ is_calm PeRead = false
 is_calm RsRead = false
 is_calm _ = true
 
--- nothing may follow: the line is ill-formed, or a CR stands behind it
+-- nothing may follow: the line is ill-formed, a CR stands behind it, or its stage is none of a line's
 abbrev is_dead : Stage → Bool
 is_dead Ill = true
 is_dead Return = true
 is_dead PeReturn = true
 is_dead RsReturn = true
+is_dead (Unknown k) = true
 is_dead _ = false
 
 -- no CR stands behind the line
@@ -94,6 +95,7 @@ dead-calm Ill h = refl
 dead-calm Return h = refl
 dead-calm PeReturn h = refl
 dead-calm RsReturn h = refl
+dead-calm (Unknown k) h = refl
 dead-calm _ h = clash (cc)
 
 calm-unsaid : (s : Stage) → Calm s → Unsaid s

@@ -47,7 +47,7 @@ bytes_taken x l =
     elim x.phase [
       | Text ↦ with_place x (place_on x.place l)
       | Beats ↦ with_half_line x (read_on x.half l)
-      | Over ↦ x
+      | _ ↦ x
     ]
 
 -- the kept text t with them
@@ -85,7 +85,7 @@ line_over x =
     elim x.phase [
       | Text ↦ text_line_over x
       | Beats ↦ line_read x (without_cr x.half)
-      | Over ↦ nothing_came x
+      | _ ↦ nothing_came x
     ]
 
 unfoldable pub line_kept : Intake → List ℕ → List ℕ
@@ -97,5 +97,5 @@ input_over x =
     elim x.phase [
       | Text ↦ text_whole x (last_size x.place)
       | Beats ↦ elim (is_untouched x.half) [ true ↦ nothing_came x | false ↦ line_read x x.half ]
-      | Over ↦ nothing_came x
+      | _ ↦ nothing_came x
     ]

@@ -1,4 +1,4 @@
--- An intake that could have come from a beginning stays such a one, and tells no more text than is kept; what an intake comes to in each phase, and that one which is over takes nothing in. Assumes nothing.
+-- An intake that could have come from a beginning stays such a one, and tells no more text than is kept; what an intake comes to in each phase, and that one in any other phase takes nothing in, one that is over among them. Assumes nothing.
 use Rattle.std.specs.Prelude.{◌≡◌, refl, true, false, ◌&&◌, ◌||◌, List, [], ◌∷◌, ℕ, ◌≤◌, eqb, leb, ltb, set}
 use Rattle.std.proofs.Common.{arith}
 use borrow.Author.Tests.{leb-true, le-leb, ltb-true}
@@ -103,10 +103,10 @@ pub bytes_fit : (x : Intake) (l : List ℕ) → FitIntake x → FitIntake (bytes
 unfolding bytes_taken
 bytes_fit x l f =
     let p = place-fit x.place l f.size f.start in
-    elim x.phase as (λ q. FitIntake (elim q [ Text ↦ with_place x (place_on x.place l) | Beats ↦ with_half_line x (read_on x.half l) | Over ↦ x ])) [
+    elim x.phase as (λ q. FitIntake (elim q [ Text ↦ with_place x (place_on x.place l) | Beats ↦ with_half_line x (read_on x.half l) | _ ↦ x ])) [
       | Text ↦ record { size = p.0; start = p.1; field = f.field }
       | Beats ↦ record { size = f.size; start = f.start; field = read-narrow x.half l f.field }
-      | Over ↦ f
+      | _ ↦ f
     ]
 
 abbrev ArrivedFit : Arrived → Type 0
@@ -128,10 +128,10 @@ text-line-fit x f =
 pub line-fit : (x : Intake) → FitIntake x → FitIntake (line_over x).intake × (size_in (line_over x).arrival ≤ kept_size)
 unfolding line_over
 line-fit x f =
-    elim x.phase as (λ q. ArrivedFit (elim q [ Text ↦ text_line_over x | Beats ↦ line_read x (without_cr x.half) | Over ↦ nothing_came x ])) [
+    elim x.phase as (λ q. ArrivedFit (elim q [ Text ↦ text_line_over x | Beats ↦ line_read x (without_cr x.half) | _ ↦ nothing_came x ])) [
       | Text ↦ text-line-fit x f
       | Beats ↦ (new_line x.phase f, omega arith)
-      | Over ↦ (f, omega arith)
+      | _ ↦ (f, omega arith)
     ]
 
 last_within : (x : Intake) → FitIntake x → last_size x.place ≤ kept_size
@@ -144,13 +144,23 @@ pub input_fit : (x : Intake) → FitIntake x → FitIntake (input_over x).intake
 unfolding input_over
 input_fit x f =
     let untouched : Arrived = elim (is_untouched x.half) [ true ↦ nothing_came x | false ↦ line_read x x.half ] in
-    elim x.phase as (λ q. ArrivedFit (elim q [ Text ↦ text_whole x (last_size x.place) | Beats ↦ untouched | Over ↦ nothing_came x ])) [
+    elim x.phase as (λ q. ArrivedFit (elim q [ Text ↦ text_whole x (last_size x.place) | Beats ↦ untouched | _ ↦ nothing_came x ])) [
       | Text ↦ (new_line Beats f, last_within x f)
       | Beats ↦ either ArrivedFit (is_untouched x.half) (λ u. (f, omega arith)) (λ u. (new_line x.phase f, omega arith))
-      | Over ↦ (f, omega arith)
+      | _ ↦ (f, omega arith)
     ]
 
 -- ---- by the phase
+
+-- where it is not set text, and where it is neither
+no_text : {A : Type 0} (a b : A) (p : Phase) → (p ≡ Text → ⊥) → elim p [ Text ↦ a | _ ↦ b ] ≡ b
+no_text a b Text h = absurd (h refl)
+no_text a b _ h = refl
+
+neither : {A : Type 0} (a b c : A) (p : Phase) → (p ≡ Text → ⊥) → (p ≡ Beats → ⊥) → elim p [ Text ↦ a | Beats ↦ b | _ ↦ c ] ≡ c
+neither a b c Text h g = absurd (h refl)
+neither a b c Beats h g = absurd (g refl)
+neither a b c _ h g = refl
 
 module _ (x : Intake) where
   module _ (h : x.phase ≡ Text) where
@@ -194,6 +204,29 @@ module _ (x : Intake) where
     pub beats-input : is_untouched x.half ≡ false → input_over x ≡ line_read x x.half
     unfolding input_over
     beats-input u = simp (input_over, h) (simp (u, h))
+
+  -- in any other nothing is taken in
+  module _ (h : x.phase ≡ Text → ⊥) where
+    pub else-bytes-kept : (t l : List ℕ) → bytes_kept x t l ≡ t
+    unfolding bytes_kept
+    else-bytes-kept t l = no_text (put_at t x.place.size l) t x.phase h
+
+    pub else-line-kept : (t : List ℕ) → line_kept x t ≡ t
+    unfolding line_kept
+    else-line-kept t = no_text (text_line_kept x t) t x.phase h
+
+    module _ (g : x.phase ≡ Beats → ⊥) where
+      pub else-bytes : (l : List ℕ) → bytes_taken x l ≡ x
+      unfolding bytes_taken
+      else-bytes l = neither (with_place x (place_on x.place l)) (with_half_line x (read_on x.half l)) x x.phase h g
+
+      pub else-line : line_over x ≡ nothing_came x
+      unfolding line_over
+      else-line = neither (text_line_over x) (line_read x (without_cr x.half)) (nothing_came x) x.phase h g
+
+      pub else-input : input_over x ≡ nothing_came x
+      unfolding input_over
+      else-input = neither (text_whole x (last_size x.place)) (elim (is_untouched x.half) [ true ↦ nothing_came x | false ↦ line_read x x.half ]) (nothing_came x) x.phase h g
 
   -- a line of set text, by whether it is *
   module _ (h : star_ends x.place.star ≡ true) where

@@ -32,6 +32,7 @@ const SHORT_VALUE: u64 = 8589934592;
 
 // What is read of a field: nothing, something behind which it may not end, what may end it.
 // No field is under way where the line is ill-formed, where a CR stands behind it, and in PE and RS: the first letter, both, and a CR behind these.
+// `Unknown` is any number but theirs, as a session that is made up may have it: no field is under way, and the next byte makes the line ill-formed. No answer hangs on the number.
 #[derive(Clone, Copy, PartialEq, Eq)]
 pub enum Stage {
     Empty,
@@ -45,6 +46,7 @@ pub enum Stage {
     RRead,
     RsRead,
     RsReturn,
+    Unknown(u8),
 }
 
 // A line so far. A break and a short are values as well (`reading_by`), so that a byte of a field changes one number, whichever field it is. `value` has the digits of the field under way.
@@ -318,8 +320,9 @@ impl HalfLine {
         x
     }
 
-    // The field under way is over, if it may end there.
+    // The field under way is over, if it may end there. Put into its callers: a call would copy the line so far.
     #[tactic(auto, unfolding(crate::specs::HalfLine::closed))]
+    #[inline]
     fn close(self) -> HalfLine
         ensures { result ≡ closed self }
     {

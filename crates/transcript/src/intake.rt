@@ -12,11 +12,13 @@ use text::buffer::{put, put_bytes};
 use text::bytes::LF;
 
 // What is taken in: set text, the lines behind the line *, no more.
+// `Unknown` is any number but theirs, as a session that is made up may have it: nothing is taken in, and it is not over. No answer hangs on the number.
 #[derive(Clone, Copy, PartialEq, Eq)]
 pub enum Phase {
     Text,
     Beats,
     Over,
+    Unknown(u8),
 }
 
 // What is kept of the input beside the bytes of the set text.
@@ -106,7 +108,7 @@ impl Intake {
                 half: self.half.read_bytes(part),
                 ..self
             },
-            Phase::Over => self,
+            Phase::Over | Phase::Unknown(_) => self,
         }
     }
 
@@ -176,7 +178,7 @@ impl Intake {
         match self.phase {
             Phase::Text => self.end_text_line(text),
             Phase::Beats => self.line_read(self.half.without_cr()),
-            Phase::Over => self.nothing_came(),
+            Phase::Over | Phase::Unknown(_) => self.nothing_came(),
         }
     }
 

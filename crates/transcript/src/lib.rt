@@ -13,7 +13,9 @@ mod tally;
 mod totals;
 mod view;
 
+pub use beat_line::Stage;
+pub use intake::Phase;
 pub use printing::{OUT, put_refusal};
 pub use session::{Session, Stepped, begin, finish, is_over, step};
-pub use set_text::{KEPT, set_text_size};
+pub use set_text::{KEPT, Star, set_text_size};
 pub use view::View;

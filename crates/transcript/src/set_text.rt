@@ -10,12 +10,14 @@ use tokens::token::TEXT_SIZE;
 pub const KEPT: usize = TEXT_SIZE + 1;
 
 // What a line is so far: nothing, `*`, `*` and CR, anything else.
+// `Unknown` is any number but theirs, as a session that is made up may have it: the line is anything else. No answer hangs on the number.
 #[derive(Clone, Copy, PartialEq, Eq)]
 pub enum Star {
     Empty,
     Alone,
     Return,
     Other,
+    Unknown(u8),
 }
 
 // Where the set text stands: how many bytes of it are kept, where its last line begins, and what that line is so far.
