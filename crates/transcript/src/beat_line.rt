@@ -248,7 +248,7 @@ impl Stage {
 
 impl HalfLine {
     // Before the first byte.
-    pub fn new() -> HalfLine
+    pub(crate) fn new() -> HalfLine
         ensures { result ≡ no_half_line }
     {
         HalfLine {
@@ -557,7 +557,7 @@ impl HalfLine {
 
     // Bytes of the line, none of them an LF: behind each that is read by itself the digits that follow it at once.
     #[tactic(auto, unfolding(crate::specs::HalfLine::read_on))]
-    pub fn read_bytes(self, part: &[u8]) -> HalfLine
+    pub(crate) fn read_bytes(self, part: &[u8]) -> HalfLine
         ensures { result ≡ read_on self part.now }
     {
         let mut x = self;
@@ -575,7 +575,7 @@ impl HalfLine {
 
     // Whether no byte was read.
     #[tactic(auto, unfolding(crate::specs::HalfLine::is_untouched))]
-    pub fn is_untouched(self) -> bool
+    pub(crate) fn is_untouched(self) -> bool
         ensures { result ≡ is_untouched self }
     {
         self.field == 0 && self.stage == Stage::Empty
@@ -583,7 +583,7 @@ impl HalfLine {
 
     // At the line's LF a CR before it is dropped.
     #[tactic(auto, unfolding(crate::specs::HalfLine::without_cr))]
-    pub fn without_cr(self) -> HalfLine
+    pub(crate) fn without_cr(self) -> HalfLine
         ensures { result ≡ without_cr self }
     {
         match self.stage {
@@ -613,7 +613,7 @@ impl HalfLine {
 
     // What the line says, if it is well-formed.
     #[tactic(auto, unfolding(crate::specs::HalfLine::read_said))]
-    pub fn read_said(self) -> Option<Said>
+    pub(crate) fn read_said(self) -> Option<Said>
         ensures { result ≡ read_said self }
     {
         match self.stage {

@@ -70,7 +70,7 @@ impl Workplace {
         self.known = is_sound_over(&self.lines, &self.held);
     }
 
-    pub fn totals(&self) -> Totals
+    pub(crate) fn totals(&self) -> Totals
         ensures { result ≡ totals_at self.now }
     {
         Totals {
@@ -80,7 +80,7 @@ impl Workplace {
     }
 
     // The session that is worked.
-    pub fn session(&self) -> Session
+    pub(crate) fn session(&self) -> Session
         ensures { result ≡ session_at self.now }
     {
         Session {

@@ -46,7 +46,7 @@ pub struct Arrived {
 
 impl Intake {
     // Before the first byte of input.
-    pub fn new() -> Intake
+    pub(crate) fn new() -> Intake
         ensures { result ≡ no_intake }
     {
         Intake {
@@ -57,7 +57,7 @@ impl Intake {
     }
 
     // No more is taken in.
-    pub fn stop(self) -> Intake
+    pub(crate) fn stop(self) -> Intake
         ensures { result ≡ with_phase self Over }
     {
         Intake {
@@ -66,14 +66,14 @@ impl Intake {
         }
     }
 
-    pub fn is_over(self) -> bool
+    pub(crate) fn is_over(self) -> bool
         ensures { result ≡ is_over self }
     {
         self.phase == Phase::Over
     }
 
     // Whether the lines behind the line * are awaited.
-    pub fn in_beats(self) -> bool
+    pub(crate) fn in_beats(self) -> bool
         ensures { result ≡ in_beats self }
     {
         self.phase == Phase::Beats
@@ -81,7 +81,7 @@ impl Intake {
 
     // Whether an intake could have come from a beginning.
     #[tactic(auto, unfolding(crate::specs::Intake::intake_fits))]
-    pub fn fits(self) -> bool
+    pub(crate) fn fits(self) -> bool
         ensures { result ≡ intake_fits self }
     {
         self.place.size <= KEPT
@@ -184,7 +184,7 @@ impl Intake {
 
     // The end of input: a last line has no LF.
     #[tactic(auto, unfolding(crate::specs::Intake::input_over))]
-    pub fn end_input(self) -> Arrived
+    pub(crate) fn end_input(self) -> Arrived
         ensures { result ≡ input_over self }
     {
         match self.phase {

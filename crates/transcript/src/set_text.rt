@@ -60,7 +60,7 @@ impl Star {
     }
 
     // Whether a line is *, with or without a CR behind it.
-    pub fn ends(self) -> bool
+    pub(crate) fn ends(self) -> bool
         ensures { result ≡ star_ends self }
     {
         matches!(self, Star::Alone | Star::Return)
@@ -77,7 +77,7 @@ fn size_with(size: usize, n: usize) -> usize
 
 impl Place {
     // Before the first byte.
-    pub fn new() -> Place
+    pub(crate) fn new() -> Place
         ensures { result ≡ no_place }
     {
         Place {
@@ -115,7 +115,7 @@ impl Place {
     }
 
     // Where the set text ends if its last line has no LF: before the line *, or behind all of it.
-    pub fn text_size(self) -> usize
+    pub(crate) fn text_size(self) -> usize
         ensures { result ≡ last_size self }
     {
         if self.star.is_alone() {

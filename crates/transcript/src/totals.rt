@@ -53,7 +53,7 @@ pub fn no_totals(view: View) -> Totals
 impl Counts {
     // Whether a session may have these counts with a line still to come.
     #[tactic(auto, unfolding(crate::specs::Totals::are_fit))]
-    pub fn are_fit(&self) -> bool
+    pub(crate) fn are_fit(&self) -> bool
         ensures { result ≡ are_fit self.now }
     {
         let beats = self.beats.0;
