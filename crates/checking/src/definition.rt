@@ -67,7 +67,8 @@ fn parameter(set: &[u32; SIZE], at: usize) -> i32
     }
 }
 
-// The number at a place and the sign behind it; `fault` is the lowest fault before it.
+// The number at a place and the sign behind it; `fault` is the lowest fault before it. Inlined, as the two below: each SYNFCT of a beat reads its curve anew, which took half as long again by calls.
+#[inline(always)]
 fn part_at(set: &[u32; SIZE], fault: u8, sign: u32, at: usize) -> Result<Part, u8>
     ensures { result ≡ part_at set.now fault sign at }
 {
@@ -82,6 +83,7 @@ fn part_at(set: &[u32; SIZE], fault: u8, sign: u32, at: usize) -> Result<Part, u
 }
 
 // The parameter behind what was read, and the sign behind it.
+#[inline(always)]
 fn part_behind(set: &[u32; SIZE], before: Part, sign: u32) -> Result<Part, u8>
     ensures { result ≡ part_behind set.now before sign }
 {
@@ -89,6 +91,7 @@ fn part_behind(set: &[u32; SIZE], before: Part, sign: u32) -> Result<Part, u8>
 }
 
 // The curve whose parameters stand at these places. Seven parameters, each read once in its order: a struct of places around them would be no plainer.
+#[inline(always)]
 fn curve_from(
     set: &[u32; SIZE],
     lower: usize,

@@ -52,11 +52,7 @@ fn is_opening(t: u32) -> bool
 fn is_one_sign(t: u32, u: u32) -> bool
     ensures { result ≡ is_one_sign t u }
 {
-    match u {
-        EQUALS | SAME => is_opening(t),
-        MORE | ATLEAST => t == LESS,
-        _ => false,
-    }
+    is_opening(t) && matches!(u, EQUALS | SAME) || t == LESS && matches!(u, MORE | ATLEAST)
 }
 
 // Whether two tokens would not read as they stand without a space.

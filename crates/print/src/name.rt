@@ -4,7 +4,7 @@ ghost use Rattle.values.specs.PutAt.{put_at};
 ghost use Rattle.print.specs.TokenText.{name_text};
 ghost use Rattle.print.specs.NameRows.{solid_size, row_in, longest_name};
 
-use text::buffer::put_bytes;
+use text::buffer::put;
 use text::bytes::SPACE;
 use tokens::token::{ID, IN, POS, W};
 
@@ -22,9 +22,16 @@ fn put_row(out: &mut [u8], at: usize, table: &[u8], width: usize, start: usize) 
     ensures out_after { out.new ≡ put_at out.old at (row_in table.now width start) }
 {
     let row = &table[start..start + width];
-    let size = solid_size(row);
-    put_bytes(out, at, &row[..size]);
-    size
+    let name = &row[..solid_size(row)];
+    // A print is counted with no room at all.
+    if out.len() <= at {
+        return name.len();
+    }
+    // Byte by byte: a block copy of so short a name takes longer.
+    for (i, b) in name.iter().enumerate() {
+        put(out, at + i, *b);
+    }
+    name.len()
 }
 
 // The name of a token, from tables by rising token; a token without a name is written as nothing.
