@@ -1,5 +1,5 @@
 -- Laws of one line after the other: what a draft says of a line that is added, and of those behind it.
-use mathlib.Core.Path.{◌≡◌, refl, sym, ap, ◌∙◌}
+use mathlib.Core.Path.{◌≡◌, refl, sym, ap, subst, ◌∙◌}
 use mathlib.Core.Bool.{Bool, true, false, false≢true}
 use mathlib.Core.List.{List, [], ◌∷◌}
 use Prim.Native.Nat.{ℕ, zero, suc, ◌+◌, ◌-◌, ◌<◌, ◌≤◌}
@@ -23,8 +23,8 @@ use Rattle.text.specs.Lines.{Numbered, is_blank, numbered}
 use Rattle.reader.specs.declared.draft.Draft.{Draft}
 use Rattle.reader.specs.declared.draft.Refused.{Refused}
 use Rattle.reader.specs.Row.{Kept, curves_there, numbers_of}
-use Rattle.reader.specs.Load.{fault_of, number_in, are_known, curve_fault_of, curve_number_in, curve_below, curve_table, line_below, defines, tokens_fault, fault_below, taken, row_of, kept_with, rows_from}
-use Rattle.reader.specs.Draft.{alone, no_draft_line, no_draft, CurveBefore, at_line, grown_by, grown_by_curve, rows_at, curves_at, kept_in, tokens_to, unless_fault, curve_added, line_added, lengths, tokens_kept, Held, Says}
+use Rattle.reader.specs.Load.{Outcome, fault_of, number_in, are_known, curve_fault_of, curve_number_in, curve_below, curve_table, line_below, defines, tokens_fault, fault_below, taken, row_of, kept_with, rows_from}
+use Rattle.reader.specs.Draft.{alone, no_draft_line, no_draft, CurveBefore, added_to, at_line, grown_by, grown_by_curve, rows_at, curves_at, kept_in, tokens_to, unless_fault, curve_added, line_added, lengths, tokens_kept, Held, Says}
 use Rattle.reader.specs.CheckedLaws.{check-fault, check-refused, check-number, check-names, curve-number, check-curve-fault, check-curve-refused, check-curve-number}
 use Rattle.reader.specs.KeptLaws.{by_kind}
 use Rattle.reader.proofs.TokenLineLaws.{line-blank, line-full}
@@ -179,6 +179,15 @@ module _ (s : List ℕ) (d : Draft) (h : Held s d) (l : Numbered) (end : ℕ) (b
         grown-held s d h l.place (number_in list) end few begin fits,
       )))
       (e ∙ rw same)
+
+-- what is said of a line that was added in place
+pub line-refused : (o : Outcome) (s : List ℕ) (k : ℕ) (d : Draft) (x : Result (Unit {0}) ℕ) (r : Refused) → Err r ≡ at_line k x → Says o s (at_line k (added_to d x)) → Says o s (Err r)
+line-refused o s k d (Ok u) r e y = absurd (cc)
+line-refused o s k d (Err c) r e y = let q : record { code = c; line = k } ≡ r = cc in subst (λ (z : Refused). Says o s (Err z)) q y
+
+pub line-taken : (o : Outcome) (s : List ℕ) (k : ℕ) (d : Draft) (x : Result (Unit {0}) ℕ) (u : Unit {0}) → Ok u ≡ at_line k x → Says o s (at_line k (added_to d x)) → Says o s (Ok d)
+line-taken o s k d (Ok v) u e y = y
+line-taken o s k d (Err c) u e y = absurd (cc)
 
 -- the draft without lines
 pub none-held : Held empty_set no_draft

@@ -7,7 +7,7 @@ ghost use Rattle.engine.specs.Set.{asked_table, names_known, empty_set};
 ghost use Rattle.reader.specs.declared.draft.DraftLine.{DraftLine};
 ghost use Rattle.reader.specs.declared.draft.Span.{Span};
 ghost use Rattle.reader.specs.Load.{rows_from};
-ghost use Rattle.reader.specs.Draft.{alone, no_draft, grown_by, grown_by_curve, kept_in, curve_added, line_added, at_line, Held, Follows, Says};
+ghost use Rattle.reader.specs.Draft.{alone, no_draft, grown_by, grown_by_curve, kept_in, added_to, curve_added, line_added, at_line, Held, Follows, Says};
 
 use crate::alone::{curve_alone, line_alone, names_alone};
 use crate::line_tokens::write_tokens;
@@ -77,7 +77,12 @@ pub fn no_draft() -> Draft
 pub fn numbers_in(lines: &[DraftLine; LINES]) -> [u8; LINES]
     ensures { result ≡ map (λ (l : DraftLine). l.number) lines.now }
 {
-    lines.map(|l| l.number)
+    let mut numbers = [0; LINES];
+    // Not by `map`, which would copy the lines into an iterator of its own, once a line of the text.
+    for k in 0..LINES {
+        numbers[k] = lines[k].number;
+    }
+    numbers
 }
 
 // Which curves are there.
@@ -88,13 +93,11 @@ pub fn curves_there(curves: &[Option<Span>; CURVES]) -> [bool; CURVES]
 }
 
 // The line k of the text, with the number n, stands behind the others and ends before the place `end`.
-fn grown_by(d: Draft, k: u32, n: u8, end: usize) -> Draft
-    requires { d.count < max_lines }
-    ensures { result ≡ grown_by d k n end }
+fn grow_by(d: &mut Draft, k: u32, n: u8, end: usize)
+    requires { d.old.count < max_lines }
+    ensures { d.new ≡ grown_by d.old k n end }
 {
-    let curves = d.curves;
-    let mut lines = d.lines;
-    lines[d.count] = DraftLine {
+    d.lines[d.count] = DraftLine {
         number: n,
         place: k,
         tokens: Span {
@@ -102,31 +105,20 @@ fn grown_by(d: Draft, k: u32, n: u8, end: usize) -> Draft
             end: end,
         },
     };
-    Draft {
-        count: d.count + 1,
-        at: end,
-        lines: lines,
-        curves: curves,
-    }
+    d.count += 1;
+    d.at = end;
 }
 
 // The line that defines curve n stands behind the others and ends before the place `end`.
-fn grown_by_curve(d: Draft, n: u32, end: usize) -> Draft
+fn grow_by_curve(d: &mut Draft, n: u32, end: usize)
     requires { (1 ≤ n) × (n ≤ max_curves) }
-    ensures { result ≡ grown_by_curve d n end }
+    ensures { d.new ≡ grown_by_curve d.old n end }
 {
-    let lines = d.lines;
-    let mut curves = d.curves;
-    curves[(n - 1) as usize] = Some(Span {
+    d.curves[(n - 1) as usize] = Some(Span {
         start: d.at,
         end: end,
     });
-    Draft {
-        count: d.count,
-        at: end,
-        lines: lines,
-        curves: curves,
-    }
+    d.at = end;
 }
 
 // Whether a line defines a curve, where `count` numbered lines stand above it.
@@ -137,15 +129,16 @@ fn defines(count: usize, tokens: &[u32]) -> bool
 }
 
 // The next line of the text, whose tokens are the last in s, up to the place `end`, defines a curve or refuses the text.
-fn add_curve(s: &[u32; SIZE], row: &mut [u32; SIZE], d: Draft, end: usize) -> Result<Draft, u8>
-    requires { Held s.now d × Follows s.now d end × (row.old ≡ empty_set) }
-    ensures { (result ≡ curve_added s.now d end) × (row.new ≡ empty_set) }
+fn add_curve(s: &[u32; SIZE], row: &mut [u32; SIZE], d: &mut Draft, end: usize) -> Result<(), u8>
+    requires { Held s.now d.old × Follows s.now d.old end × (row.old ≡ empty_set) }
+    ensures { (added_to d.new result ≡ curve_added s.now d.old end) × (row.new ≡ empty_set) }
 {
     let f = curve_alone(row, &s[d.at..end])?;
     if is_defined(&curves_there(&d.curves), f.number) {
         return Err(WRONG_CURVE);
     }
-    Ok(grown_by_curve(d, f.number, end))
+    grow_by_curve(d, f.number, end);
+    Ok(())
 }
 
 // Whether each curve that a line names is there, where it is noted whether the line names anything: a line that names nothing is not looked through.
@@ -169,12 +162,12 @@ fn curves_known(
 fn add_numbered(
     s: &[u32; SIZE],
     row: &mut [u32; SIZE],
-    d: Draft,
+    d: &mut Draft,
     k: u32,
     end: usize,
-) -> Result<Draft, u8>
-    requires { Held s.now d × Follows s.now d end × (row.old ≡ empty_set) × (d.count < max_lines) }
-    ensures { (result ≡ line_added s.now d k end) × (row.new ≡ empty_set) }
+) -> Result<(), u8>
+    requires { Held s.now d.old × Follows s.now d.old end × (row.old ≡ empty_set) × (d.old.count < max_lines) }
+    ensures { (added_to d.new result ≡ line_added s.now d.old k end) × (row.new ≡ empty_set) }
 {
     let tokens = &s[d.at..end];
     let l = line_alone(row, tokens)?;
@@ -186,19 +179,20 @@ fn add_numbered(
     if !curves_known(row, &numbers, &curves, l.names, tokens) {
         return Err(WRONG_CURVE);
     }
-    Ok(grown_by(d, k, l.number, end))
+    grow_by(d, k, l.number, end);
+    Ok(())
 }
 
-// The line k of the text is added, or refuses the text.
+// The line k of the text is added, or refuses the text: then the draft is of no use.
 pub fn add_line(
     body: &[u8],
     s: &mut [u32; SIZE],
     row: &mut [u32; SIZE],
-    d: Draft,
+    d: &mut Draft,
     k: u32,
-) -> Result<Draft, u8>
-    requires { Held s.old d × (row.old ≡ empty_set) × (d.count < max_lines) × (d.at + length body.now ≤ set_size) }
-    ensures { Says (rows_from (kept_in s.old d) (record { place = k; body = body.now } ∷ [])) s.new (at_line k result) × (row.new ≡ empty_set) }
+) -> Result<(), u8>
+    requires { Held s.old d.old × (row.old ≡ empty_set) × (d.old.count < max_lines) × (d.old.at + length body.now ≤ set_size) }
+    ensures { Says (rows_from (kept_in s.old d.old) (record { place = k; body = body.now } ∷ [])) s.new (at_line k (added_to d.new result)) × (row.new ≡ empty_set) }
 {
     let at = d.at;
     let Some(count) = write_tokens(body, s, at) else {

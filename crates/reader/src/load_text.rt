@@ -5,7 +5,7 @@ ghost use Rattle.reader.specs.Load.{answered, load_answer, load_set};
 ghost use Rattle.reader.specs.Draft.{answer_of};
 
 use crate::by_number::{first_unknown, put_rows};
-use crate::draft::Refused;
+use crate::draft::{Refused, no_draft};
 use crate::line_count::count_lines;
 use crate::lines::read_lines;
 use engine::{State, empty_set, power_on};
@@ -60,14 +60,15 @@ fn take_text(text: &[u8], set: &mut [u32; SIZE]) -> Result<(), Refused>
         });
     }
     let mut s = empty_set();
-    let d = read_lines(text, &mut s, set)?;
-    let k = first_unknown(&s, set, d);
+    let mut d = no_draft();
+    read_lines(text, &mut s, set, &mut d)?;
+    let k = first_unknown(&s, set, &d);
     if k != 0 {
         return Err(Refused {
             code: NOT_IN_SET,
             line: k,
         });
     }
-    put_rows(&s, d, set);
+    put_rows(&s, &d, set);
     Ok(())
 }

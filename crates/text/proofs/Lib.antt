@@ -1,2 +1,3 @@
 -- Laws that only proofs of functions use.
 mod PutPartLaws
+mod WordReadLaws

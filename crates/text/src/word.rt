@@ -1,6 +1,6 @@
-// The token of a word. A test for each name: the proof of one `match` on the bytes of all names did not close.
+// The token of a word: a `match` for each part of the table of words, of which the compiler makes a decision by length and bytes.
 ghost use Rattle.std.specs.Prelude.{◌≡◌};
-ghost use Rattle.text.specs.Word.{keywords, variables, actions, axes, same_bytes, token_in, word_token, some_token};
+ghost use Rattle.text.specs.Word.{keywords, variables, actions, axes, token_in, word_token, some_token};
 
 use tokens::token::{
     AND, DO, EVERY, FA, FALSE, FCTDEF, FIFO1, FIFO4, FROM, ID, IDS, IM, IN, INA, LOCK, M, MARKER,
@@ -8,46 +8,26 @@ use tokens::token::{
     XOR,
 };
 
-fn is(word: &[u8], name: &[u8]) -> bool
-    ensures { result ≡ same_bytes word.now name.now }
-{
-    word == name
-}
-
 // A keyword.
 fn keyword(word: &[u8]) -> Option<u32>
     ensures { result ≡ some_token (token_in keywords word.now) }
 {
-    if is(word, b"ID") {
-        Some(ID)
-    } else if is(word, b"IDS") {
-        Some(IDS)
-    } else if is(word, b"WHEN") {
-        Some(WHEN)
-    } else if is(word, b"WHENEVER") {
-        Some(WHENEVER)
-    } else if is(word, b"FROM") {
-        Some(FROM)
-    } else if is(word, b"EVERY") {
-        Some(EVERY)
-    } else if is(word, b"DO") {
-        Some(DO)
-    } else if is(word, b"TRUE") {
-        Some(TRUE)
-    } else if is(word, b"FALSE") {
-        Some(FALSE)
-    } else if is(word, b"NOT") {
-        Some(NOT)
-    } else if is(word, b"AND") {
-        Some(AND)
-    } else if is(word, b"OR") {
-        Some(OR)
-    } else if is(word, b"XOR") {
-        Some(XOR)
-    } else if is(word, b"FCTDEF") {
-        Some(FCTDEF)
-    } else {
-        None
+    match word {
+        b"ID" => Some(ID),
+        b"IDS" => Some(IDS),
+        b"WHEN" => Some(WHEN),
+        b"WHENEVER" => Some(WHENEVER),
+        b"FROM" => Some(FROM),
+        b"EVERY" => Some(EVERY),
+        b"DO" => Some(DO),
+        b"TRUE" => Some(TRUE),
+        b"FALSE" => Some(FALSE),
+        b"NOT" => Some(NOT),
+        b"AND" => Some(AND),
+        b"OR" => Some(OR),
+        b"XOR" => Some(XOR),
+        b"FCTDEF" => Some(FCTDEF),
+        _ => None,
     }
 }
 
@@ -55,32 +35,20 @@ fn keyword(word: &[u8]) -> Option<u32>
 fn variable(word: &[u8]) -> Option<u32>
     ensures { result ≡ some_token (token_in variables word.now) }
 {
-    if is(word, b"$A_IN") {
-        Some(IN)
-    } else if is(word, b"$A_INA") {
-        Some(INA)
-    } else if is(word, b"$A_OUT") {
-        Some(OUT)
-    } else if is(word, b"$AC_MARKER") {
-        Some(MARKER)
-    } else if is(word, b"$AC_PARAM") {
-        Some(PARAM)
-    } else if is(word, b"$R") {
-        Some(R)
-    } else if is(word, b"$AC_TIMER") {
-        Some(TIMER)
-    } else if is(word, b"$AC_FIFO1") {
-        Some(FIFO1)
-    } else if is(word, b"$AC_FIFO2") {
-        Some(FIFO1 + 1)
-    } else if is(word, b"$AC_FIFO3") {
-        Some(FIFO1 + 2)
-    } else if is(word, b"$AC_FIFO4") {
-        Some(FIFO4)
-    } else if is(word, b"$AA_IM") {
-        Some(IM)
-    } else {
-        None
+    match word {
+        b"$A_IN" => Some(IN),
+        b"$A_INA" => Some(INA),
+        b"$A_OUT" => Some(OUT),
+        b"$AC_MARKER" => Some(MARKER),
+        b"$AC_PARAM" => Some(PARAM),
+        b"$R" => Some(R),
+        b"$AC_TIMER" => Some(TIMER),
+        b"$AC_FIFO1" => Some(FIFO1),
+        b"$AC_FIFO2" => Some(FIFO1 + 1),
+        b"$AC_FIFO3" => Some(FIFO1 + 2),
+        b"$AC_FIFO4" => Some(FIFO4),
+        b"$AA_IM" => Some(IM),
+        _ => None,
     }
 }
 
@@ -88,24 +56,16 @@ fn variable(word: &[u8]) -> Option<u32>
 fn action(word: &[u8]) -> Option<u32>
     ensures { result ≡ some_token (token_in actions word.now) }
 {
-    if is(word, b"POS") {
-        Some(POS)
-    } else if is(word, b"FA") {
-        Some(FA)
-    } else if is(word, b"MOV") {
-        Some(MOV)
-    } else if is(word, b"M") {
-        Some(M)
-    } else if is(word, b"SETAL") {
-        Some(SETAL)
-    } else if is(word, b"LOCK") {
-        Some(LOCK)
-    } else if is(word, b"UNLOCK") {
-        Some(UNLOCK)
-    } else if is(word, b"SYNFCT") {
-        Some(SYNFCT)
-    } else {
-        None
+    match word {
+        b"POS" => Some(POS),
+        b"FA" => Some(FA),
+        b"MOV" => Some(MOV),
+        b"M" => Some(M),
+        b"SETAL" => Some(SETAL),
+        b"LOCK" => Some(LOCK),
+        b"UNLOCK" => Some(UNLOCK),
+        b"SYNFCT" => Some(SYNFCT),
+        _ => None,
     }
 }
 
@@ -113,20 +73,14 @@ fn action(word: &[u8]) -> Option<u32>
 fn axis(word: &[u8]) -> Option<u32>
     ensures { result ≡ some_token (token_in axes word.now) }
 {
-    if is(word, b"X") {
-        Some(X)
-    } else if is(word, b"Y") {
-        Some(X + 1)
-    } else if is(word, b"Z") {
-        Some(X + 2)
-    } else if is(word, b"U") {
-        Some(X + 3)
-    } else if is(word, b"V") {
-        Some(X + 4)
-    } else if is(word, b"W") {
-        Some(W)
-    } else {
-        None
+    match word {
+        b"X" => Some(X),
+        b"Y" => Some(X + 1),
+        b"Z" => Some(X + 2),
+        b"U" => Some(X + 3),
+        b"V" => Some(X + 4),
+        b"W" => Some(W),
+        _ => None,
     }
 }
 

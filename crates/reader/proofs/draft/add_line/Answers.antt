@@ -9,7 +9,7 @@ use Rattle.text.specs.Lines.{Numbered}
 use Rattle.reader.specs.declared.draft.Draft.{Draft}
 use Rattle.reader.specs.Row.{Kept}
 use Rattle.reader.specs.Load.{defines, rows_from}
-use Rattle.reader.specs.Draft.{written, kept_in, tokens_to, at_line, Held, Follows, Says}
+use Rattle.reader.specs.Draft.{written, kept_in, tokens_to, added_to, at_line, Held, Follows, Says}
 use Rattle.reader.proofs.TokenLaws.{written-none, written-some}
 use Rattle.reader.proofs.DraftLaws.{part-put, rows-length, kept_put, held-put}
 use Rattle.reader.proofs.EachLineLaws.{says-bad, says-curve, says-line}
@@ -63,33 +63,33 @@ module _ (s x : List ℕ) (d : Draft) (l : Numbered) (n : ℕ) (h : Held s d) (z
 pub returns-in_default : goal.returns-in_default
 returns-in_default c =
     let l : Numbered = record { place = c.args.k; body = c.args.body.now } in
-    (says-bad (kept_in c.args.s.now c.args.d) l _ (written-none (tokens_of l.body) (sym c.in_default.is ∙ c.write_tokens.ensures.value)), c.requires.1)
+    (says-bad (kept_in c.args.s.now c.args.d.now) l _ (written-none (tokens_of l.body) (sym c.in_default.is ∙ c.write_tokens.ensures.value)), c.requires.1)
 
 pub overflow_add-end : goal.overflow_add-end
 overflow_add-end c =
     let l : Numbered = record { place = c.args.k; body = c.args.body.now } in
-    let r = room c.args.s.now c.write_tokens.new.s c.args.d l c.in-Some.count c.requires.0 c.requires.3 (sym c.in-Some.is ∙ c.write_tokens.ensures.value) c.write_tokens.ensures.s_after in
+    let r = room c.args.s.now c.write_tokens.new.s c.args.d.now l c.in-Some.count c.requires.0 c.requires.3 (sym c.in-Some.is ∙ c.write_tokens.ensures.value) c.write_tokens.ensures.s_after in
     omega arith
 
 pub slice_bounds-defines-end : goal.slice_bounds-defines-end
 slice_bounds-defines-end c =
     let l : Numbered = record { place = c.args.k; body = c.args.body.now } in
     let e = sym c.in-Some.is ∙ c.write_tokens.ensures.value in
-    let r = room c.args.s.now c.write_tokens.new.s c.args.d l c.in-Some.count c.requires.0 c.requires.3 e c.write_tokens.ensures.s_after in
-    let z = size c.args.s.now c.write_tokens.new.s c.args.d l c.in-Some.count c.requires.0 c.requires.3 e c.write_tokens.ensures.s_after in
+    let r = room c.args.s.now c.write_tokens.new.s c.args.d.now l c.in-Some.count c.requires.0 c.requires.3 e c.write_tokens.ensures.s_after in
+    let z = size c.args.s.now c.write_tokens.new.s c.args.d.now l c.in-Some.count c.requires.0 c.requires.3 e c.write_tokens.ensures.s_after in
     omega arith
 
 pub add_curve-requires : goal.add_curve-requires
 add_curve-requires c =
     let l : Numbered = record { place = c.args.k; body = c.args.body.now } in
     let e = sym c.in-Some.is ∙ c.write_tokens.ensures.value in
-    (held c.args.s.now c.write_tokens.new.s c.args.d l c.in-Some.count c.requires.0 c.requires.3 e c.write_tokens.ensures.s_after, follows c.args.s.now c.write_tokens.new.s c.args.d l c.in-Some.count c.requires.0 c.requires.3 e c.write_tokens.ensures.s_after, c.requires.1)
+    (held c.args.s.now c.write_tokens.new.s c.args.d.now l c.in-Some.count c.requires.0 c.requires.3 e c.write_tokens.ensures.s_after, follows c.args.s.now c.write_tokens.new.s c.args.d.now l c.in-Some.count c.requires.0 c.requires.3 e c.write_tokens.ensures.s_after, c.requires.1)
 
 pub returns-then-defines : goal.returns-then-defines
 returns-then-defines c =
     let s = c.args.s.now in
     let x = c.write_tokens.new.s in
-    let d = c.args.d in
+    let d = c.args.d.now in
     let l : Numbered = record { place = c.args.k; body = c.args.body.now } in
     let n = c.in-Some.count in
     let h = c.requires.0 in
@@ -98,19 +98,19 @@ returns-then-defines c =
     let p = c.write_tokens.ensures.s_after in
     let f = follows s x d l n h z e p in
     let q = defining s x d l n h z e p c.defines.result c.defines.ensures ∙ c.if-defines.true in
-    (subst (λ (k : Kept). Says (rows_from k (l ∷ [])) x (at_line c.args.k c.add_curve.result)) (same s x d l n h z e p) (says-curve x d (held s x d l n h z e p) l (d.at + n) f.0 f.1 (fine s x d l n h z e p) (part s x d l n h z e p) _ q c.add_curve.ensures.0), c.add_curve.ensures.1)
+    (subst (λ (k : Kept). Says (rows_from k (l ∷ [])) x (at_line c.args.k (added_to c.add_curve.new.d c.add_curve.result))) (same s x d l n h z e p) (says-curve x d (held s x d l n h z e p) l (d.at + n) f.0 f.1 (fine s x d l n h z e p) (part s x d l n h z e p) _ q c.add_curve.ensures.0), c.add_curve.ensures.1)
 
 pub add_numbered-requires : goal.add_numbered-requires
 add_numbered-requires c =
     let l : Numbered = record { place = c.args.k; body = c.args.body.now } in
     let e = sym c.in-Some.is ∙ c.write_tokens.ensures.value in
-    (held c.args.s.now c.write_tokens.new.s c.args.d l c.in-Some.count c.requires.0 c.requires.3 e c.write_tokens.ensures.s_after, follows c.args.s.now c.write_tokens.new.s c.args.d l c.in-Some.count c.requires.0 c.requires.3 e c.write_tokens.ensures.s_after, c.requires.1, c.requires.2)
+    (held c.args.s.now c.write_tokens.new.s c.args.d.now l c.in-Some.count c.requires.0 c.requires.3 e c.write_tokens.ensures.s_after, follows c.args.s.now c.write_tokens.new.s c.args.d.now l c.in-Some.count c.requires.0 c.requires.3 e c.write_tokens.ensures.s_after, c.requires.1, c.requires.2)
 
 pub returns : goal.returns
 returns c =
     let s = c.args.s.now in
     let x = c.write_tokens.new.s in
-    let d = c.args.d in
+    let d = c.args.d.now in
     let l : Numbered = record { place = c.args.k; body = c.args.body.now } in
     let n = c.in-Some.count in
     let h = c.requires.0 in
@@ -119,4 +119,4 @@ returns c =
     let p = c.write_tokens.ensures.s_after in
     let f = follows s x d l n h z e p in
     let q = defining s x d l n h z e p c.defines.result c.defines.ensures ∙ c.if-defines.false in
-    (subst (λ (k : Kept). Says (rows_from k (l ∷ [])) x (at_line c.args.k c.add_numbered.result)) (same s x d l n h z e p) (says-line x d (held s x d l n h z e p) l (d.at + n) f.0 f.1 (fine s x d l n h z e p) (part s x d l n h z e p) _ c.requires.2 q c.add_numbered.ensures.0), c.add_numbered.ensures.1)
+    (subst (λ (k : Kept). Says (rows_from k (l ∷ [])) x (at_line c.args.k (added_to c.add_numbered.new.d c.add_numbered.result))) (same s x d l n h z e p) (says-line x d (held s x d l n h z e p) l (d.at + n) f.0 f.1 (fine s x d l n h z e p) (part s x d l n h z e p) _ c.requires.2 q c.add_numbered.ensures.0), c.add_numbered.ensures.1)

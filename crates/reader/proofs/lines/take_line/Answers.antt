@@ -17,7 +17,7 @@ returns-then-is_blank c = rw (line-blank c.args.body.now [] c.args.k (sym c.is_b
 pub add_line-requires : goal.add_line-requires
 add_line-requires c =
     let e = ap length (line-full c.args.body.now [] c.args.k (sym c.is_blank.ensures ∙ c.if-is_blank.false)) in
-    let few : c.args.d.count < max_lines = let p = c.requires.2 in omega arith in
+    let few : c.args.d.now.count < max_lines = let p = c.requires.2 in omega arith in
     (c.requires.0, c.requires.1, few, c.requires.3)
 
 pub returns : goal.returns
