@@ -1,4 +1,4 @@
-//! Public calls: what a library's root passes on asks nothing, and each `ensures` says what the result, or something lent, equals.
+//! Public calls: what another crate can call asks nothing, and each `ensures` says what the result, or something lent, equals.
 
 use crate::functions::{functions, Function};
 use crate::tree::{Crate, Tree};
