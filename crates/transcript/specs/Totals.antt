@@ -1,5 +1,5 @@
 -- The lines behind the line * and the beats of a session, counted, and what is printed at its end (document 01, "On both sides of each edge"; document 02, Req 06 and 07). Definitions only.
-use Rattle.std.specs.Prelude.{Bool, ◌&&◌, List, ℕ, zero, suc, ◌+◌, ◌*◌, leb, ltb, Result, Ok, Err, []}
+use Rattle.std.specs.Prelude.{Bool, cond, ◌&&◌, List, ℕ, zero, suc, ◌+◌, ◌*◌, leb, ltb, Result, Ok, Err, []}
 use Rattle.engine.specs.Order.{max_orders}
 use Rattle.engine.specs.declared.state.State.{State}
 use Rattle.engine.specs.State.{power_on}
@@ -56,3 +56,13 @@ calling n = record { view = n.view; lines = n.lines + 1; beats = n.beats; coded 
 -- counts that a session may have with a line still to come: no more beats than lines
 unfoldable pub are_fit : Counts → Bool
 are_fit n = ltb n.lines last_line && (leb n.beats.0 n.lines && (leb n.coded n.beats.0 && leb n.orders (n.beats.0 * max_orders)))
+
+-- ---- counts that anyone may have made
+
+-- the counts with a line and its beat, where a line is still to come and the beat has no more orders than one may have; else the same
+unfoldable pub counting_any : Counts → ℕ → ℕ → Counts
+counting_any n code orders = cond (are_fit n && leb orders max_orders) (counting n code orders) n
+
+-- the counts with a line that is no beat, where one is still to come; else the same
+unfoldable pub calling_any : Counts → Counts
+calling_any n = cond (are_fit n) (calling n) n

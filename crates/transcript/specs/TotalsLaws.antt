@@ -4,7 +4,7 @@ use Rattle.std.proofs.Common.{arith, leb-true, le-leb, ltb-true, lt-ltb}
 use Rattle.values.specs.Choice.{both, and-true}
 use Rattle.engine.specs.Order.{max_orders}
 use Rattle.transcript.specs.declared.totals.Counts.{Counts}
-use Rattle.transcript.specs.Totals.{last_line, one_if, counting, calling, are_fit}
+use Rattle.transcript.specs.Totals.{last_line, one_if, counting, counting_any, calling, calling_any, are_fit}
 
 -- ---- counts that are fit
 
@@ -57,3 +57,14 @@ calling-fit n f h =
     let l = f.lines in
     let b = f.beats in
     record { lines = omega (arith, h); beats = omega arith; coded = f.coded; orders = f.orders }
+
+-- ---- counts that anyone may have made
+
+-- those with a line still to come are counted
+pub any-counting : (n : Counts) (code orders : ℕ) → FitCounts n → orders ≤ max_orders → counting_any n code orders ≡ counting n code orders
+unfolding counting_any
+any-counting n code orders f o = rw (counts-fit n f, le-leb orders max_orders o)
+
+pub any-calling : (n : Counts) → FitCounts n → calling_any n ≡ calling n
+unfolding calling_any
+any-calling n f = rw (counts-fit n f)

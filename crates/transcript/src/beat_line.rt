@@ -557,7 +557,7 @@ impl HalfLine {
 
     // Bytes of the line, none of them an LF: behind each that is read by itself the digits that follow it at once.
     #[tactic(auto, unfolding(crate::specs::HalfLine::read_on))]
-    pub(crate) fn read_bytes(self, part: &[u8]) -> HalfLine
+    pub fn read_bytes(self, part: &[u8]) -> HalfLine
         ensures { result ≡ read_on self part.now }
     {
         let mut x = self;
@@ -575,7 +575,7 @@ impl HalfLine {
 
     // Whether no byte was read.
     #[tactic(auto, unfolding(crate::specs::HalfLine::is_untouched))]
-    pub(crate) fn is_untouched(self) -> bool
+    pub fn is_untouched(self) -> bool
         ensures { result ≡ is_untouched self }
     {
         self.field == 0 && self.stage == Stage::Empty
@@ -583,7 +583,7 @@ impl HalfLine {
 
     // At the line's LF a CR before it is dropped.
     #[tactic(auto, unfolding(crate::specs::HalfLine::without_cr))]
-    pub(crate) fn without_cr(self) -> HalfLine
+    pub fn without_cr(self) -> HalfLine
         ensures { result ≡ without_cr self }
     {
         match self.stage {
@@ -613,7 +613,7 @@ impl HalfLine {
 
     // What the line says, if it is well-formed.
     #[tactic(auto, unfolding(crate::specs::HalfLine::read_said))]
-    pub(crate) fn read_said(self) -> Option<Said>
+    pub fn read_said(self) -> Option<Said>
         ensures { result ≡ read_said self }
     {
         match self.stage {

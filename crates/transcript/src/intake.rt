@@ -1,10 +1,9 @@
 // The input of a session as it comes in, in parts of lines of any size: set text up to the line *, then the lines behind it. What a line's end brings is told; nothing is worked or printed here.
 //
-// Anyone may make a session, with any intake: `step` tests it, and what is then asked inside (`FitIntake`) is no invariant of a type.
+// Anyone may make a session, with any intake, and call these methods on its parts: they ask nothing. `step` tests what it is handed; that it fits (`FitIntake`) is no invariant of a type.
 ghost use Rattle.std.specs.Prelude.{◌≡◌};
 ghost use Rattle.transcript.specs.Intake.{is_over, in_beats, no_intake, with_phase, intake_fits, bytes_taken, bytes_kept, nothing_came, text_whole, text_line_over, text_line_kept, line_read, line_over, line_kept, input_over};
 ghost use Rattle.transcript.specs.declared.intake.Phase.TheVariants.{Over};
-ghost use Rattle.transcript.specs.IntakeLaws.{FitIntake};
 
 use crate::beat_line::{HalfLine, LAST_FIELD, Said};
 use crate::set_text::{KEPT, Place};
@@ -57,7 +56,7 @@ impl Intake {
     }
 
     // No more is taken in.
-    pub(crate) fn stop(self) -> Intake
+    pub fn stop(self) -> Intake
         ensures { result ≡ with_phase self Over }
     {
         Intake {
@@ -66,14 +65,14 @@ impl Intake {
         }
     }
 
-    pub(crate) fn is_over(self) -> bool
+    pub fn is_over(self) -> bool
         ensures { result ≡ is_over self }
     {
         self.phase == Phase::Over
     }
 
     // Whether the lines behind the line * are awaited.
-    pub(crate) fn in_beats(self) -> bool
+    pub fn in_beats(self) -> bool
         ensures { result ≡ in_beats self }
     {
         self.phase == Phase::Beats
@@ -81,7 +80,7 @@ impl Intake {
 
     // Whether an intake could have come from a beginning.
     #[tactic(auto, unfolding(crate::specs::Intake::intake_fits))]
-    pub(crate) fn fits(self) -> bool
+    pub fn fits(self) -> bool
         ensures { result ≡ intake_fits self }
     {
         self.place.size <= KEPT
@@ -91,8 +90,7 @@ impl Intake {
 
     // Bytes of a line, no LF among them.
     #[tactic(auto, unfolding(crate::specs::Intake::bytes_taken, crate::specs::Intake::bytes_kept))]
-    pub(crate) fn take_in(self, text: &mut [u8; KEPT], part: &[u8]) -> Intake
-        requires { FitIntake self }
+    pub fn take_in(self, text: &mut [u8; KEPT], part: &[u8]) -> Intake
         ensures value { result ≡ bytes_taken self part.now }
         ensures text_after { text.new ≡ bytes_kept self text.old part.now }
     {
@@ -153,7 +151,6 @@ impl Intake {
     // The LF of a line of set text: behind the line * the text before it is whole.
     #[tactic(auto, unfolding(crate::specs::Intake::text_line_over, crate::specs::Intake::text_line_kept))]
     fn end_text_line(self, text: &mut [u8; KEPT]) -> Arrived
-        requires { FitIntake self }
         ensures value { result ≡ text_line_over self }
         ensures text_after { text.new ≡ text_line_kept self text.old }
     {
@@ -170,8 +167,7 @@ impl Intake {
 
     // An LF.
     #[tactic(auto, unfolding(crate::specs::Intake::line_over, crate::specs::Intake::line_kept))]
-    pub(crate) fn end_line(self, text: &mut [u8; KEPT]) -> Arrived
-        requires { FitIntake self }
+    pub fn end_line(self, text: &mut [u8; KEPT]) -> Arrived
         ensures value { result ≡ line_over self }
         ensures text_after { text.new ≡ line_kept self text.old }
     {
@@ -184,7 +180,7 @@ impl Intake {
 
     // The end of input: a last line has no LF.
     #[tactic(auto, unfolding(crate::specs::Intake::input_over))]
-    pub(crate) fn end_input(self) -> Arrived
+    pub fn end_input(self) -> Arrived
         ensures { result ≡ input_over self }
     {
         match self.phase {

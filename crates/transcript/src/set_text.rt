@@ -60,19 +60,18 @@ impl Star {
     }
 
     // Whether a line is *, with or without a CR behind it.
-    pub(crate) fn ends(self) -> bool
+    pub fn ends(self) -> bool
         ensures { result ≡ star_ends self }
     {
         matches!(self, Star::Alone | Star::Return)
     }
 }
 
-// The bytes kept with n more.
+// The bytes kept with n more, of any size.
 fn size_with(size: usize, n: usize) -> usize
-    requires { size ≤ kept_size }
     ensures { result ≡ min kept_size (size + n) }
 {
-    size + n.min(KEPT - size)
+    size.saturating_add(n).min(KEPT)
 }
 
 impl Place {
@@ -89,8 +88,7 @@ impl Place {
 
     // Bytes of a line, no LF among them, in set text.
     #[tactic(auto, unfolding(crate::specs::SetText::place_on))]
-    pub(crate) fn on(self, part: &[u8]) -> Place
-        requires { self.size ≤ kept_size }
+    pub fn on(self, part: &[u8]) -> Place
         ensures { result ≡ place_on self part.now }
     {
         Place {
@@ -102,11 +100,10 @@ impl Place {
 
     // The LF of a line of set text.
     #[tactic(auto, unfolding(crate::specs::SetText::place_end))]
-    pub(crate) fn end(self) -> Place
-        requires { self.size ≤ kept_size }
+    pub fn end(self) -> Place
         ensures { result ≡ place_end self }
     {
-        let size = size_with(self.size, 1);
+        let size = self.size.min(TEXT_SIZE) + 1;
         Place {
             size,
             start: size,
@@ -115,7 +112,7 @@ impl Place {
     }
 
     // Where the set text ends if its last line has no LF: before the line *, or behind all of it.
-    pub(crate) fn text_size(self) -> usize
+    pub fn text_size(self) -> usize
         ensures { result ≡ last_size self }
     {
         if self.star.is_alone() {

@@ -49,7 +49,7 @@ fn tally_beat(w: &mut Workplace, set: &[u32; SIZE], lent: Lent, out: &mut [u8], 
         &mut w.orders,
     );
     let end = put_beat(w.counts.view, w.counts.beats.0 + 1, b, &w.orders, out, at);
-    w.counts.count(b.code, b.orders);
+    w.counts.count_fit(b.code, b.orders);
     end
 }
 
@@ -60,7 +60,7 @@ fn tally_call(w: &mut Workplace, left: State)
     ensures same { SameBeside w.old w.new × (w.new.intake ≡ w.old.intake) }
 {
     w.held = Held::new(left);
-    w.counts.count_call();
+    w.counts.count_call_fit();
 }
 
 // What a line says: nothing is printed of a call.

@@ -3,7 +3,7 @@ ghost use Rattle.std.specs.Prelude.{◌≡◌, ◌+◌, ◌≤◌, ◌<◌};
 ghost use Rattle.engine.specs.Order.{max_orders};
 ghost use Rattle.values.specs.PutAt.{IsPut};
 ghost use Rattle.transcript.specs.Output.{error_line, end_room, out_size};
-ghost use Rattle.transcript.specs.Totals.{no_totals, counting, calling, picture, ended, are_fit, last_line};
+ghost use Rattle.transcript.specs.Totals.{no_totals, counting, counting_any, calling, calling_any, picture, ended, are_fit, last_line};
 ghost use Rattle.transcript.specs.TotalsLaws.{FitCounts};
 
 use crate::printing::{end_line, error_line, status_rows};
@@ -53,7 +53,7 @@ pub fn no_totals(view: View) -> Totals
 impl Counts {
     // Whether a session may have these counts with a line still to come.
     #[tactic(auto, unfolding(crate::specs::Totals::are_fit))]
-    pub(crate) fn are_fit(&self) -> bool
+    pub fn are_fit(&self) -> bool
         ensures { result ≡ are_fit self.now }
     {
         let beats = self.beats.0;
@@ -63,8 +63,8 @@ impl Counts {
             && self.orders <= beats * MAX_ORDERS
     }
 
-    // A line and its beat are counted, of this code and so many orders.
-    pub(crate) fn count(&mut self, code: u8, orders: u32)
+    // A line and its beat are counted, of this code and so many orders, where a line is still to come.
+    pub(crate) fn count_fit(&mut self, code: u8, orders: u32)
         requires { FitCounts self.old × (orders ≤ max_orders) }
         ensures { self.new ≡ counting self.old code orders }
     {
@@ -74,12 +74,31 @@ impl Counts {
         self.orders += orders;
     }
 
-    // A line that is no beat is counted.
-    pub(crate) fn count_call(&mut self)
+    // A line that is no beat is counted, where a line is still to come.
+    pub(crate) fn count_call_fit(&mut self)
         requires { FitCounts self.old }
         ensures { self.new ≡ calling self.old }
     {
         self.lines += 1;
+    }
+
+    // The same of any counts and any number of orders: counts that no session has with a line still to come, and a beat of more orders than it may have, leave them as they are.
+    #[tactic(auto, unfolding(crate::specs::Totals::counting_any))]
+    pub fn count(&mut self, code: u8, orders: u32)
+        ensures { self.new ≡ counting_any self.old code orders }
+    {
+        if self.are_fit() && orders <= MAX_ORDERS {
+            self.count_fit(code, orders);
+        }
+    }
+
+    #[tactic(auto, unfolding(crate::specs::Totals::calling_any))]
+    pub fn count_call(&mut self)
+        ensures { self.new ≡ calling_any self.old }
+    {
+        if self.are_fit() {
+            self.count_call_fit();
+        }
     }
 }
 
