@@ -78,7 +78,7 @@ impl Intake {
         self.phase == Phase::Beats
     }
 
-    // Whether an intake could have come from a beginning.
+    // Whether it is as each intake that comes from a beginning, whatever its phase: no more kept than there is room for, its line begun within that, no field past the last.
     #[tactic(auto, unfolding(crate::specs::Intake::intake_fits))]
     pub fn fits(self) -> bool
         ensures { result ≡ intake_fits self }

@@ -103,6 +103,7 @@ impl Place {
     pub fn end(self) -> Place
         ensures { result ≡ place_end self }
     {
+        // As `size_with` of one byte, in fewer steps.
         let size = self.size.min(TEXT_SIZE) + 1;
         Place {
             size,
