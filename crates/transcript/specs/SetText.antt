@@ -35,6 +35,10 @@ star_ends Alone = true
 star_ends Return = true
 star_ends _ = false
 
+-- no more than is kept
+abbrev pub place_kept : Place → Place
+place_kept p = record { size = min kept_size p.size; start = p.start; star = p.star }
+
 -- bytes of a line of set text
 unfoldable pub place_on : Place → List ℕ → Place
 place_on p l = record { size = min kept_size (p.size + length l); start = p.start; star = star_on p.star l }

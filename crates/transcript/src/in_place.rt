@@ -182,7 +182,7 @@ fn line_end(
     ensures beside { KeptBeside set.new w.new }
     ensures fed { IsFed (line_end (machine_at text.old set.old w.old)) (machine_at text.new set.new w.new) out.old at out.new result }
 {
-    let arrived = w.intake.end_line(text);
+    let arrived = w.intake.end_line_kept(text);
     work_arrival(w, arrived, text, set, out, at)
 }
 
@@ -203,7 +203,7 @@ pub fn work_lines(
     let mut at: usize = 0;
     while at <= LAST_START {
         let end = run_end(input, i, Kind::Line);
-        w.intake = w.intake.take_in(text, &input[i..end]);
+        w.intake = w.intake.take_in_kept(text, &input[i..end]);
         if input.len() <= end {
             return Piece {
                 taken: end,

@@ -1,8 +1,9 @@
 // The input of a session as it comes in, in parts of lines of any size: set text up to the line *, then the lines behind it. What a line's end brings is told; nothing is worked or printed here.
 //
-// Anyone may make a session, with any intake, and call these methods on its parts: they ask nothing. `step` tests what it is handed; that it fits (`FitIntake`) is no invariant of a type.
-ghost use Rattle.std.specs.Prelude.{◌≡◌};
-ghost use Rattle.transcript.specs.Intake.{is_over, in_beats, no_intake, with_phase, intake_fits, bytes_taken, bytes_kept, nothing_came, text_whole, text_line_over, text_line_kept, line_read, line_over, line_kept, input_over};
+// Anyone may make a session, with any intake, and call the public methods of its parts: they ask nothing. `step` tests what it is handed, and a session calls those named `_kept`, which ask that no more is kept than there is room for: that is no invariant of a type.
+ghost use Rattle.std.specs.Prelude.{◌≡◌, ◌≤◌};
+ghost use Rattle.transcript.specs.Intake.{is_over, in_beats, no_intake, with_phase, with_place, intake_fits, bytes_taken, bytes_kept, nothing_came, text_whole, text_line_over, text_line_kept, line_read, line_over, line_kept, input_over};
+ghost use Rattle.transcript.specs.SetText.{kept_size, place_kept};
 ghost use Rattle.transcript.specs.declared.intake.Phase.TheVariants.{Over};
 
 use crate::beat_line::{HalfLine, LAST_FIELD, Said};
@@ -90,7 +91,8 @@ impl Intake {
 
     // Bytes of a line, no LF among them.
     #[tactic(auto, unfolding(crate::specs::Intake::bytes_taken, crate::specs::Intake::bytes_kept))]
-    pub fn take_in(self, text: &mut [u8; KEPT], part: &[u8]) -> Intake
+    pub(crate) fn take_in_kept(self, text: &mut [u8; KEPT], part: &[u8]) -> Intake
+        requires { self.place.size ≤ kept_size }
         ensures value { result ≡ bytes_taken self part.now }
         ensures text_after { text.new ≡ bytes_kept self text.old part.now }
     {
@@ -98,7 +100,7 @@ impl Intake {
             Phase::Text => {
                 put_bytes(text, self.place.size, part);
                 Intake {
-                    place: self.place.on(part),
+                    place: self.place.on_kept(part),
                     ..self
                 }
             }
@@ -151,6 +153,7 @@ impl Intake {
     // The LF of a line of set text: behind the line * the text before it is whole.
     #[tactic(auto, unfolding(crate::specs::Intake::text_line_over, crate::specs::Intake::text_line_kept))]
     fn end_text_line(self, text: &mut [u8; KEPT]) -> Arrived
+        requires { self.place.size ≤ kept_size }
         ensures value { result ≡ text_line_over self }
         ensures text_after { text.new ≡ text_line_kept self text.old }
     {
@@ -159,7 +162,7 @@ impl Intake {
         }
         put(text, self.place.size, LF);
         let intake = Intake {
-            place: self.place.end(),
+            place: self.place.end_kept(),
             ..self
         };
         intake.nothing_came()
@@ -167,7 +170,8 @@ impl Intake {
 
     // An LF.
     #[tactic(auto, unfolding(crate::specs::Intake::line_over, crate::specs::Intake::line_kept))]
-    pub fn end_line(self, text: &mut [u8; KEPT]) -> Arrived
+    pub(crate) fn end_line_kept(self, text: &mut [u8; KEPT]) -> Arrived
+        requires { self.place.size ≤ kept_size }
         ensures value { result ≡ line_over self }
         ensures text_after { text.new ≡ line_kept self text.old }
     {
@@ -187,6 +191,53 @@ impl Intake {
             Phase::Text => self.text_whole(self.place.text_size()),
             Phase::Beats if !self.half.is_untouched() => self.line_read(self.half),
             _ => self.nothing_came(),
+        }
+    }
+
+    // ---- of any intake
+
+    // With no more set text than is kept.
+    fn kept(self) -> Intake
+        ensures { result ≡ with_place self (place_kept self.place) }
+    {
+        Intake {
+            place: self.place.kept(),
+            ..self
+        }
+    }
+
+    // Bytes of a line: only set text brings the size down to what is kept.
+    #[tactic(auto, unfolding(crate::specs::Intake::bytes_taken, crate::specs::Intake::bytes_kept, crate::specs::SetText::place_on))]
+    pub fn take_in(self, text: &mut [u8; KEPT], part: &[u8]) -> Intake
+        ensures value { result ≡ bytes_taken self part.now }
+        ensures text_after { text.new ≡ bytes_kept self text.old part.now }
+    {
+        let taken = self.kept().take_in_kept(text, part);
+        match self.phase {
+            Phase::Text => taken,
+            _ => Intake {
+                place: self.place,
+                ..taken
+            },
+        }
+    }
+
+    // An LF: only that of a line of set text, other than the line *, brings it down.
+    #[tactic(auto, unfolding(crate::specs::Intake::line_over, crate::specs::Intake::line_kept, crate::specs::Intake::text_line_over, crate::specs::Intake::text_line_kept, crate::specs::SetText::place_end))]
+    pub fn end_line(self, text: &mut [u8; KEPT]) -> Arrived
+        ensures value { result ≡ line_over self }
+        ensures text_after { text.new ≡ line_kept self text.old }
+    {
+        let ended = self.kept().end_line_kept(text);
+        match self.phase {
+            Phase::Text if !self.place.star.ends() => ended,
+            _ => Arrived {
+                intake: Intake {
+                    place: self.place,
+                    ..ended.intake
+                },
+                ..ended
+            },
         }
     }
 }

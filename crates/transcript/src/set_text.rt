@@ -1,7 +1,7 @@
 // The set text as it comes in: how much of it is kept, and whether its last line is the line * that ends it.
 ghost use Rattle.std.specs.Prelude.{◌≡◌, ◌+◌, ◌≤◌, min, length};
 ghost use Rattle.transcript.specs.Input.{input_of};
-ghost use Rattle.transcript.specs.SetText.{kept_size, no_place, star_after, star_on, is_alone, star_ends, place_on, place_end, last_size};
+ghost use Rattle.transcript.specs.SetText.{kept_size, no_place, star_after, star_on, is_alone, star_ends, place_kept, place_on, place_end, last_size};
 
 use text::bytes::{CR, Kind, run_end};
 use tokens::token::TEXT_SIZE;
@@ -67,11 +67,12 @@ impl Star {
     }
 }
 
-// The bytes kept with n more, of any size.
+// The bytes kept with n more.
 fn size_with(size: usize, n: usize) -> usize
+    requires { size ≤ kept_size }
     ensures { result ≡ min kept_size (size + n) }
 {
-    size.saturating_add(n).min(KEPT)
+    size + n.min(KEPT - size)
 }
 
 impl Place {
@@ -88,7 +89,8 @@ impl Place {
 
     // Bytes of a line, no LF among them, in set text.
     #[tactic(auto, unfolding(crate::specs::SetText::place_on))]
-    pub fn on(self, part: &[u8]) -> Place
+    pub(crate) fn on_kept(self, part: &[u8]) -> Place
+        requires { self.size ≤ kept_size }
         ensures { result ≡ place_on self part.now }
     {
         Place {
@@ -100,16 +102,41 @@ impl Place {
 
     // The LF of a line of set text.
     #[tactic(auto, unfolding(crate::specs::SetText::place_end))]
-    pub fn end(self) -> Place
+    pub(crate) fn end_kept(self) -> Place
+        requires { self.size ≤ kept_size }
         ensures { result ≡ place_end self }
     {
-        // As `size_with` of one byte, in fewer steps.
-        let size = self.size.min(TEXT_SIZE) + 1;
+        let size = size_with(self.size, 1);
         Place {
             size,
             start: size,
             star: Star::Empty,
         }
+    }
+
+    // With no more than is kept.
+    pub(crate) fn kept(self) -> Place
+        ensures { result ≡ place_kept self }
+    {
+        Place {
+            size: self.size.min(KEPT),
+            ..self
+        }
+    }
+
+    // The two of a place of any size.
+    #[tactic(auto, unfolding(crate::specs::SetText::place_on))]
+    pub fn on(self, part: &[u8]) -> Place
+        ensures { result ≡ place_on self part.now }
+    {
+        self.kept().on_kept(part)
+    }
+
+    #[tactic(auto, unfolding(crate::specs::SetText::place_end))]
+    pub fn end(self) -> Place
+        ensures { result ≡ place_end self }
+    {
+        self.kept().end_kept()
     }
 
     // Where the set text ends if its last line has no LF: before the line *, or behind all of it.

@@ -82,7 +82,7 @@ impl Counts {
         self.lines += 1;
     }
 
-    // The same of any counts and any number of orders: counts that no session has with a line still to come, and a beat of more orders than it may have, leave them as they are.
+    // The first of any counts and any number of orders: the counts stay as they are where no session has them with a line still to come, or where the orders are more than a beat may have.
     #[tactic(auto, unfolding(crate::specs::Totals::counting_any))]
     pub fn count(&mut self, code: u8, orders: u32)
         ensures { self.new ≡ counting_any self.old code orders }
@@ -92,6 +92,7 @@ impl Counts {
         }
     }
 
+    // The second of any counts, the like.
     #[tactic(auto, unfolding(crate::specs::Totals::calling_any))]
     pub fn count_call(&mut self)
         ensures { self.new ≡ calling_any self.old }
